@@ -1,0 +1,1 @@
+// Small words on tests, answers that may be none, and lists, with their laws: see specs/. No functions.

@@ -1,0 +1,20 @@
+-- What is proved of the definitions.
+pub mod Cases
+pub mod Serving
+pub mod Places
+pub mod Legality
+pub mod Least
+pub mod Recurrence
+pub mod Shortest
+pub mod Dropping
+pub mod Promised
+pub mod Agreement
+pub mod Visiting
+pub mod Marking
+pub mod Sums
+pub mod SortLaws
+pub mod RunListLaws
+pub mod LegLaws
+pub mod TwoOptLaws
+pub mod EliminationLaws
+pub mod ImproverCases

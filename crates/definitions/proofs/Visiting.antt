@@ -1,0 +1,61 @@
+-- Where the clock has an answer, the visits come to the same totals, and no window is missed. Assumes nothing.
+use Prim.Native.Nat.{ℕ, zero, suc, _+_}
+use mathlib.Core.Path.{_≡_, refl, sym, ap, subst, _∙_}
+use mathlib.Core.Bool.{Bool, true, false, cond}
+use mathlib.Core.List.{List, [], _∷_}
+use mathlib.Core.Option.{Option, none, some}
+use Rattle.basics.specs.Options.{_>>=_, present, valueOr, same, clash, bound}
+use Rattle.definitions.specs.Sheet.{Break, Sheet, customer, time}
+use Rattle.definitions.specs.Window.{Entry, begins, enter}
+use Rattle.definitions.specs.Run.{serveAt, ready, Label, start, placeAfter, serve, breakAt, serveAll, Totals, home}
+use Rattle.definitions.specs.Clock.{clock}
+use Rattle.definitions.specs.Visits.{readyFor, entered, visited, windowsFrom, lastLabel, placeOr, buildRoute}
+use Rattle.definitions.proofs.Legality.{clock-own, ridden}
+use Rattle.definitions.proofs.Marking.{served-none}
+
+module _ (s : Sheet) where
+  -- a call that is served is visited so
+  pub visited-served : (here : Option Break) (k a c : ℕ) (l m : Label) → serve s here k a c l ≡ some m
+      → (visited s here k a c l ≡ m) × (present (entered s c (readyFor s here a c l)) ≡ true)
+  unfolding serveAt visited
+  visited-served here k a c l m q =
+      let x = bound (ready here (l .time + time s a c)) _ m q in
+      let y = bound (enter (customer s c .window) (customer s c .penalty) (x .0)) _ m (x .2) in
+      let r : readyFor s here a c l ≡ x .0 = ap (λ (o : Option ℕ). valueOr (l .time + time s a c) o) (x .1) in
+      let e : entered s c (readyFor s here a c l) ≡ some (y .0) = ap (λ (n : ℕ). entered s c n) r ∙ y .1 in
+      (ap (λ (o : Option Entry). by o) e ∙ same (y .2), ap (λ (o : Option Entry). present o) e)
+    where
+      by : Option Entry → Label
+      by o =
+          let n : Entry = valueOr (record { start = begins (customer s c .window) (readyFor s here a c l); lateness = 0; pay = 0 }) o in
+          record { time = n .start + customer s c .service; lateness = l .lateness + n .lateness; pay = l .pay + n .pay; place = placeAfter here k (l .place) }
+
+  module _ (place : ℕ) where
+    pub last-served : (k a : ℕ) (l : Label) (calls : List ℕ) (m : Label) → serveAll s place k a (some l) calls ≡ some m
+        → (lastLabel s place k a l calls ≡ m) × (windowsFrom s place k a l calls ≡ [])
+    unfolding serveAll lastLabel windowsFrom
+    last-served k a l [] m q = (same q, refl)
+    last-served k a l (c ∷ cs) m q = go (serve s (breakAt s place k) k a c l) refl (λ n r. last-served (suc k) c n cs m r)
+      where
+        here : Option Break
+        here = breakAt s place k
+
+        go : (o : Option Label) → serve s (breakAt s place k) k a c l ≡ o
+            → ((n : Label) → serveAll s place (suc k) c (some n) cs ≡ some m → (lastLabel s place (suc k) c n cs ≡ m) × (windowsFrom s place (suc k) c n cs ≡ []))
+            → (lastLabel s place k a l (c ∷ cs) ≡ m) × (windowsFrom s place k a l (c ∷ cs) ≡ [])
+        go none e ih = clash (sym (served-none s 0 place (suc k) c cs) ∙ ap (λ (o : Option Label). serveAll s place (suc k) c o cs) (sym e) ∙ q)
+        go (some n) e ih =
+            let r = ih n (ap (λ (o : Option Label). serveAll s place (suc k) c o cs) (sym e) ∙ q) in
+            let v = visited-served (breakAt s place k) k a c l n e in (
+              ap (λ (x : Label). lastLabel s place (suc k) c x cs) (v .0) ∙ r .0,
+              rw (v .1) (ap (λ (x : Label). windowsFrom s place (suc k) c x cs) (v .0) ∙ r .1),
+            )
+
+  -- the totals are the clock's
+  pub visits-clock : (calls : List ℕ) (t : Totals) → clock s calls ≡ some t → (buildRoute s calls .totals ≡ t) × (windowsFrom s (t .place) 1 0 start calls ≡ [])
+  unfolding buildRoute
+  visits-clock calls t e =
+      let o = clock-own s calls t e in
+      let l = ridden s calls (t .place) t (o .0) in
+      let v = last-served (t .place) 1 0 start calls (l .0) (l .1) in
+      (ap (λ (x : Option Totals). home s calls (lastLabel s (placeOr x) 1 0 start calls)) e ∙ ap (λ (x : Label). home s calls x) (v .0) ∙ l .2, v .1)

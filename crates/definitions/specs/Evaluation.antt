@@ -1,0 +1,30 @@
+-- Run evaluation: what `route_feasible`, `route_eval` and `effective_cost` answer. They don't look at load, and an empty run is the leg from depot to depot. Definitions only.
+use Prim.Native.Nat.{ℕ, _+_}
+use mathlib.Core.Bool.{Bool}
+use mathlib.Core.List.{List}
+use mathlib.Core.Option.{Option, none, some}
+use Rattle.basics.specs.Options.{_>>=_, present, given}
+use Rattle.definitions.specs.Sheet.{Sheet}
+use Rattle.definitions.specs.Run.{Totals, allowed}
+use Rattle.definitions.specs.Clock.{clock, startOf}
+
+pub record Evaluation : Type 0 where
+  -- distance, duration, lateness, lateness pay and break place
+  pub totals : Totals
+  -- when the break starts, if there is one
+  pub start : Option ℕ
+
+-- none where the run is not allowed
+unfoldable pub routeEval : Sheet → List ℕ → Option Evaluation
+routeEval s calls = do
+  t ← clock s calls
+  given (allowed s t) (record { totals = t; start = startOf s (record { calls = calls; place = t .place }) })
+
+unfoldable pub routeFeasible : Sheet → List ℕ → Bool
+routeFeasible s calls = present (routeEval s calls)
+
+-- the distance plus the lateness pay, with no fixed cost; none is infinite
+unfoldable pub effectiveCost : Sheet → List ℕ → Option ℕ
+effectiveCost s calls = do
+  e ← routeEval s calls
+  some (e .totals .distance + e .totals .pay)

@@ -1,0 +1,19 @@
+-- Limits: distance and duration each at most their limit, if given; and who needs no break. Definitions only.
+use Prim.Native.Nat.{ℕ}
+use mathlib.Core.Bool.{Bool, true, false, _&&_}
+use mathlib.Core.Option.{Option, none, some}
+use lib.Dec.{leb}
+use Rattle.definitions.specs.Sheet.{Break, Sheet}
+
+-- at most the limit, if given
+abbrev pub within : Option ℕ → ℕ → Bool
+within none n = true
+within (some limit) n = leb n limit
+
+-- `RouteLimits::allow`
+abbrev pub allow : Sheet → ℕ → ℕ → Bool
+allow s distance duration = within (s .maxDistance) distance && within (s .maxDuration) duration
+
+-- home at or before earliest needs no break
+abbrev pub excused : Break → ℕ → Bool
+excused b duration = leb duration (b .earliest)

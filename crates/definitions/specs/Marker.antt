@@ -1,0 +1,90 @@
+-- The mark of a cutting with break places. Definitions only.
+use Prim.Native.Nat.{ℕ, zero, suc, _+_, _-_}
+use mathlib.Core.Bool.{Bool, true, false, cond, not}
+use mathlib.Core.List.{List, [], _∷_}
+use mathlib.Core.Option.{Option, none, some}
+use lib.ListN.{length}
+use lib.Dec.{ltb, eqb}
+use Rattle.basics.specs.Options.{_>>=_, valueOr, orElse, given}
+use Rattle.definitions.specs.Sheet.{Break, Sheet, customer, time}
+use Rattle.definitions.specs.Limits.{within}
+use Rattle.definitions.specs.Run.{breakStart, ready, Label, start, serve, Run, breakAt, Totals, ride, load, fits, placed}
+use Rattle.definitions.specs.Cutting.{joined, cuttingCost}
+use Rattle.definitions.specs.Drop.{Result, splitTw}
+use Rattle.definitions.specs.Visits.{dueOf}
+
+-- A fault carries its run from 1, and the value and limit that clash; a window or break fault also the call's place, from 1, and its customer.
+pub data Verdict : Type 0 where
+  -- the joined calls differ from the planner's served customers, first at this position, from 1
+  otherCalls : (position : ℕ) → Verdict
+  overload : (run load capacity : ℕ) → Verdict
+  breakTooLate : (run place customer start latest : ℕ) → Verdict
+  windowMissed : (run place customer readiness due : ℕ) → Verdict
+  breakMissing : (run duration earliest : ℕ) → Verdict
+  tooFar : (run distance limit : ℕ) → Verdict
+  tooLong : (run duration limit : ℕ) → Verdict
+  best : Verdict
+  dearer : (by : ℕ) → Verdict
+  cheaper : (by : ℕ) → Verdict
+
+-- the first position, from k, where they differ or one list has ended
+abbrev pub differ : ℕ → List ℕ → List ℕ → Option ℕ
+differ k [] [] = none
+differ k [] (y ∷ ys) = some k
+differ k (x ∷ xs) [] = some k
+differ k (x ∷ xs) (y ∷ ys) = cond (eqb x y) (differ (suc k) xs ys) (some k)
+
+abbrev pub breakOr : Option Break → Break
+breakOr b = valueOr (record { earliest = 0; latest = 0; duration = 0 }) b
+
+-- why a call fails: break start past latest before window
+abbrev pub callFault : Sheet → ℕ → Option Break → ℕ → ℕ → ℕ → Label → Verdict
+callFault s n here k a c l =
+    let arrival = l .time + time s a c in
+    elim (ready here arrival) [
+      | none ↦ breakTooLate n k c (breakStart (breakOr here) arrival) (breakOr here .latest)
+      | some readiness ↦ windowMissed n k c readiness (dueOf (customer s c .window))
+    ]
+
+-- the first fault walking the calls of run n
+unfoldable pub walkFault : Sheet → ℕ → ℕ → ℕ → ℕ → Label → List ℕ → Option Verdict
+walkFault s n place k a l [] = none
+walkFault s n place k a l (c ∷ cs) =
+    elim (serve s (breakAt s place k) k a c l) [
+      | none ↦ some (callFault s n (breakAt s place k) k a c l)
+      | some m ↦ walkFault s n place (suc k) c m cs
+    ]
+
+-- in what the run comes to: a missing break with a return after earliest, distance, duration
+abbrev pub totalFault : Sheet → ℕ → Run → Totals → Option Verdict
+totalFault s n r t =
+    orElse (given (not (placed (s .rest) (r .place) (length (r .calls)) (t .duration))) (breakMissing n (t .duration) (breakOr (s .rest) .earliest)))
+    (orElse (given (not (within (s .maxDistance) (t .distance))) (tooFar n (t .distance) (valueOr 0 (s .maxDistance))))
+    (given (not (within (s .maxDuration) (t .duration))) (tooLong n (t .duration) (valueOr 0 (s .maxDuration)))))
+
+-- the first fault of run n: load, the calls, the totals
+unfoldable pub runFault : Sheet → ℕ → Run → Option Verdict
+runFault s n r =
+    orElse (given (not (fits s (r .calls))) (overload n (load s (r .calls)) (s .capacity)))
+    (orElse (walkFault s n (r .place) 1 0 start (r .calls))
+    (ride s r >>= totalFault s n r))
+
+abbrev pub firstFault : Sheet → ℕ → List Run → Option Verdict
+firstFault s n [] = none
+firstFault s n (r ∷ rs) = orElse (runFault s n r) (firstFault s (suc n) rs)
+
+-- against the planner's cost
+abbrev pub against : ℕ → ℕ → Verdict
+against planner cost = cond (ltb planner cost) (dearer (cost - planner)) (cond (ltb cost planner) (cheaper (planner - cost)) best)
+
+-- the mark against a plan
+unfoldable pub markAgainst : Sheet → Result → List Run → Verdict
+markAgainst s plan runs =
+    elim (differ 1 (joined runs) (plan .served)) [
+      | some position ↦ otherCalls position
+      | none ↦ valueOr (against (plan .cost) (cuttingCost s runs)) (firstFault s 1 runs)
+    ]
+
+-- the planner's is that of `split_tw`
+abbrev pub mark : Sheet → List ℕ → List Run → Verdict
+mark s tour runs = markAgainst s (splitTw s tour) runs

@@ -1,0 +1,189 @@
+-- The refusals of every call but the reader's, over the data as lent: one list, in 01's order. Definitions only.
+use Prim.Native.Nat.{ℕ, suc, _+_, _-_, _*_}
+use mathlib.Core.Path.{_≡_}
+use mathlib.Core.Bool.{Bool, true, false, cond, _&&_, _||_, not}
+use mathlib.Core.List.{List, [], _∷_, _++_, map}
+use mathlib.Core.Option.{Option, none, some, Option·map}
+use lib.ListN.{length, take, drop}
+use lib.Dec.{ltb, leb, eqb}
+use Rattle.basics.specs.Tests.{either}
+use Rattle.basics.specs.Options.{holds, present, valueOr}
+use Rattle.basics.specs.Lists.{isEmpty, any}
+use Rattle.definitions.specs.Domain.{isPlaces, isCapacity, isDemand, isPenalty, isNumber, isCall, mostCalls}
+use Rattle.definitions.specs.Sheet.{WindowOf, BreakOf, CustomerOf, SheetOf, Sheet, records, anySoft}
+use Rattle.definitions.specs.Refusal.{Refusal, refusal, firstFit}
+use Rattle.definitions.specs.Room.{short}
+use Rattle.definitions.specs.Lent.{Lent, Call}
+
+-- ---- 13: a lent buffer too short
+
+abbrev pub tooShort : {F : Type 0} → Call → Lent F → Bool
+tooShort k l =
+    either
+    (ltb (length (l .sheet .customers)) (l .sheet .places)
+    ∷ short (k .needs (length (l .tour)) (length (l .calls)) (length (l .ends))) (l .rooms)
+    ∷ (k .marks && ltb (length (l .breaks)) (length (l .ends)))
+    ∷ [])
+
+-- ---- 14: a leg table not places squared long; an empty time table is none
+
+abbrev pub tablesOdd : {F : Type 0} → SheetOf F → Bool
+tablesOdd s =
+    let full : ℕ = s .places * s .places in
+    not (eqb (length (s .distances)) full) || not (isEmpty (s .times) || eqb (length (s .times)) full)
+
+-- more than 128 calls, or a call out of range
+abbrev pub badCalls : ℕ → List ℕ → Bool
+badCalls places calls = ltb mostCalls (length calls) || any (λ (c : ℕ). not (isCall places c)) calls
+
+-- the test of a tour, and that of a run list: a call may be repeated in each
+abbrev pub badTour : ℕ → List ℕ → Bool
+badTour places tour = badCalls places tour
+
+abbrev pub badRunList : ℕ → List ℕ → Bool
+badRunList places calls = badCalls places calls
+
+-- `value` is what a stored number means: none where it is not whole, is below 0 or is negative zero
+module _ {F : Type 0} (value : F → Option ℕ) where
+  -- ---- 1: a number out of range, not whole or negative zero
+
+  abbrev pub unfit : (ℕ → Bool) → F → Bool
+  unfit p x = not (holds (value x) p)
+
+  abbrev pub badLimit : (ℕ → Bool) → Option F → Bool
+  badLimit p none = false
+  badLimit p (some x) = unfit p x
+
+  abbrev pub badBreak : Option (BreakOf F) → Bool
+  badBreak none = false
+  badBreak (some b) = either (unfit isNumber (b .earliest) ∷ unfit isNumber (b .latest) ∷ unfit isNumber (b .duration) ∷ [])
+
+  abbrev pub badWindow : Option (WindowOf F) → Bool
+  badWindow none = false
+  badWindow (some w) = unfit isNumber (w .ready) || unfit isNumber (w .due)
+
+  abbrev pub badCustomer : CustomerOf F → Bool
+  badCustomer c = either (not (isDemand (c .demand)) ∷ unfit isNumber (c .service) ∷ badWindow (c .window) ∷ badLimit isPenalty (c .penalty) ∷ [])
+
+  -- a depot record with demand, service, window or penalty
+  abbrev pub badDepot : List (CustomerOf F) → Bool
+  badDepot [] = false
+  badDepot (c ∷ cs) = either (not (eqb (c .demand) 0) ∷ unfit (λ (n : ℕ). eqb n 0) (c .service) ∷ present (c .window) ∷ present (c .penalty) ∷ [])
+
+  unfoldable pub badSheet : SheetOf F → Bool
+  badSheet s =
+      either
+      (not (isPlaces (s .places))
+      ∷ not (isCapacity (s .capacity))
+      ∷ unfit isNumber (s .fixed)
+      ∷ badLimit isNumber (s .maxDistance)
+      ∷ badLimit isNumber (s .maxDuration)
+      ∷ badBreak (s .rest)
+      ∷ badDepot (records s)
+      ∷ any badCustomer (records s)
+      ∷ any (unfit isNumber) (s .distances)
+      ∷ any (unfit isNumber) (s .times)
+      ∷ [])
+
+  unfoldable pub outOfRange : Lent F → Bool
+  outOfRange l = either (badSheet (l .sheet) ∷ badTour (l .sheet .places) (l .tour) ∷ badRunList (l .sheet .places) (l .calls) ∷ [])
+
+  -- ---- 2: ready above due, or earliest above latest
+
+  abbrev pub above : F → F → Bool
+  above x y = ltb (valueOr 0 (value y)) (valueOr 0 (value x))
+
+  abbrev pub windowFalls : Option (WindowOf F) → Bool
+  windowFalls none = false
+  windowFalls (some w) = above (w .ready) (w .due)
+
+  abbrev pub breakFalls : Option (BreakOf F) → Bool
+  breakFalls none = false
+  breakFalls (some b) = above (b .earliest) (b .latest)
+
+  unfoldable pub pairsFall : SheetOf F → Bool
+  pairsFall s = breakFalls (s .rest) || any (λ (c : CustomerOf F). windowFalls (c .window)) (records s)
+
+-- ---- 5: run ends and break places
+
+-- from the end p of the run before: an end below the one before it, or the last is not the number of calls
+abbrev pub endsFall : ℕ → List ℕ → ℕ → Bool
+endsFall p [] n = not (eqb p n)
+endsFall p (e ∷ es) n = ltb e p || endsFall e es n
+
+abbrev pub emptyRun : ℕ → List ℕ → Bool
+emptyRun p [] = false
+emptyRun p (e ∷ es) = eqb e p || emptyRun e es
+
+-- a break place beyond its run, or on a sheet without a break
+abbrev pub breakBeyond : Bool → ℕ → List ℕ → List ℕ → Bool
+breakBeyond rest p [] bs = false
+breakBeyond rest p (e ∷ es) [] = false
+breakBeyond rest p (e ∷ es) (b ∷ bs) = ltb (cond rest (e - p) 0) b || breakBeyond rest e es bs
+
+abbrev pub runsOdd : {F : Type 0} → Call → Lent F → Bool
+runsOdd k l =
+    either
+    ((k .takesEnds && ltb mostCalls (length (l .ends)))
+    ∷ (k .takesEnds && endsFall 0 (l .ends) (length (l .calls)))
+    ∷ (k .marks && emptyRun 0 (l .ends))
+    ∷ (k .marks && breakBeyond (present (l .sheet .rest)) 0 (l .ends) (l .breaks))
+    ∷ [])
+
+-- ---- the order
+
+unfoldable pub refusals : {F : Type 0} → (F → Option ℕ) → Call → Lent F → List Refusal
+refusals value k l =
+    refusal 13 (tooShort k l)
+    ∷ refusal 14 (tablesOdd (l .sheet))
+    ∷ refusal 1 (outOfRange value l)
+    ∷ refusal 2 (pairsFall value (l .sheet))
+    ∷ refusal 5 (runsOdd k l)
+    ∷ refusal 4 (k .improves && anySoft (records (l .sheet)))
+    ∷ []
+
+-- the number that the call gives; none: the call is accepted
+unfoldable pub refusalOf : {F : Type 0} → (F → Option ℕ) → Call → Lent F → Option ℕ
+refusalOf value k l = firstFit (refusals value k l)
+
+-- ---- a sheet in whole numbers
+
+-- within the limits of the Domain
+pub record Within (s : Sheet) : Type 0 where
+  pub counted : length (s .customers) ≡ s .places
+  pub tables : tablesOdd s ≡ false
+  pub ranged : badSheet some s ≡ false
+  pub paired : pairsFall some s ≡ false
+
+-- calls of such a sheet, as a tour or a run list has them
+abbrev pub WithinCalls : Sheet → List ℕ → Type 0
+WithinCalls s calls = badCalls (s .places) calls ≡ false
+
+-- what a lent sheet means
+module _ {F : Type 0} (value : F → Option ℕ) where
+  abbrev pub whole : F → ℕ
+  whole x = valueOr 0 (value x)
+
+  abbrev pub wholeWindow : WindowOf F → WindowOf ℕ
+  wholeWindow w = record { ready = whole (w .ready); due = whole (w .due) }
+
+  abbrev pub wholeBreak : BreakOf F → BreakOf ℕ
+  wholeBreak b = record { earliest = whole (b .earliest); latest = whole (b .latest); duration = whole (b .duration) }
+
+  abbrev pub wholeCustomer : CustomerOf F → CustomerOf ℕ
+  wholeCustomer c =
+      record { demand = c .demand; service = whole (c .service); window = Option·map wholeWindow (c .window); penalty = Option·map whole (c .penalty) }
+
+  unfoldable pub wholeSheet : SheetOf F → Sheet
+  wholeSheet s =
+      record {
+        places = s .places;
+        capacity = s .capacity;
+        fixed = whole (s .fixed);
+        maxDistance = Option·map whole (s .maxDistance);
+        maxDuration = Option·map whole (s .maxDuration);
+        rest = Option·map wholeBreak (s .rest);
+        customers = map wholeCustomer (records s);
+        distances = map whole (s .distances);
+        times = map whole (s .times);
+      }

@@ -1,0 +1,160 @@
+-- A run leaves the depot, serves some calls in order and returns. Definitions only.
+use Prim.Native.Nat.{ℕ, zero, suc, _+_, max}
+use mathlib.Core.Path.{_≡_}
+use mathlib.Core.Bool.{Bool, true, false, cond, not, _&&_}
+use mathlib.Core.List.{List, [], _∷_}
+use mathlib.Core.Option.{Option, none, some}
+use lib.ListN.{length}
+use lib.Dec.{ltb, leb, eqb}
+use Rattle.basics.specs.Options.{_>>=_, holds}
+use Rattle.basics.specs.Lists.{isEmpty, sum}
+use Rattle.definitions.specs.Sheet.{Break, Customer, Sheet, customer, distance, time}
+use Rattle.definitions.specs.Window.{enter}
+use Rattle.definitions.specs.Limits.{allow, excused}
+
+-- ---- the break at a call
+
+-- it starts at the later of arrival and earliest
+abbrev pub breakStart : Break → ℕ → ℕ
+breakStart b arrival = max arrival (b .earliest)
+
+-- it fails when that exceeds latest
+abbrev pub tooLate : Break → ℕ → Bool
+tooLate b arrival = ltb (b .latest) (breakStart b arrival)
+
+-- readiness: after the break, if it is here, and else the arrival
+unfoldable pub ready : Option Break → ℕ → Option ℕ
+ready none arrival = some arrival
+ready (some b) arrival = cond (tooLate b arrival) none (some (breakStart b arrival + b .duration))
+
+-- ---- serving a call
+
+-- a label: the bus with a call served
+pub record Label : Type 0 where
+  pub time : ℕ
+  pub lateness : ℕ
+  pub pay : ℕ
+  -- the break place: the number of the call at which the break was taken, from 1, or 0
+  pub place : ℕ
+
+-- a run starts at time 0, nothing late
+abbrev pub start : Label
+start = record { time = 0; lateness = 0; pay = 0; place = 0 }
+
+abbrev pub placeAfter : Option Break → ℕ → ℕ → ℕ
+placeAfter none k place = place
+placeAfter (some b) k place = k
+
+-- the run's call number k, at customer c, a travel time away, with the break there if `here` has one
+unfoldable pub serveAt : Customer → Option Break → ℕ → ℕ → Label → Option Label
+serveAt c here k travel l = do
+  readiness ← ready here (l .time + travel)
+  e ← enter (c .window) (c .penalty) readiness
+  some (record {
+    time = e .start + c .service;
+    lateness = l .lateness + e .lateness;
+    pay = l .pay + e .pay;
+    place = placeAfter here k (l .place);
+  })
+
+-- the same from place a to customer c of the sheet
+abbrev pub serve : Sheet → Option Break → ℕ → ℕ → ℕ → Label → Option Label
+serve s here k a c l = serveAt (customer s c) here k (time s a c) l
+
+-- ---- a run with a given break place
+
+pub record Run : Type 0 where
+  -- its calls, as customers
+  pub calls : List ℕ
+  -- one of its own calls, 1 up, or 0 for none
+  pub place : ℕ
+
+-- the break, at the call that has it alone
+abbrev pub breakAt : Sheet → ℕ → ℕ → Option Break
+breakAt s place k = cond (eqb place k) (s .rest) none
+
+-- the calls from number k on, served from a with the label m
+unfoldable pub serveAll : Sheet → ℕ → ℕ → ℕ → Option Label → List ℕ → Option Label
+serveAll s place k a m [] = m
+serveAll s place k a m (c ∷ cs) = serveAll s place (suc k) c (m >>= serve s (breakAt s place k) k a c) cs
+
+-- the last place before the return
+abbrev pub lastOf : ℕ → List ℕ → ℕ
+lastOf a [] = a
+lastOf a (c ∷ cs) = lastOf c cs
+
+-- all legs from a on, the one to the depot too
+abbrev pub distanceFrom : Sheet → ℕ → List ℕ → ℕ
+distanceFrom s a [] = distance s a 0
+distanceFrom s a (c ∷ cs) = distance s a c + distanceFrom s c cs
+
+pub record Totals : Type 0 where
+  -- all its legs, both depot legs too
+  pub distance : ℕ
+  -- the time at home
+  pub duration : ℕ
+  pub lateness : ℕ
+  pub pay : ℕ
+  pub place : ℕ
+
+abbrev pub home : Sheet → List ℕ → Label → Totals
+home s calls l =
+    record {
+      distance = distanceFrom s 0 calls;
+      duration = l .time + time s (lastOf 0 calls) 0;
+      lateness = l .lateness;
+      pay = l .pay;
+      place = l .place;
+    }
+
+-- the run's totals, if nothing fails
+unfoldable pub ride : Sheet → Run → Option Totals
+ride s r = do
+  l ← serveAll s (r .place) 1 0 (some start) (r .calls)
+  some (home s (r .calls) l)
+
+-- ---- legal runs
+
+abbrev pub load : Sheet → List ℕ → ℕ
+load s calls = sum (λ c. customer s c .demand) calls
+
+-- its load is at most capacity
+abbrev pub fits : Sheet → List ℕ → Bool
+fits s calls = leb (load s calls) (s .capacity)
+
+-- its totals are allowed
+abbrev pub allowed : Sheet → Totals → Bool
+allowed s t = allow s (t .distance) (t .duration)
+
+-- a place that the break may have in a run of n calls that is home at `duration`
+unfoldable pub placed : Option Break → ℕ → ℕ → ℕ → Bool
+placed none place n duration = eqb place 0
+placed (some b) zero n duration = excused b duration
+placed (some b) (suc k) n duration = leb (suc k) n
+
+-- legal with its break place
+unfoldable pub legal : Sheet → Run → Bool
+legal s r =
+    not (isEmpty (r .calls)) && fits s (r .calls)
+    && holds (ride s r) (λ t. allowed s t && placed (s .rest) (r .place) (length (r .calls)) (t .duration))
+
+-- the same as one fact each: the run is legal, and comes to t
+pub record Legal (s : Sheet) (r : Run) (t : Totals) : Type 0 where
+  pub some-calls : not (isEmpty (r .calls)) ≡ true
+  pub room : fits s (r .calls) ≡ true
+  pub rode : ride s r ≡ some t
+  pub kept-limits : allowed s t ≡ true
+  pub break-placed : placed (s .rest) (r .place) (length (r .calls)) (t .duration) ≡ true
+
+-- run cost: fixed cost + distance + lateness pay
+abbrev pub price : Sheet → ℕ → ℕ → ℕ
+price s distance pay = s .fixed + distance + pay
+
+-- the lateness pay, where nothing fails
+abbrev pub payOf : Option Totals → ℕ
+payOf none = 0
+payOf (some t) = t .pay
+
+-- what the run costs with its break place
+unfoldable pub runCost : Sheet → Run → ℕ
+runCost s r = price s (distanceFrom s 0 (r .calls)) (payOf (ride s r))

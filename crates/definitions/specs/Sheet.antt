@@ -1,0 +1,100 @@
+-- A sheet: places (0 is the depot, the others customers), legs, limits, and, beside this record, a tour of customer numbers. Definitions only.
+-- F is how a number is held that may be a float in lent memory: a whole number in all that follows.
+use Prim.Native.Nat.{ℕ, _+_, _*_}
+use mathlib.Core.Bool.{Bool, true, false, _&&_}
+use mathlib.Core.List.{List, [], _∷_}
+use mathlib.Core.Option.{Option, none, some}
+use lib.ListN.{getD, take}
+use Rattle.basics.specs.Options.{present}
+use Rattle.basics.specs.Lists.{any}
+
+-- ---- the records, over any way to hold a number
+
+-- a window: service begins from ready on, and late means above due
+pub record WindowOf (F : Type 0) : Type 0 where
+  pub ready : F
+  pub due : F
+
+-- one driver's break: when it starts at the earliest and at the latest, and how long it is
+pub record BreakOf (F : Type 0) : Type 0 where
+  pub earliest : F
+  pub latest : F
+  pub duration : F
+
+pub record CustomerOf (F : Type 0) : Type 0 where
+  pub demand : ℕ
+  pub service : F
+  pub window : Option (WindowOf F)
+  -- what a unit of lateness costs; without it late is not served
+  pub penalty : Option F
+
+pub record SheetOf (F : Type 0) : Type 0 where
+  pub places : ℕ
+  pub capacity : ℕ
+  -- the fixed run cost
+  pub fixed : F
+  pub maxDistance : Option F
+  pub maxDuration : Option F
+  pub rest : Option (BreakOf F)
+  -- a record for each place; record 0 is the depot's
+  pub customers : List (CustomerOf F)
+  -- by rows, places squared of them
+  pub distances : List F
+  -- as many, or none at all
+  pub times : List F
+
+-- the customers that a sheet has, the depot's record first; what is lent beyond them is not read
+abbrev pub records : {F : Type 0} → SheetOf F → List (CustomerOf F)
+records s = take (s .places) (s .customers)
+
+-- ---- in whole numbers
+
+abbrev pub Window : Type 0
+Window = WindowOf ℕ
+
+abbrev pub Break : Type 0
+Break = BreakOf ℕ
+
+abbrev pub Customer : Type 0
+Customer = CustomerOf ℕ
+
+abbrev pub Sheet : Type 0
+Sheet = SheetOf ℕ
+
+-- the depot has demand and service 0 and no window
+abbrev pub depot : Customer
+depot = record { demand = 0; service = 0; window = none; penalty = none }
+
+-- ---- lookups
+
+-- the record of customer c
+abbrev pub customer : Sheet → ℕ → Customer
+customer s c = getD (s .customers) c depot
+
+-- The leg from a to b in a table of n rows. On an accepted sheet every lookup of a run lies inside its table (proofs/Inside).
+abbrev pub leg : List ℕ → ℕ → ℕ → ℕ → ℕ
+leg table n a b = getD table (a * n + b) 0
+
+abbrev pub distance : Sheet → ℕ → ℕ → ℕ
+distance s a b = leg (s .distances) (s .places) a b
+
+-- without a time table a time is the distance
+abbrev pub timeTable : {F : Type 0} → List F → List F → List F
+timeTable distances [] = distances
+timeTable distances (t ∷ ts) = t ∷ ts
+
+abbrev pub time : Sheet → ℕ → ℕ → ℕ
+time s a b = leg (timeTable (s .distances) (s .times)) (s .places) a b
+
+-- ---- lateness pay
+
+-- a customer with window and penalty, even 0
+abbrev pub soft : {F : Type 0} → CustomerOf F → Bool
+soft c = present (c .window) && present (c .penalty)
+
+unfoldable pub anySoft : {F : Type 0} → List (CustomerOf F) → Bool
+anySoft cs = any soft cs
+
+-- lateness pay is on the sheet
+abbrev pub latenessPay : Sheet → Bool
+latenessPay s = anySoft (s .customers)

@@ -1,0 +1,110 @@
+-- Visits: what `build_route` answers. Definitions only.
+use Prim.Native.Nat.{ℕ, zero, suc, _+_}
+use mathlib.Core.Bool.{Bool, true, false, cond, not, _&&_}
+use mathlib.Core.List.{List, [], _∷_, _++_}
+use mathlib.Core.Option.{Option, none, some}
+use Rattle.basics.specs.Options.{_>>=_, present, valueOr}
+use Rattle.basics.specs.Lists.{isEmpty}
+use Rattle.definitions.specs.Sheet.{Window, Break, Sheet, customer, time}
+use Rattle.definitions.specs.Window.{begins, Entry, enter}
+use Rattle.definitions.specs.Limits.{within}
+use Rattle.definitions.specs.Run.{ready, Label, start, placeAfter, breakAt, Totals, home, load, fits}
+use Rattle.definitions.specs.Clock.{clock, startOf}
+
+pub record Visit : Type 0 where
+  pub customer : ℕ
+  -- before the break, if it is here
+  pub arrival : ℕ
+  pub departure : ℕ
+  -- with this call's
+  pub load : ℕ
+
+-- a violation with its figures
+pub data Violation : Type 0 where
+  windowShut : (customer readiness due : ℕ) → Violation
+  breakNotPlaceable : Violation
+  overCapacity : (load capacity : ℕ) → Violation
+  overDistance : (distance limit : ℕ) → Violation
+  overDuration : (duration limit : ℕ) → Violation
+
+-- when readiness is, at customer c
+abbrev pub readyFor : Sheet → Option Break → ℕ → ℕ → Label → ℕ
+readyFor s here a c l = let arrival = l .time + time s a c in valueOr arrival (ready here arrival)
+
+abbrev pub entered : Sheet → ℕ → ℕ → Option Entry
+entered s c readiness = enter (customer s c .window) (customer s c .penalty) readiness
+
+abbrev pub dueOf : Option Window → ℕ
+dueOf none = 0
+dueOf (some w) = w .due
+
+-- a call is visited too where it is reached too late
+unfoldable pub visited : Sheet → Option Break → ℕ → ℕ → ℕ → Label → Label
+visited s here k a c l =
+    let readiness = readyFor s here a c l in
+    let e = valueOr (record { start = begins (customer s c .window) readiness; lateness = 0; pay = 0 }) (entered s c readiness) in
+    record {
+      time = e .start + customer s c .service;
+      lateness = l .lateness + e .lateness;
+      pay = l .pay + e .pay;
+      place = placeAfter here k (l .place);
+    }
+
+-- the calls from number k on, visited from a with the label l and the load n
+module _ (s : Sheet) (place : ℕ) where
+  unfoldable pub visitsFrom : ℕ → ℕ → Label → ℕ → List ℕ → List Visit
+  visitsFrom k a l n [] = []
+  visitsFrom k a l n (c ∷ cs) =
+      let m = visited s (breakAt s place k) k a c l in
+      let load = n + customer s c .demand in
+      record { customer = c; arrival = l .time + time s a c; departure = m .time; load = load } ∷ visitsFrom (suc k) c m load cs
+
+  unfoldable pub windowsFrom : ℕ → ℕ → Label → List ℕ → List Violation
+  windowsFrom k a l [] = []
+  windowsFrom k a l (c ∷ cs) =
+      let readiness = readyFor s (breakAt s place k) a c l in
+      let rest = windowsFrom (suc k) c (visited s (breakAt s place k) k a c l) cs in
+      cond (present (entered s c readiness)) rest (windowShut c readiness (dueOf (customer s c .window)) ∷ rest)
+
+  unfoldable pub lastLabel : ℕ → ℕ → Label → List ℕ → Label
+  lastLabel k a l [] = l
+  lastLabel k a l (c ∷ cs) = lastLabel (suc k) c (visited s (breakAt s place k) k a c l) cs
+
+pub record Route : Type 0 where
+  pub visits : List Visit
+  -- distance, duration, lateness, lateness pay and break place
+  pub totals : Totals
+  pub load : ℕ
+  -- when the break starts, if there is one
+  pub start : Option ℕ
+  pub violations : List Violation
+
+-- a violation where the test fails
+abbrev pub unless : Bool → Violation → List Violation
+unless true v = []
+unless false v = v ∷ []
+
+-- an unplaceable break is left out of the visit times
+abbrev pub placeOr : Option Totals → ℕ
+placeOr none = 0
+placeOr (some t) = t .place
+
+unfoldable pub buildRoute : Sheet → List ℕ → Route
+buildRoute s calls =
+    let placed = clock s calls in
+    let place = placeOr placed in
+    let windows = windowsFrom s place 1 0 start calls in
+    let totals = home s calls (lastLabel s place 1 0 start calls) in
+    record {
+      visits = visitsFrom s place 1 0 start 0 calls;
+      totals = totals;
+      load = load s calls;
+      start = startOf s (record { calls = calls; place = place });
+      -- windows by visit, break not placeable (only if no window violation), capacity, distance, duration
+      violations =
+          windows
+          ++ unless (not (present (s .rest) && not (present placed) && isEmpty windows)) breakNotPlaceable
+          ++ unless (fits s calls) (overCapacity (load s calls) (s .capacity))
+          ++ unless (within (s .maxDistance) (totals .distance)) (overDistance (totals .distance) (valueOr 0 (s .maxDistance)))
+          ++ unless (within (s .maxDuration) (totals .duration)) (overDuration (totals .duration) (valueOr 0 (s .maxDuration)));
+    }
