@@ -1,6 +1,6 @@
 -- Answers that may be none. Assumes nothing.
 use mathlib.Core.Path.{_≡_, refl, sym, ap, _∙_}
-use mathlib.Core.Bool.{Bool, true, false, cond, not, false≢true}
+use mathlib.Core.Bool.{Bool, true, false, cond, not, true≢false, false≢true}
 use mathlib.Core.Option.{Option, none, some, Option·none-ne-some, Option·some-injective}
 
 infixl 10 _>>=_
@@ -70,6 +70,14 @@ module _ {A : Type 0} where
   pub passed : (t : Bool) (a : A) → given (not t) a ≡ none → t ≡ true
   passed true a h = refl
   passed false a h = clash (sym h)
+
+  pub absent : {o : Option A} → present o ≡ false → o ≡ none
+  absent {o = none} h = refl
+  absent {o = some a} h = absurd (true≢false h)
+
+  pub there : (o : Option A) → present o ≡ true → (a : A) × (o ≡ some a)
+  there none h = absurd (false≢true h)
+  there (some a) h = (a, refl)
 
   pub neither : (a b : Option A) → orElse a b ≡ none → (a ≡ none) × (b ≡ none)
   neither none b h = (refl, h)

@@ -11,79 +11,27 @@ use lib.Seq.{take-append-seam}
 use lib.Dec.{ltb, leb}
 use borrow.Author.Tests.{leb-true, le-leb, ltb-true, ltb-false}
 use Rattle.basics.specs.Tests.{by-test, not-both, both, and-true}
-use Rattle.basics.specs.Options.{_>>=_, present, given, same, granted}
+use Rattle.basics.specs.Options.{_>>=_, given, same, granted}
 use Rattle.basics.specs.Lists.{isEmpty, all, only, count}
-use Rattle.definitions.specs.Sheet.{Window, Customer, Sheet, depot, customer, time}
-use Rattle.definitions.specs.Window.{enter}
-use Rattle.definitions.specs.Limits.{within}
-use Rattle.definitions.specs.Run.{serveAt, ready, Label, start, serve, breakAt, serveAll, distanceFrom, Totals, home, Run, load, fits, allowed, price}
-use Rattle.definitions.specs.Clock.{clockFrom, counts, clock, Arc, arc}
+use Rattle.definitions.specs.Sheet.{Sheet}
+use Rattle.definitions.specs.Run.{Label, start, distanceFrom, Totals, home, load, fits, allowed, price}
+use Rattle.definitions.specs.Clock.{Arc, arc}
 use Rattle.definitions.specs.Drop.{callAt, callsAt, Held, drops, result, cutOf, splitTw, light, removals, plainArc, split, dropAt}
 use Rattle.definitions.specs.Promise.{Settles, stop, goes}
 use Rattle.definitions.proofs.Dropping.{settles, without-at}
 use Rattle.definitions.proofs.Least.{Reach, more}
-use Rattle.definitions.proofs.Legality.{plain, clocked}
+use Rattle.definitions.proofs.Plain.{Plain, Clean, plain-clock}
 use Rattle.definitions.proofs.Shortest.{Cuttable}
-
--- no window, limit or break
-pub record Plain (s : Sheet) : Type 0 where
-  pub no-window : all (λ c. not (present (c .window))) (s .customers) ≡ true
-  pub no-distance : s .maxDistance ≡ none
-  pub no-duration : s .maxDuration ≡ none
-  pub no-break : s .rest ≡ none
 
 -- ---- the price of a run
 
-window-none : (l : List Customer) → all (λ c. not (present (c .window))) l ≡ true → (k : ℕ) → getD l k depot .window ≡ none
-window-none [] h k = refl
-window-none (c ∷ l) h zero = off (c .window) (both (not (present (c .window))) _ h .0)
-  where
-    off : (w : Option Window) → not (present w) ≡ true → w ≡ none
-    off none h = refl
-    off (some w) h = absurd (false≢true h)
-window-none (c ∷ l) h (suc k) = window-none l (both (not (present (c .window))) (all (λ c. not (present (c .window))) l) h .1) k
-
--- nothing late, no break
-abbrev Clean : Label → Type 0
-Clean l = (l .pay ≡ 0) × (l .place ≡ 0)
-
 module _ (s : Sheet) (P : Plain s) where
-  no-break-at : (p k : ℕ) → breakAt s p k ≡ none
-  no-break-at p k = ap (λ (o : Option _). cond (lib.Dec.eqb p k) o none) (P .no-break) ∙ either (lib.Dec.eqb p k)
-    where
-      either : (b : Bool) → _≡_ {A = Option Rattle.definitions.specs.Sheet.Break} (cond b none none) none
-      either true = refl
-      either false = refl
-
-  serve-clean : (k a c : ℕ) (l : Label) → Clean l → (m : Label) × (serve s none k a c l ≡ some m) × Clean m
-  unfolding serveAt ready enter
-  serve-clean k a c l h =
-      let w = window-none (s .customers) (P .no-window) c in (
-        record { time = l .time + time s a c + customer s c .service; lateness = l .lateness + 0; pay = l .pay + 0; place = l .place },
-        rw w refl,
-        (zero-more (l .pay) (h .0), h .1),
-      )
-    where
-      zero-more : (n : ℕ) → n ≡ 0 → n + 0 ≡ 0
-      zero-more n e = omega arith
-
-  served-clean : (k a : ℕ) (l : Label) (calls : List ℕ) → Clean l → (m : Label) × (serveAll s 0 k a (some l) calls ≡ some m) × Clean m
-  unfolding serveAll
-  served-clean k a l [] h = (l, refl, h)
-  served-clean k a l (c ∷ cs) h =
-      let x = serve-clean k a c l h in
-      let y = served-clean (suc k) c (x .0) cs (x .2) in
-      (y .0, ap (λ (o : Option Label). serveAll s 0 (suc k) c o cs) (ap (λ b. serve s b k a c l) (no-break-at 0 k) ∙ x .1) ∙ y .1, y .2)
-
   arc-is : (calls : List ℕ) → arc s calls ≡ plainArc s calls
   unfolding arc plainArc
   arc-is calls =
-      let m = served-clean 1 0 start calls (refl, refl) in
-      let t = home s calls (m .0) in
-      let c : clock s calls ≡ some t = clocked s calls (m .0) (ap (λ (o : Option _). counts o (time s (Rattle.definitions.specs.Run.lastOf 0 calls) 0) (clockFrom s 1 0 (record { before = some start; after = none }) calls)) (P .no-break) ∙ plain s calls ∙ m .1) in
-      let a : allowed s t ≡ true = ap (λ (o : Option ℕ). within o (t .distance) && within (s .maxDuration) (t .duration)) (P .no-distance) ∙ ap (λ (o : Option ℕ). within o (t .duration)) (P .no-duration) in
-      ap (λ (o : Option Totals). o >>= λ t. given {A = Arc} (not (isEmpty calls) && fits s calls && allowed s t) (record { place = t .place; cost = price s (t .distance) (t .pay) })) c
-      ∙ same-price (not (isEmpty calls) && fits s calls) (allowed s t) a (m .0) (m .2)
+      let m = plain-clock s P calls in
+      ap (λ (o : Option Totals). o >>= λ t. given {A = Arc} (not (isEmpty calls) && fits s calls && allowed s t) (record { place = t .place; cost = price s (t .distance) (t .pay) })) (m .1)
+      ∙ same-price (not (isEmpty calls) && fits s calls) (allowed s (home s calls (m .0))) (m .2) (m .0) (m .3)
     where
       same-price : (b a : Bool) → a ≡ true → (l : Label) → Clean l
           → given {A = Arc} (b && a) (record { place = l .place; cost = price s (distanceFrom s 0 calls) (l .pay) }) ≡ given b (record { place = 0; cost = price s (distanceFrom s 0 calls) 0 })

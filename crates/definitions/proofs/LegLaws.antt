@@ -3,7 +3,8 @@ use Prim.Native.Nat.{ℕ, zero, suc, _+_, _≤_, _<_}
 use native.Mathlib.Omega.{arith}
 use mathlib.Core.Path.{_≡_, refl, sym, ap, subst, _∙_}
 use mathlib.Core.List.{List, [], _∷_, _++_, reverse, reverseAux, reverseAux-eq}
-use Rattle.definitions.specs.Improver.{Given, legsFrom, distanceOf}
+use Rattle.definitions.specs.Run.{legsFrom}
+use Rattle.definitions.specs.Improver.{Given, distanceOf}
 
 -- where a walk from p through the calls ends
 abbrev pub final : ℕ → List ℕ → ℕ
@@ -29,34 +30,34 @@ module _ (G : Given) where
   -- the legs behind the next place
   abbrev pub later : List ℕ → ℕ
   later [] = 0
-  later (c ∷ cs) = legsFrom G c cs
+  later (c ∷ cs) = legsFrom (G .leg) c cs
 
-  pub legs-first : (p : ℕ) (cs : List ℕ) → legsFrom G p cs ≡ G .leg p (first cs) + later cs
+  pub legs-first : (p : ℕ) (cs : List ℕ) → legsFrom (G .leg) p cs ≡ G .leg p (first cs) + later cs
   legs-first p [] = omega arith
   legs-first p (c ∷ cs) = refl
 
-  pub legs-append : (p : ℕ) (xs ys : List ℕ) → legsFrom G p (xs ++ ys) ≡ gone p xs + legsFrom G (final p xs) ys
+  pub legs-append : (p : ℕ) (xs ys : List ℕ) → legsFrom (G .leg) p (xs ++ ys) ≡ gone p xs + legsFrom (G .leg) (final p xs) ys
   legs-append p [] ys = omega arith
   legs-append p (x ∷ xs) ys = omega (arith, legs-append x xs ys)
 
-  legs-reverse : (p x : ℕ) (s ys : List ℕ) → legsFrom G p (reverseAux s (x ∷ ys)) ≡ G .leg p (final x s) + back x s + legsFrom G x ys
+  legs-reverse : (p x : ℕ) (s ys : List ℕ) → legsFrom (G .leg) p (reverseAux s (x ∷ ys)) ≡ G .leg p (final x s) + back x s + legsFrom (G .leg) x ys
   legs-reverse p x [] ys = omega arith
   legs-reverse p x (y ∷ s) ys = omega (arith, legs-reverse p y s (x ∷ ys))
 
   -- a stretch x ∷ s turned, from p: its ends change places, and its own legs go the other way
-  pub legs-turned : (p x : ℕ) (s ys : List ℕ) → legsFrom G p (reverse (x ∷ s) ++ ys) ≡ G .leg p (final x s) + back x s + legsFrom G x ys
-  legs-turned p x s ys = ap (legsFrom G p) (sym (reverseAux-eq (x ∷ s) ys)) ∙ legs-reverse p x s ys
+  pub legs-turned : (p x : ℕ) (s ys : List ℕ) → legsFrom (G .leg) p (reverse (x ∷ s) ++ ys) ≡ G .leg p (final x s) + back x s + legsFrom (G .leg) x ys
+  legs-turned p x s ys = ap (legsFrom (G .leg) p) (sym (reverseAux-eq (x ∷ s) ys)) ∙ legs-reverse p x s ys
 
   -- a run with some call has the legs from the depot
-  some-legs : (xs : List ℕ) (y : ℕ) (ys : List ℕ) → distanceOf G (xs ++ (y ∷ ys)) ≡ legsFrom G 0 (xs ++ (y ∷ ys))
+  some-legs : (xs : List ℕ) (y : ℕ) (ys : List ℕ) → distanceOf G (xs ++ (y ∷ ys)) ≡ legsFrom (G .leg) 0 (xs ++ (y ∷ ys))
   some-legs [] y ys = refl
   some-legs (x ∷ xs) y ys = refl
 
-  turned-legs : (xs : List ℕ) (x : ℕ) (s ys : List ℕ) → distanceOf G (xs ++ (reverse (x ∷ s) ++ ys)) ≡ legsFrom G 0 (xs ++ (reverse (x ∷ s) ++ ys))
+  turned-legs : (xs : List ℕ) (x : ℕ) (s ys : List ℕ) → distanceOf G (xs ++ (reverse (x ∷ s) ++ ys)) ≡ legsFrom (G .leg) 0 (xs ++ (reverse (x ∷ s) ++ ys))
   turned-legs (c ∷ xs) x s ys = refl
-  turned-legs [] x s ys = ap (distanceOf G) (sym (reverseAux-eq (x ∷ s) ys)) ∙ go x s ys ∙ ap (legsFrom G 0) (reverseAux-eq (x ∷ s) ys)
+  turned-legs [] x s ys = ap (distanceOf G) (sym (reverseAux-eq (x ∷ s) ys)) ∙ go x s ys ∙ ap (legsFrom (G .leg) 0) (reverseAux-eq (x ∷ s) ys)
     where
-      go : (x : ℕ) (s ys : List ℕ) → distanceOf G (reverseAux s (x ∷ ys)) ≡ legsFrom G 0 (reverseAux s (x ∷ ys))
+      go : (x : ℕ) (s ys : List ℕ) → distanceOf G (reverseAux s (x ∷ ys)) ≡ legsFrom (G .leg) 0 (reverseAux s (x ∷ ys))
       go x [] ys = refl
       go x (y ∷ s) ys = go y s (x ∷ ys)
 
@@ -86,6 +87,6 @@ module _ (G : Given) where
       → distanceOf G ((x ∷ xs) ++ (c ∷ [])) + G .leg (final x xs) 0 ≡ distanceOf G (x ∷ xs) + G .leg (final x xs) c + G .leg c 0
   insertion-last x xs c = omega (arith, legs-append 0 (x ∷ xs) (c ∷ []), legs-whole 0 (x ∷ xs))
     where
-      legs-whole : (p : ℕ) (cs : List ℕ) → legsFrom G p cs ≡ gone p cs + G .leg (final p cs) 0
+      legs-whole : (p : ℕ) (cs : List ℕ) → legsFrom (G .leg) p cs ≡ gone p cs + G .leg (final p cs) 0
       legs-whole p [] = omega arith
       legs-whole p (c ∷ cs) = omega (arith, legs-whole c cs)

@@ -18,3 +18,7 @@ pub mod LegLaws
 pub mod TwoOptLaws
 pub mod EliminationLaws
 pub mod ImproverCases
+pub mod Decimal
+pub mod ListingCases
+pub mod Plain
+pub mod Improving

@@ -8,18 +8,10 @@ use mathlib.Core.List.{List, [], _∷_, _++_, append-nil, append-assoc, tail}
 use mathlib.Core.Option.{Option, none, some}
 use lib.ListN.{length, take}
 use Rattle.basics.specs.Tests.{by-test}
-use Rattle.basics.specs.Options.{present, clash}
+use Rattle.basics.specs.Options.{there, absent, present, clash}
 use Rattle.definitions.specs.Clock.{Arc}
 use Rattle.definitions.specs.Cutting.{Best, Point, points, shortest, stuck}
 use Rattle.definitions.proofs.Least.{Reach, BestOf, best-reach, Table, table}
-
-is-there : {A : Type 0} (o : Option A) → present o ≡ true → (a : A) × (o ≡ some a)
-is-there none h = absurd (false≢true h)
-is-there (some a) h = (a, refl)
-
-is-none : {A : Type 0} (o : Option A) → present o ≡ false → o ≡ none
-is-none none h = refl
-is-none (some a) h = absurd (true≢false h)
 
 module _ (arc : List ℕ → Option Arc) where
   -- the calls have a legal cutting
@@ -27,10 +19,10 @@ module _ (arc : List ℕ → Option Arc) where
   Cuttable calls = (n : ℕ) × Reach arc calls n
 
   can : (calls : List ℕ) (b : Option Best) → BestOf arc calls b → present b ≡ true → Cuttable calls
-  can calls b B h = let m = is-there b h in (m .0 .cost, best-reach arc calls b B (m .0) (m .1))
+  can calls b B h = let m = there b h in (m .0 .cost, best-reach arc calls b B (m .0) (m .1))
 
   cannot : (calls : List ℕ) (b : Option Best) → BestOf arc calls b → present b ≡ false → Cuttable calls → ⊥
-  cannot calls b B h c = let m = B .below (c .0) (c .1) in clash (sym (is-none b h) ∙ m .1)
+  cannot calls b B h c = let m = B .below (c .0) (c .1) in clash (sym (absent h) ∙ m .1)
 
   -- every beginning has one
   abbrev pub AllCut : List ℕ → List ℕ → ℕ → Type 0

@@ -1,8 +1,13 @@
--- What the improvers know of a sheet, and what they ask of a run.
-use Prim.Native.Nat.{ℕ, zero, suc, _+_}
+-- What the improvers know of a sheet, and what they ask of a run. Definitions only.
+use Prim.Native.Nat.{ℕ, _+_}
 use mathlib.Core.Bool.{Bool, true, false, cond}
-use mathlib.Core.List.{List, [], _∷_, _++_}
-use Rattle.basics.specs.Lists.{sum}
+use mathlib.Core.List.{List, [], _∷_}
+use Rattle.basics.specs.Tests.{either}
+use Rattle.basics.specs.Options.{present}
+use Rattle.basics.specs.Lists.{any, sum}
+use Rattle.definitions.specs.Sheet.{Sheet, customer, distance}
+use Rattle.definitions.specs.Run.{legsFrom}
+use Rattle.definitions.specs.Evaluation.{routeFeasible}
 
 pub record Given : Type 0 where
   -- the leg from one place to another; the depot is 0
@@ -11,21 +16,37 @@ pub record Given : Type 0 where
   pub capacity : ℕ
   -- the fixed run cost
   pub fixed : ℕ
-  -- whether the sheet has a window, a limit or a break
+  -- whether `route_feasible` is asked of a run at all
   pub asked : Bool
-  -- route_feasible
+  -- `route_feasible`
   pub feasible : List ℕ → Bool
 
-module _ (G : Given) where
-  -- the legs from place p through the calls and home
-  abbrev pub legsFrom : ℕ → List ℕ → ℕ
-  legsFrom p [] = G .leg p 0
-  legsFrom p (c ∷ cs) = G .leg p c + legsFrom c cs
+-- it is asked only when the sheet has a window, a limit or a break
+unfoldable pub checksNeeded : Sheet → Bool
+checksNeeded s =
+    either
+    (any (λ c. present (c .window)) (s .customers)
+    ∷ present (s .maxDistance)
+    ∷ present (s .maxDuration)
+    ∷ present (s .rest)
+    ∷ [])
 
+abbrev pub givenOf : Sheet → Given
+givenOf s =
+    record {
+      leg = distance s;
+      demand = λ c. customer s c .demand;
+      capacity = s .capacity;
+      fixed = s .fixed;
+      asked = checksNeeded s;
+      feasible = routeFeasible s;
+    }
+
+module _ (G : Given) where
   -- the distance of a run: all its legs, both depot legs too; a run without calls has none
   abbrev pub distanceOf : List ℕ → ℕ
   distanceOf [] = 0
-  distanceOf (c ∷ cs) = legsFrom 0 (c ∷ cs)
+  distanceOf (c ∷ cs) = legsFrom (G .leg) 0 (c ∷ cs)
 
   -- the distance of several runs
   abbrev pub total : List (List ℕ) → ℕ

@@ -30,3 +30,6 @@ pub mod Reader
 -- What the other calls are lent, and when they refuse.
 pub mod Lent
 pub mod Refusals
+-- The complete answer of each public call, and the listing.
+pub mod Answers
+pub mod Listing

@@ -13,6 +13,15 @@ use Rattle.definitions.specs.Cutting.{joined, cuttingCost}
 use Rattle.definitions.specs.Drop.{Result, splitTw}
 use Rattle.definitions.specs.Visits.{dueOf}
 
+-- ---- the runs given: calls and each run's break place (1 up, 0 none); places beyond the runs are not read
+
+abbrev pub withPlaces : List (List ℕ) → List ℕ → List Run
+withPlaces [] places = []
+withPlaces (r ∷ rs) [] = record { calls = r; place = 0 } ∷ withPlaces rs []
+withPlaces (r ∷ rs) (p ∷ places) = record { calls = r; place = p } ∷ withPlaces rs places
+
+-- ---- the verdicts
+
 -- A fault carries its run from 1, and the value and limit that clash; a window or break fault also the call's place, from 1, and its customer.
 pub data Verdict : Type 0 where
   -- the joined calls differ from the planner's served customers, first at this position, from 1
@@ -26,6 +35,33 @@ pub data Verdict : Type 0 where
   best : Verdict
   dearer : (by : ℕ) → Verdict
   cheaper : (by : ℕ) → Verdict
+
+-- the verdicts in 01's order, numbered from 1, and the values of each
+abbrev pub verdictNumber : Verdict → ℕ
+verdictNumber (otherCalls position) = 1
+verdictNumber (overload run load capacity) = 2
+verdictNumber (breakTooLate run place customer start latest) = 3
+verdictNumber (windowMissed run place customer readiness due) = 4
+verdictNumber (breakMissing run duration earliest) = 5
+verdictNumber (tooFar run distance limit) = 6
+verdictNumber (tooLong run duration limit) = 7
+verdictNumber best = 8
+verdictNumber (dearer by) = 9
+verdictNumber (cheaper by) = 10
+
+abbrev pub verdictValues : Verdict → List ℕ
+verdictValues (otherCalls position) = position ∷ []
+verdictValues (overload run load capacity) = run ∷ load ∷ capacity ∷ []
+verdictValues (breakTooLate run place customer start latest) = run ∷ place ∷ customer ∷ start ∷ latest ∷ []
+verdictValues (windowMissed run place customer readiness due) = run ∷ place ∷ customer ∷ readiness ∷ due ∷ []
+verdictValues (breakMissing run duration earliest) = run ∷ duration ∷ earliest ∷ []
+verdictValues (tooFar run distance limit) = run ∷ distance ∷ limit ∷ []
+verdictValues (tooLong run duration limit) = run ∷ duration ∷ limit ∷ []
+verdictValues best = []
+verdictValues (dearer by) = by ∷ []
+verdictValues (cheaper by) = by ∷ []
+
+-- ---- faults
 
 -- the first position, from k, where they differ or one list has ended
 abbrev pub differ : ℕ → List ℕ → List ℕ → Option ℕ
@@ -72,6 +108,8 @@ runFault s n r =
 abbrev pub firstFault : Sheet → ℕ → List Run → Option Verdict
 firstFault s n [] = none
 firstFault s n (r ∷ rs) = orElse (runFault s n r) (firstFault s (suc n) rs)
+
+-- ---- the mark
 
 -- against the planner's cost
 abbrev pub against : ℕ → ℕ → Verdict

@@ -84,9 +84,12 @@ lastOf a [] = a
 lastOf a (c ∷ cs) = lastOf c cs
 
 -- all legs from a on, the one to the depot too
+abbrev pub legsFrom : (ℕ → ℕ → ℕ) → ℕ → List ℕ → ℕ
+legsFrom leg a [] = leg a 0
+legsFrom leg a (c ∷ cs) = leg a c + legsFrom leg c cs
+
 abbrev pub distanceFrom : Sheet → ℕ → List ℕ → ℕ
-distanceFrom s a [] = distance s a 0
-distanceFrom s a (c ∷ cs) = distance s a c + distanceFrom s c cs
+distanceFrom s a calls = legsFrom (distance s) a calls
 
 pub record Totals : Type 0 where
   -- all its legs, both depot legs too

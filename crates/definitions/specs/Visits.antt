@@ -11,6 +11,8 @@ use Rattle.definitions.specs.Limits.{within}
 use Rattle.definitions.specs.Run.{ready, Label, start, placeAfter, breakAt, Totals, home, load, fits}
 use Rattle.definitions.specs.Clock.{clock, startOf}
 
+-- ---- visits and violations
+
 pub record Visit : Type 0 where
   pub customer : ℕ
   -- before the break, if it is here
@@ -26,6 +28,23 @@ pub data Violation : Type 0 where
   overCapacity : (load capacity : ℕ) → Violation
   overDistance : (distance limit : ℕ) → Violation
   overDuration : (duration limit : ℕ) → Violation
+
+-- the violations in 01's order, numbered from 1, and the figures of each
+abbrev pub violationNumber : Violation → ℕ
+violationNumber (windowShut customer readiness due) = 1
+violationNumber breakNotPlaceable = 2
+violationNumber (overCapacity load capacity) = 3
+violationNumber (overDistance distance limit) = 4
+violationNumber (overDuration duration limit) = 5
+
+abbrev pub violationValues : Violation → List ℕ
+violationValues (windowShut customer readiness due) = customer ∷ readiness ∷ due ∷ []
+violationValues breakNotPlaceable = []
+violationValues (overCapacity load capacity) = load ∷ capacity ∷ []
+violationValues (overDistance distance limit) = distance ∷ limit ∷ []
+violationValues (overDuration duration limit) = duration ∷ limit ∷ []
+
+-- ---- the walk
 
 -- when readiness is, at customer c
 abbrev pub readyFor : Sheet → Option Break → ℕ → ℕ → Label → ℕ
@@ -69,6 +88,8 @@ module _ (s : Sheet) (place : ℕ) where
   unfoldable pub lastLabel : ℕ → ℕ → Label → List ℕ → Label
   lastLabel k a l [] = l
   lastLabel k a l (c ∷ cs) = lastLabel (suc k) c (visited s (breakAt s place k) k a c l) cs
+
+-- ---- the route
 
 pub record Route : Type 0 where
   pub visits : List Visit

@@ -1,0 +1,33 @@
+-- The listing of case m's words is 01's, byte for byte; so are those of a sheet with drops and of one that is refused. Each holds by computation. Assumes nothing.
+use Prim.Native.Nat.{ℕ}
+use mathlib.Core.Path.{_≡_, refl}
+use mathlib.Core.List.{List, [], _∷_, map}
+use Rattle.definitions.specs.Run.{serveAt, serveAll, ride, placed, legal, runCost, ready}
+use Rattle.definitions.specs.Window.{enter}
+use Rattle.definitions.specs.Clock.{clockFrom, clock, startOf, arc}
+use Rattle.definitions.specs.RunList.{runsFrom}
+use Rattle.definitions.specs.Cutting.{pointsFrom, cheapest, stuck}
+use Rattle.definitions.specs.Drop.{dropFrom, drops, splitTw}
+use Rattle.definitions.specs.Words.{Word, wordOf, bytesOf}
+use Rattle.definitions.specs.Reader.{mayStand, inRange, pairFalls, faultAt, walk, sheetOf, tourOf, readWords, read}
+use Rattle.definitions.specs.Listing.{text, digitsIn, runLine, planText, listing}
+
+-- what the listing is computed through
+opened : Unit {0}
+unfolding listing planText runLine digitsIn read readWords walk faultAt mayStand inRange pairFalls sheetOf tourOf splitTw drops dropFrom stuck cheapest pointsFrom arc clock clockFrom serveAt ready enter startOf serveAll runsFrom
+opened = tt
+
+-- words as 01 writes them
+abbrev file : List ℕ → List ℕ
+file numbers = bytesOf (map wordOf numbers)
+
+-- case m
+abbrev caseM : List ℕ
+caseM =
+    0x10000003 ∷ 0x20000004 ∷ 0x30000000 ∷ 0x60000014 ∷ 0x6000001E ∷ 0x60000004 ∷ 0x70000002 ∷ 0x80000000 ∷ 0x70000002 ∷ 0x80000000
+    ∷ 0xC0000000 ∷ 0xC000000A ∷ 0xC000000C ∷ 0xC000000A ∷ 0xC0000000 ∷ 0xC0000005 ∷ 0xC000000C ∷ 0xC0000005 ∷ 0xC0000000
+    ∷ 0xE0000001 ∷ 0xE0000002 ∷ 0xF0000015 ∷ []
+
+pub listing-m : listing (file caseM) ≡ text "run 1 2 rest 2 20\ntotal 27 cost 27 served 2 dropped 0\n"
+unfolding opened
+listing-m = refl
