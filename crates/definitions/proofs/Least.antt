@@ -1,49 +1,27 @@
--- The best of a cut point is the least cost of all cuttings of the calls before it, and its runs are such a cutting. Assumes nothing.
-use Prim.Native.Nat.{ℕ, zero, suc, _+_, _-_, _≤_, _<_}
+-- The best of a cut point is the least cost of all cuttings of the calls before it, its runs are such a cutting, and of equal ones the earliest cut point is kept. Assumes nothing.
+use Prim.Native.Nat.{ℕ, suc, _+_, _≤_, _<_}
 use native.Mathlib.Omega.{arith}
-use native.Mathlib.Nat.{le-refl, not-suc-le-zero, zero-add, add-zero, add-assoc}
+use native.Mathlib.Nat.{le-trans, le-of-lt, le-of-suc-le-suc, zero-add, add-zero, add-assoc}
+use native.Mathlib.Numerals.{add-one}
 use mathlib.Core.Path.{_≡_, refl, sym, ap, subst, _∙_}
-use mathlib.Core.Logic.{_⊎_, inl, inr, ⊎-elim}
-use mathlib.Core.Bool.{Bool, true, false, cond, _&&_}
-use mathlib.Core.List.{List, [], _∷_, _++_, map, append-nil, append-assoc, nil≢cons, head-eq-of-cons-eq, tail-eq-of-cons-eq}
+use mathlib.Core.Bool.{true, false, true≢false}
+use mathlib.Core.List.{List, [], _∷_, _++_, append-nil, append-assoc}
 use mathlib.Core.Option.{Option, none, some}
-use lib.ListN.{length, take}
-use lib.Dec.{ltb}
-use borrow.Author.Tests.{ltb-true, ltb-false}
-use Rattle.basics.specs.Tests.{by-test}
-use Rattle.basics.specs.Options.{_>>=_, same, clash, bound}
-use Rattle.basics.specs.Lists.{sum, In, first, next, sum-append}
+use lib.ListN.{length, take, drop, length-append, take-append-drop}
+use lib.Seq.{take-take, take-length, length-take-le}
+use borrow.Author.Tests.{ltb-true, ltb-false, le-ltb}
+use Rattle.basics.specs.Options.{present, clash, held}
+use Rattle.basics.specs.Lists.{sum, sum-append}
+use Rattle.cutting.specs.Cut.{Rule}
+use Rattle.cutting.specs.Cut as C
+use Rattle.cutting.specs.Best as B
+use Rattle.cutting.specs.Best.{Laws}
+use Rattle.cutting.specs.Plain.{PlainLaws, GoodOpt, lowerOpt, rule-laws}
 use Rattle.definitions.specs.Run.{Run}
 use Rattle.definitions.specs.Clock.{Arc}
-use Rattle.definitions.specs.Cutting.{joined, Best, better, Point, longer, nothing, close, least, grow, pointsFrom, points, lastBest, cheapest}
-
--- ---- lists
-
-not-in-none : {A : Type 0} {x : A} {l : List A} → l ≡ [] → In x l → ⊥
-not-in-none e first = nil≢cons (sym e)
-not-in-none e (next i) = nil≢cons (sym e)
-
-in-map : {A B : Type 0} (f : A → B) {x : A} {l : List A} → In x l → In (f x) (map f l)
-in-map f first = first
-in-map f (next i) = next (in-map f i)
-
-map-in : {A B : Type 0} (f : A → B) (l : List A) {y : B} → In y (map f l) → (x : A) × In x l × (f x ≡ y)
-map-in f (x ∷ l) first = (x, first, refl)
-map-in f (x ∷ l) (next i) = let r = map-in f l i in (r .0, next (r .1), r .2)
-
--- a list that is not empty ends in c where it is the end of a list that does
-pub ends-in : {A : Type 0} (c : A) (before since done : List A) → before ++ since ≡ done ++ (c ∷ []) → (since ≡ [] → ⊥)
-    → (v : List A) × (since ≡ v ++ (c ∷ [])) × (before ++ v ≡ done)
-ends-in c [] since done e h = (done, e, refl)
-ends-in c (x ∷ before) since [] e h =
-    absurd (h (nil-right before since (tail-eq-of-cons-eq e)))
-  where
-    nil-right : {A : Type 0} (u v : List A) → u ++ v ≡ [] → v ≡ []
-    nil-right [] v e = e
-    nil-right (x ∷ u) v e = absurd (nil≢cons (sym e))
-ends-in c (x ∷ before) since (y ∷ done) e h =
-    let r = ends-in c before since done (tail-eq-of-cons-eq e) h in
-    (r .0, r .1, ap (λ (z : _). z ∷ (before ++ r .0)) (head-eq-of-cons-eq e) ∙ ap (λ (l : List _). y ∷ l) (r .2))
+use Rattle.definitions.specs.Cutting.{joined, Best, lower, Point, nothing, close, points, cheapest}
+use Rattle.definitions.proofs.Recurrence.{best-none, tails, points-are}
+use Rattle.definitions.proofs.Bridge.{andRun, stretch, plain, rule, best-at, cand-at}
 
 pub joined-append : (rs ts : List Run) → joined (rs ++ ts) ≡ joined rs ++ joined ts
 joined-append [] ts = refl
@@ -80,9 +58,13 @@ module _ (arc : List ℕ → Option Arc) where
   made-append [] ts m n = n
   made-append (r ∷ rs) ts m n = (m .0, made-append rs ts (m .1) n)
 
+  -- m is a cutting of calls
+  abbrev pub Cuts : List ℕ → Best → Type 0
+  Cuts calls m = (joined (m .runs) ≡ calls) × Made (m .runs) × (worth (m .runs) ≡ m .cost)
+
   -- what a point's best is, for the calls before it
   pub record BestOf (calls : List ℕ) (b : Option Best) : Type 0 where
-    pub cuts : (m : Best) → b ≡ some m → (joined (m .runs) ≡ calls) × Made (m .runs) × (worth (m .runs) ≡ m .cost)
+    pub cuts : (m : Best) → b ≡ some m → Cuts calls m
     pub below : (n : ℕ) → Reach calls n → (m : Best) × (b ≡ some m) × (m .cost ≤ n)
 
   -- runs one after the other reach what they join up to
@@ -111,84 +93,25 @@ module _ (arc : List ℕ → Option Arc) where
       subst (λ (l : List ℕ). Reach l (m .cost)) (c .0)
       (subst (λ (n : ℕ). Reach (joined (m .runs)) n) (zero-add (worth (m .runs)) ∙ c .2) (reach-runs [] 0 (start refl refl) (m .runs) (made-arced (m .runs) (c .1))))
 
-  -- ---- the scan of the cut points
-
-  better-new : (new : Best) (old : Option Best) → (m : Best) × (better (some new) old ≡ some m) × (m .cost ≤ new .cost)
-  better-new new none = (new, refl, le-refl (new .cost))
-  better-new new (some old) =
-      by-test (ltb (new .cost) (old .cost)) (λ t. (new, rw t refl, le-refl (new .cost)))
-      (λ f. (old, rw f refl, ltb-false (new .cost) (old .cost) f))
-
-  better-old : (new : Option Best) (old : Best) → (m : Best) × (better new (some old) ≡ some m) × (m .cost ≤ old .cost)
-  better-old none old = (old, refl, le-refl (old .cost))
-  better-old (some new) old =
-      by-test (ltb (new .cost) (old .cost)) (λ t. (new, rw t refl, native.Mathlib.Nat.le-of-lt (ltb-true (new .cost) (old .cost) t)))
-      (λ f. (old, rw f refl, le-refl (old .cost)))
-
-  better-one : (new old : Option Best) (m : Best) → better new old ≡ some m → (new ≡ some m) ⊎ (old ≡ some m)
-  better-one none old m e = inr e
-  better-one (some new) none m e = inl e
-  better-one (some new) (some old) m e = by-test (ltb (new .cost) (old .cost)) (λ t. inl (rw t at e)) (λ f. inr (rw f at e))
-
-  le2 : (u v w : ℕ) → u ≤ v → v ≤ w → u ≤ w
-  le2 u v w m n = omega arith
-
-  least-old : (x : Best) (old : Option Best) (ps : List Point) → old ≡ some x → (m : Best) × (least arc old ps ≡ some m) × (m .cost ≤ x .cost)
-  least-old x old [] e = (x, e, le-refl (x .cost))
-  least-old x old (p ∷ ps) e =
-      let b = better-old (close arc p) x in
-      let r = least-old (b .0) (better (close arc p) old) ps (ap (λ (o : Option Best). better (close arc p) o) e ∙ b .1) in
-      (r .0, r .1, le2 (r .0 .cost) (b .0 .cost) (x .cost) (r .2) (b .2))
-
-  least-le : (x : Best) (old : Option Best) (ps : List Point) (p : Point) → In p ps → close arc p ≡ some x → (m : Best) × (least arc old ps ≡ some m) × (m .cost ≤ x .cost)
-  least-le x old (p ∷ ps) q (first {l = l}) e =
-      let b = better-new x old in
-      let r = least-old (b .0) (better (close arc p) old) ps (ap (λ (o : Option Best). better o old) e ∙ b .1) in
-      (r .0, r .1, le2 (r .0 .cost) (b .0 .cost) (x .cost) (r .2) (b .2))
-  least-le x old (q ∷ ps) p (next i) e = least-le x (better (close arc q) old) ps p i e
-
-  least-one : (old : Option Best) (ps : List Point) (m : Best) → least arc old ps ≡ some m → (old ≡ some m) ⊎ ((p : Point) × In p ps × (close arc p ≡ some m))
-  least-one old [] m e = inl e
-  least-one old (p ∷ ps) m e = ⊎-elim here there (least-one (better (close arc p) old) ps m e)
-    where
-      here : better (close arc p) old ≡ some m → (old ≡ some m) ⊎ ((q : Point) × In q (p ∷ ps) × (close arc q ≡ some m))
-      here h = ⊎-elim (λ n. inr (p, first, n)) (λ o. inl o) (better-one (close arc p) old m h)
-
-      there : (q : Point) × In q ps × (close arc q ≡ some m) → (old ≡ some m) ⊎ ((q : Point) × In q (p ∷ ps) × (close arc q ≡ some m))
-      there r = inr (r .0, next (r .1), r .2)
-
-  -- ---- the table: a point for each beginning
-
   -- the points of pre ++ rest from pre on
   abbrev pub Table : List ℕ → List ℕ → List Point → Type 0
   Table pre rest [] = ⊥
   Table pre [] (p ∷ ps) = BestOf pre (p .best) × (p .since ≡ []) × (ps ≡ [])
   Table pre (c ∷ rest) (p ∷ ps) = BestOf pre (p .best) × (p .since ≡ c ∷ rest) × Table (pre ++ (c ∷ [])) rest ps
 
-  -- the point of a beginning
-  pub point-of : (u v pre rest : List ℕ) (ps : List Point) → Table pre rest ps → u ++ v ≡ rest → (p : Point) × In p ps × BestOf (pre ++ u) (p .best) × (p .since ≡ v)
-  point-of u v pre rest [] T e = absurd T
-  point-of [] v pre [] (p ∷ ps) T e = (p, first, subst (λ (l : List ℕ). BestOf l (p .best)) (sym (append-nil pre)) (T .0), T .1 ∙ sym e)
-  point-of [] v pre (c ∷ rest) (p ∷ ps) T e = (p, first, subst (λ (l : List ℕ). BestOf l (p .best)) (sym (append-nil pre)) (T .0), T .1 ∙ sym e)
-  point-of (x ∷ u) v pre [] (p ∷ ps) T e = absurd (nil≢cons (sym e))
-  point-of (x ∷ u) v pre (c ∷ rest) (p ∷ ps) T e =
-      let r = point-of u v (pre ++ (c ∷ [])) rest ps (T .2) (tail-eq-of-cons-eq e) in (
-        r .0,
-        next (r .1),
-        subst (λ (l : List ℕ). BestOf l (r .0 .best)) (append-assoc pre (c ∷ []) u ∙ ap (λ (y : ℕ). pre ++ (y ∷ u)) (sym (head-eq-of-cons-eq e))) (r .2),
-        r .3,
-      )
+  -- the cutting of the first k calls of u with the best, and then one run of the others and c
+  abbrev pub candidate : List ℕ → ℕ → ℕ → Option Best
+  candidate u c k = close arc (record { best = cheapest arc (take k u); since = drop k u ++ (c ∷ []) })
 
-  -- and each point is of one
-  of-point : (pre rest : List ℕ) (ps : List Point) (p : Point) → Table pre rest ps → In p ps → (u : List ℕ) × BestOf u (p .best) × (u ++ p .since ≡ pre ++ rest)
-  of-point pre [] (p ∷ ps) q T (first {l = l}) = (pre, T .0, ap (λ (l : List ℕ). pre ++ l) (T .1))
-  of-point pre (c ∷ rest) (p ∷ ps) q T (first {l = l}) = (pre, T .0, ap (λ (l : List ℕ). pre ++ l) (T .1))
-  of-point pre [] (y ∷ ps) p T (next i) = absurd (not-in-none (T .2) i)
-  of-point pre (c ∷ rest) (y ∷ ps) p T (next i) =
-      let r = of-point (pre ++ (c ∷ [])) rest ps p (T .2) i in
-      (r .0, r .1, r .2 ∙ append-assoc pre (c ∷ []) rest)
+  -- start is the first start at which the candidates below n come to m, and none of them comes to less
+  pub record Earliest (u : List ℕ) (c n : ℕ) (m : Best) : Type 0 where
+    pub start : ℕ
+    pub below : start < n
+    pub made : candidate u c start ≡ some m
+    pub before : (k : ℕ) (x : Best) → k < start → candidate u c k ≡ some x → m .cost < x .cost
+    pub after : (k : ℕ) (x : Best) → k < n → candidate u c k ≡ some x → m .cost ≤ x .cost
 
-  -- ---- one more call
+  -- ---- the laws that the theory of the cut asks
 
   abbrev lastRun : List ℕ → Arc → List Run
   lastRun since a = record { calls = since; place = a .place } ∷ []
@@ -204,93 +127,75 @@ module _ (arc : List ℕ → Option Arc) where
       ends : (w c x y : ℕ) → w ≡ c → x ≡ y → w + (x + 0) ≡ c + y
       ends w c x y p q = omega arith
 
-  module _ (empty : arc [] ≡ none) (done : List ℕ) (ps : List Point) (c : ℕ) (T : Table [] done ps) where
-    new-cuts : (m : Best) → least arc none (map (longer c) ps) ≡ some m → (joined (m .runs) ≡ done ++ (c ∷ [])) × Made (m .runs) × (worth (m .runs) ≡ m .cost)
-    new-cuts m e = ⊎-elim (λ n. clash n) (λ r. from (r .0) (r .1) (r .2)) (least-one none (map (longer c) ps) m e)
-      where
-        Good : Best → Type 0
-        Good m = (joined (m .runs) ≡ done ++ (c ∷ [])) × Made (m .runs) × (worth (m .runs) ≡ m .cost)
+  module _ (calls : List ℕ) where
+    run-cuts : (b : Best) (i j : ℕ) → i < j → present (arc (stretch arc calls i j)) ≡ true → Cuts (take i calls) b
+        → Cuts (take j calls) (andRun b (stretch arc calls i j) (arc (stretch arc calls i j)))
+    run-cuts b i j o l g =
+        let a = held (arc (stretch arc calls i j)) _ l in
+        rw (a .1)
+        (subst (λ (u : List ℕ). Cuts u (andRun b (stretch arc calls i j) (some (a .0))))
+        (ap (λ (u : List ℕ). u ++ stretch arc calls i j) (sym (take-take i j calls (le-of-lt o))) ∙ take-append-drop i (take j calls))
+        (cuts-more (take i calls) (stretch arc calls i j) b (a .0) g (a .1)))
 
-        of : (p : Point) → In p ps → close arc (longer c p) ≡ some m → Good m
-        of p i h =
-            let o = of-point [] done ps p T i in
-            let x = bound (p .best) _ m h in
-            let y = bound (arc (p .since ++ (c ∷ []))) _ m (x .2) in
-            let g = cuts-more (o .0) (p .since ++ (c ∷ [])) (x .0) (y .0) (o .1 .cuts (x .0) (x .1)) (y .1) in
-            subst Good (same (y .2)) (g .0 ∙ sym (append-assoc (o .0) (p .since) (c ∷ [])) ∙ ap (λ (l : List ℕ). l ++ (c ∷ [])) (o .2), g .1, g .2)
+    run-keeps : (a b : Best) (since : List ℕ) (o : Option Arc) → lower b a ≡ false → lower (andRun b since o) (andRun a since o) ≡ false
+    run-keeps a b since none h = h
+    run-keeps a b since (some r) h = le-ltb (b .cost + r .cost) (a .cost + r .cost) (omega (arith, ltb-false (b .cost) (a .cost) h))
 
-        from : (q : Point) → In q (map (longer c) ps) → close arc q ≡ some m → Good m
-        from q i h = let r = map-in (longer c) ps i in of (r .0) (r .1) (ap (λ (x : Point). close arc x) (r .2) ∙ h)
+    plain-laws : PlainLaws (plain arc calls) (λ j b. Cuts (take j calls) b)
+    plain-laws =
+        record {
+          asym = λ _ a b _ _ h. le-ltb (b .cost) (a .cost) (le-of-lt (ltb-true (a .cost) (b .cost) h));
+          neg-trans = λ _ a b c _ _ _ h k. le-ltb (c .cost) (a .cost) (le-trans (ltb-false (b .cost) (a .cost) h) (ltb-false (c .cost) (b .cost) k));
+          start-good = (refl, tt, refl);
+          ext-good = run-cuts;
+          mono = λ a b i j _ _ _ _ h. run-keeps a b (stretch arc calls i j) (arc (stretch arc calls i j)) h;
+        }
 
-    new-below : (n : ℕ) → Reach (done ++ (c ∷ [])) n → (m : Best) × (least arc none (map (longer c) ps) ≡ some m) × (m .cost ≤ n)
-    new-below n R = go R refl
-      where
-        no-end : (l : List ℕ) → l ++ (c ∷ []) ≡ [] → ⊥
-        no-end [] e = nil≢cons (sym e)
-        no-end (x ∷ l) e = nil≢cons (sym e)
+    -- what may stand at j
+    abbrev Good : ℕ → Option Best → Type 0
+    Good = GoodOpt (λ j b. Cuts (take j calls) b)
 
-        sums : (w b m a n : ℕ) → w ≤ b + a → b ≤ m → m + a ≡ n → w ≤ n
-        sums w b m a n h k e = omega arith
+    laws : Laws (rule arc calls) Good
+    laws = rule-laws (plain arc calls) (λ j b. Cuts (take j calls) b) plain-laws
 
-        last : (before v : List ℕ) (m : ℕ) (a : Arc) → Reach before m → arc (v ++ (c ∷ [])) ≡ some a → before ++ v ≡ done → m + a .cost ≡ n
-            → (m : Best) × (least arc none (map (longer c) ps) ≡ some m) × (m .cost ≤ n)
-        last before v m a R e d s =
-            let p = point-of before v [] done ps T d in
-            let b = p .2 .below m R in
-            let x : Best = record { cost = b .0 .cost + a .cost; runs = b .0 .runs ++ (record { calls = p .0 .since ++ (c ∷ []); place = a .place } ∷ []) } in
-            let h : close arc (longer c (p .0)) ≡ some x = rw (b .1, ap (λ (l : List ℕ). arc (l ++ (c ∷ []))) (p .3) ∙ e) refl in
-            let r = least-le x none (map (longer c) ps) (longer c (p .0)) (in-map (longer c) (p .1)) h in
-            (r .0, r .1, sums (r .0 .cost) (b .0 .cost) m (a .cost) n (r .2) (b .2) s)
+    -- what that theory says of the best, and of a last run
+    good : (m : Best) → cheapest arc calls ≡ some m → Cuts calls m
+    good m e = rw (best-at arc calls, e, take-length calls) at (B.cost-good (rule arc calls) Good laws (length calls) (length calls))
 
-        go : {l : List ℕ} → Reach l n → l ≡ done ++ (c ∷ []) → (m : Best) × (least arc none (map (longer c) ps) ≡ some m) × (m .cost ≤ n)
-        go (start e z) q = absurd (no-end done (sym q ∙ e))
-        go (more before since m a R e d s) q =
-            let r = ends-in c before since done (d ∙ q) (λ z. clash (sym empty ∙ ap arc (sym z) ∙ e)) in
-            last before (r .0) m a R (ap arc (sym (r .1)) ∙ e) (r .2) s
+    at-most : (before since : List ℕ) (x : Best) → before ++ since ≡ calls → length before < length calls → close arc (record { best = cheapest arc before; since = since }) ≡ some x
+        → lowerOpt (plain arc calls) (some x) (cheapest arc calls) ≡ false
+    at-most before since x e l q =
+        rw (cand-at arc calls before since e, q, best-at arc calls) at (B.best-le-cand (rule arc calls) Good laws (length before) (length calls) l)
 
-    new-best : BestOf (done ++ (c ∷ [])) (least arc none (map (longer c) ps))
-    new-best = record { cuts = new-cuts; below = new-below }
+    at-most-some : (x : Best) (o : Option Best) → lowerOpt (plain arc calls) (some x) o ≡ false → (m : Best) × (o ≡ some m) × (m .cost ≤ x .cost)
+    at-most-some x none h = absurd (true≢false h)
+    at-most-some x (some m) h = (m, refl, ltb-false (x .cost) (m .cost) h)
 
-  -- the table with one more point at its end
-  longer-table : (pre rest : List ℕ) (ps : List Point) (c : ℕ) (b : Option Best) → Table pre rest ps → BestOf (pre ++ (rest ++ (c ∷ []))) b
-      → Table pre (rest ++ (c ∷ [])) (map (longer c) ps ++ (record { best = b; since = [] } ∷ []))
-  longer-table pre rest [] c b T B = absurd T
-  longer-table pre [] (p ∷ ps) c b T B =
-      (T .0, ap (λ (l : List ℕ). l ++ (c ∷ [])) (T .1), rw (T .2) (B, refl, refl))
-  longer-table pre (d ∷ rest) (p ∷ ps) c b T B = (
-    T .0,
-    ap (λ (l : List ℕ). l ++ (c ∷ [])) (T .1),
-    longer-table (pre ++ (d ∷ [])) rest ps c b (T .2) (subst (λ (l : List ℕ). BestOf l b) (sym (append-assoc pre (d ∷ []) (rest ++ (c ∷ [])))) B),
-  )
+  -- ---- the cutting of calls is of the least cost
 
   module _ (empty : arc [] ≡ none) where
-    table-from : (done : List ℕ) (ps : List Point) (calls : List ℕ) → Table [] done ps → Table [] (done ++ calls) (pointsFrom arc ps calls)
-    unfolding pointsFrom
-    table-from done ps [] T = subst (λ (l : List ℕ). Table [] l ps) (sym (append-nil done)) T
-    table-from done ps (c ∷ cs) T =
-        subst (λ (l : List ℕ). Table [] l (pointsFrom arc (grow arc ps c) cs)) (append-assoc done (c ∷ []) cs)
-        (table-from (done ++ (c ∷ [])) (grow arc ps c) cs (longer-table [] done ps c _ T (new-best empty done ps c T)))
-
-    none-best : BestOf [] (some nothing)
-    none-best = record { cuts = λ m e. subst (λ (x : Best). (joined (x .runs) ≡ []) × Made (x .runs) × (worth (x .runs) ≡ x .cost)) (same e) (refl, tt, refl); below = λ n R. (nothing, refl, least-zero n) }
+    least-below : (calls : List ℕ) (n : ℕ) → Reach calls n → (m : Best) × (cheapest arc calls ≡ some m) × (m .cost ≤ n)
+    least-below calls n (start e z) = (nothing, ap (λ (l : List ℕ). cheapest arc l) e ∙ best-none arc, omega arith)
+    least-below calls n (more before since k a R q e z) =
+        let b = least-below before k R in
+        let x : Best = andRun (b .0) since (some a) in
+        let m = at-most-some calls x (cheapest arc calls) (at-most calls before since x e (shorter since (λ s. clash (sym empty ∙ ap arc (sym s) ∙ q)) (ap length (sym e) ∙ length-append before since)) (rw (b .1, q) refl)) in
+        (m .0, m .1, omega (arith, m .2, b .2))
       where
-        least-zero : (n : ℕ) → 0 ≤ n
-        least-zero n = omega arith
+        shorter : (l : List ℕ) → (l ≡ [] → ⊥) → length calls ≡ length before + length l → length before < length calls
+        shorter [] h s = absurd (h refl)
+        shorter (c ∷ l) h s = omega arith
 
-    -- the points of calls are a table of them
-    pub table : (calls : List ℕ) → Table [] calls (points arc calls)
-    table calls = table-from [] _ calls (none-best, refl, refl)
-
-  last-of : (pre rest : List ℕ) (ps : List Point) (x : Option Best) → Table pre rest ps → BestOf (pre ++ rest) (lastBest x ps)
-  last-of pre rest [] x T = absurd T
-  last-of pre [] (p ∷ ps) x T = rw (T .2) (subst (λ (l : List ℕ). BestOf l (p .best)) (sym (append-nil pre)) (T .0))
-  last-of pre (c ∷ rest) (p ∷ ps) x T =
-      subst (λ (l : List ℕ). BestOf l (lastBest (p .best) ps)) (append-assoc pre (c ∷ []) rest) (last-of (pre ++ (c ∷ [])) rest ps (p .best) (T .2))
-
-  -- the cutting of calls is of the least cost
   pub best-of : arc [] ≡ none → (calls : List ℕ) → BestOf calls (cheapest arc calls)
-  unfolding cheapest
-  best-of empty calls = last-of [] calls (points arc calls) none (table empty calls)
+  best-of empty calls = record { cuts = good calls; below = least-below empty calls }
+
+  -- the points of calls are a table of them
+  pub table : arc [] ≡ none → (calls : List ℕ) → Table [] calls (points arc calls)
+  table empty calls = subst (λ (ps : List Point). Table [] calls ps) (sym (points-are arc calls)) (go [] calls)
+    where
+      go : (pre rest : List ℕ) → Table pre rest (tails arc pre rest)
+      go pre [] = (best-of empty pre, refl, refl)
+      go pre (c ∷ rest) = (best-of empty pre, refl, go (pre ++ (c ∷ [])) rest)
 
   -- of two lists joined the least cost is at most the sum of the two
   pub best-joined : arc [] ≡ none → (u v : List ℕ) (x y : Best) → cheapest arc u ≡ some x → cheapest arc v ≡ some y
@@ -298,3 +203,32 @@ module _ (arc : List ℕ → Option Arc) where
   best-joined empty u v x y p q =
       best-of empty (u ++ v) .below (x .cost + y .cost)
       (reach-append (best-reach u (cheapest arc u) (best-of empty u) x p) (best-reach v (cheapest arc v) (best-of empty v) y q))
+
+  -- ---- of the starts that attain the least cost the planner keeps the first
+
+  module _ (u : List ℕ) (c : ℕ) where
+    abbrev S : Rule (Option Best)
+    S = rule arc (u ++ (c ∷ []))
+
+    long : length (u ++ (c ∷ [])) ≡ suc (length u)
+    long = length-append u (c ∷ []) ∙ add-one (length u)
+
+    cand-of : (k : ℕ) → k < suc (length u) → B.cand S k (suc (length u)) ≡ candidate u c k
+    cand-of k h =
+        ap (λ (n : ℕ). B.cand S n (suc (length u))) (sym (length-take-le k u (le-of-suc-le-suc h)))
+        ∙ ap (λ (n : ℕ). B.cand S (length (take k u)) n) (sym long)
+        ∙ cand-at arc (u ++ (c ∷ [])) (take k u) (drop k u ++ (c ∷ [])) (sym (append-assoc (take k u) (drop k u) (c ∷ [])) ∙ ap (λ (l : List ℕ). l ++ (c ∷ [])) (take-append-drop k u))
+
+    pub best-earliest : (m : Best) → cheapest arc (u ++ (c ∷ [])) ≡ some m → Earliest u c (suc (length u)) m
+    best-earliest m e =
+        let n = suc (length u) in
+        let L = laws (u ++ (c ∷ [])) in
+        let is : C.best S n ≡ some m = ap (λ (k : ℕ). C.best S k) (sym long) ∙ best-at arc (u ++ (c ∷ [])) ∙ e in
+        let r = B.last-run S _ L (length u) (rw is refl) in
+        record {
+          start = C.pred S n;
+          below = r .0;
+          made = sym (cand-of (C.pred S n) (r .0)) ∙ sym (r .1) ∙ is;
+          before = λ k x h q. ltb-true (m .cost) (x .cost) (rw (is, cand-of k (le-trans h (le-of-lt (r .0))), q) at (B.pred-first S _ L n k h));
+          after = λ k x h q. ltb-false (x .cost) (m .cost) (rw (is, cand-of k h, q) at (B.best-le-cand S _ L k n h));
+        }

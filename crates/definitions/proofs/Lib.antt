@@ -3,8 +3,9 @@ pub mod Cases
 pub mod Serving
 pub mod Places
 pub mod Legality
-pub mod Least
 pub mod Recurrence
+pub mod Bridge
+pub mod Least
 pub mod Shortest
 pub mod Dropping
 pub mod Promised

@@ -1,0 +1,12 @@
+-- `whole::later` meets its contract, by the test of each branch. Assumes nothing.
+use Rattle.whole.proofs.later.Statement.{statement}
+use Rattle.whole.proofs.later.Tie as tie
+
+returns : tie.Need-returns
+returns c = rw (c .if1 .taken)
+
+returns-2 : tie.Need-returns-2
+returns-2 c = rw (c .if1 .left)
+
+pub later-spec : {M : Type 1} → statement M
+later-spec = tie.close (tie.spec returns returns-2)

@@ -1,0 +1,15 @@
+-- The laws of whole numbers in an `f64`.
+pub mod Numbers
+pub mod Values
+pub mod Whole
+pub mod Bits
+pub mod Value
+pub mod Later
+pub mod Infinity
+pub mod Order
+pub mod Monotone
+pub mod Integers
+pub mod Signed
+pub mod Difference
+pub mod Half
+pub mod Gain
