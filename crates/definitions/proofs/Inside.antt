@@ -1,0 +1,289 @@
+-- On a sheet within the limits each number is at most what the Domain allows, and each lookup of a run lies inside its table. Assumes nothing.
+use Prim.Native.Nat.{ℕ, zero, suc, _+_, _-_, _*_, _≤_, _<_}
+use native.Mathlib.Omega.{arith}
+use native.Mathlib.Nat.{mul-le-mul-right, zero-add}
+use mathlib.Core.Path.{_≡_, refl, sym, ap, subst, _∙_}
+use mathlib.Core.Bool.{Bool, true, false, cond, not, _||_}
+use mathlib.Core.List.{List, [], _∷_}
+use mathlib.Core.Option.{Option, none, some}
+use lib.ListN.{length, getD, take, drop}
+use lib.Seq.{take-length}
+use lib.Dec.{leb, ltb, eqb}
+use borrow.Author.Tests.{leb-true, ltb-true, ltb-false, lt-ltb, eqb-true}
+use Rattle.basics.specs.Tests.{by-test, either, or-left, or-right, not-false, and-left, and-right}
+use Rattle.basics.specs.Options.{Holds}
+use Rattle.basics.specs.Lists.{isEmpty, any, sum, All, Same, all-imp, any-fails, fails-not}
+use Rattle.definitions.specs.Domain.{isPlaces, isCapacity, isDemand, isPenalty, isNumber, isCall, mostCalls}
+use Rattle.definitions.specs.Sheet.{Window, Break, Customer, Sheet, records, depot, customer, distance, timeTable, time}
+use Rattle.definitions.specs.Run.{lastOf, breakAt}
+use Rattle.definitions.specs.Drop.{callsAt}
+use Rattle.definitions.specs.Refusals.{unfit, badLimit, badBreak, badWindow, badCustomer, badDepot, badSheet, Within, WithinCalls}
+
+-- ---- the most that the Domain allows
+
+-- every distance, time, service, window end, break number, limit and fixed run cost
+abbrev pub mostNumber : ℕ
+mostNumber = 10000000
+
+abbrev pub mostDemand : ℕ
+mostDemand = 32767
+
+-- a lateness penalty
+abbrev pub mostPenalty : ℕ
+mostPenalty = 1000
+
+abbrev pub Small : ℕ → Type 0
+Small n = n ≤ mostNumber
+
+pub record SmallWindow (w : Window) : Type 0 where
+  pub ready-small : Small (w .ready)
+  pub due-small : Small (w .due)
+
+pub record SmallBreak (b : Break) : Type 0 where
+  pub earliest-small : Small (b .earliest)
+  pub latest-small : Small (b .latest)
+  pub duration-small : Small (b .duration)
+
+pub record SmallCustomer (c : Customer) : Type 0 where
+  pub demand-small : c .demand ≤ mostDemand
+  pub service-small : Small (c .service)
+  pub window-small : Holds SmallWindow (c .window)
+  pub penalty-small : Holds (λ (p : ℕ). p ≤ mostPenalty) (c .penalty)
+
+-- the table that times are looked up in
+abbrev pub timesOf : Sheet → List ℕ
+timesOf s = timeTable (s .distances) (s .times)
+
+-- what is known of a sheet within the limits, fact by fact
+pub record Sized (s : Sheet) : Type 0 where
+  pub some-place : 1 ≤ s .places
+  pub few-places : s .places ≤ 64
+  pub capacity-small : s .capacity ≤ 1000000
+  pub fixed-small : Small (s .fixed)
+  pub far-small : Holds Small (s .maxDistance)
+  pub long-small : Holds Small (s .maxDuration)
+  pub rest-small : Holds SmallBreak (s .rest)
+  pub records-all : length (s .customers) ≡ s .places
+  pub records-small : All SmallCustomer (s .customers)
+  pub distances-all : length (s .distances) ≡ s .places * s .places
+  pub distances-small : All Small (s .distances)
+  pub times-all : length (timesOf s) ≡ s .places * s .places
+  pub times-small : All Small (timesOf s)
+
+-- ---- they follow from the tests
+
+-- the test number k of several, where none holds
+fails : (bs : List Bool) → either bs ≡ false → (k : ℕ) → getD bs k false ≡ false
+fails [] e k = refl
+fails (b ∷ bs) e zero = or-left b (either bs) e
+fails (b ∷ bs) e (suc k) = fails bs (or-right b (either bs) e) k
+
+kept : (n m : ℕ) → not (leb n m) ≡ false → n ≤ m
+kept n m e = leb-true n m (not-false (leb n m) e)
+
+limit-kept : (m : ℕ) (o : Option ℕ) → badLimit some (λ (n : ℕ). leb n m) o ≡ false → Holds (λ (n : ℕ). n ≤ m) o
+limit-kept m none e = tt
+limit-kept m (some n) e = kept n m e
+
+break-kept : (o : Option Break) → badBreak some o ≡ false → Holds SmallBreak o
+break-kept none e = tt
+break-kept (some b) e =
+    let f = fails (unfit some isNumber (b .earliest) ∷ unfit some isNumber (b .latest) ∷ unfit some isNumber (b .duration) ∷ []) e in
+    record {
+      earliest-small = kept (b .earliest) mostNumber (f 0);
+      latest-small = kept (b .latest) mostNumber (f 1);
+      duration-small = kept (b .duration) mostNumber (f 2);
+    }
+
+window-kept : (o : Option Window) → badWindow some o ≡ false → Holds SmallWindow o
+window-kept none e = tt
+window-kept (some w) e =
+    record {
+      ready-small = kept (w .ready) mostNumber (or-left (unfit some isNumber (w .ready)) (unfit some isNumber (w .due)) e);
+      due-small = kept (w .due) mostNumber (or-right (unfit some isNumber (w .ready)) (unfit some isNumber (w .due)) e);
+    }
+
+customer-kept : (c : Customer) → badCustomer some c ≡ false → SmallCustomer c
+customer-kept c e =
+    let f = fails (not (isDemand (c .demand)) ∷ unfit some isNumber (c .service) ∷ badWindow some (c .window) ∷ badLimit some isPenalty (c .penalty) ∷ []) e in
+    record {
+      demand-small = kept (c .demand) mostDemand (f 0);
+      service-small = kept (c .service) mostNumber (f 1);
+      window-small = window-kept (c .window) (f 2);
+      penalty-small = limit-kept mostPenalty (c .penalty) (f 3);
+    }
+
+numbers-kept : (l : List ℕ) → any (unfit some isNumber) l ≡ false → All Small l
+numbers-kept l e = all-imp (λ (n : ℕ). unfit some isNumber n ≡ false) Small (λ n h. kept n mostNumber h) l (any-fails (unfit some isNumber) l e)
+
+records-kept : (s : Sheet) → length (s .customers) ≡ s .places → any (badCustomer some) (records s) ≡ false → All SmallCustomer (s .customers)
+records-kept s z e =
+    subst (All SmallCustomer) (ap (λ (n : ℕ). take n (s .customers)) (sym z) ∙ take-length (s .customers))
+    (all-imp (λ (c : Customer). badCustomer some c ≡ false) SmallCustomer customer-kept (records s) (any-fails (badCustomer some) (records s) e))
+
+times-long : (full : ℕ) (distances times : List ℕ) → length distances ≡ full → isEmpty times || eqb (length times) full ≡ true → length (timeTable distances times) ≡ full
+times-long full distances [] z e = z
+times-long full distances (t ∷ ts) z e = eqb-true (length (t ∷ ts)) full e
+
+times-kept : (distances times : List ℕ) → All Small distances → All Small times → All Small (timeTable distances times)
+times-kept distances [] a b = a
+times-kept distances (t ∷ ts) a b = b
+
+pub sized : (s : Sheet) → Within s → Sized s
+unfolding badSheet
+sized s W =
+    record {
+      some-place = leb-true 1 (s .places) (and-left (leb 1 (s .places)) _ places);
+      few-places = leb-true (s .places) 64 (and-right (leb 1 (s .places)) _ places);
+      capacity-small = kept (s .capacity) 1000000 (f 1);
+      fixed-small = kept (s .fixed) mostNumber (f 2);
+      far-small = limit-kept mostNumber (s .maxDistance) (f 3);
+      long-small = limit-kept mostNumber (s .maxDuration) (f 4);
+      rest-small = break-kept (s .rest) (f 5);
+      records-all = W .counted;
+      records-small = records-kept s (W .counted) (f 7);
+      distances-all = square;
+      distances-small = numbers-kept (s .distances) (f 8);
+      times-all = times-long full (s .distances) (s .times) square (not-false _ (or-right (not (eqb (length (s .distances)) full)) _ (W .tables)));
+      times-small = times-kept (s .distances) (s .times) (numbers-kept (s .distances) (f 8)) (numbers-kept (s .times) (f 9));
+    }
+  where
+    full : ℕ
+    full = s .places * s .places
+
+    tests : List Bool
+    tests =
+        not (isPlaces (s .places))
+        ∷ not (isCapacity (s .capacity))
+        ∷ unfit some isNumber (s .fixed)
+        ∷ badLimit some isNumber (s .maxDistance)
+        ∷ badLimit some isNumber (s .maxDuration)
+        ∷ badBreak some (s .rest)
+        ∷ badDepot some (records s)
+        ∷ any (badCustomer some) (records s)
+        ∷ any (unfit some isNumber) (s .distances)
+        ∷ any (unfit some isNumber) (s .times)
+        ∷ []
+
+    f : (k : ℕ) → getD tests k false ≡ false
+    f = fails tests (W .ranged)
+
+    places : isPlaces (s .places) ≡ true
+    places = not-false (isPlaces (s .places)) (f 0)
+
+    square : length (s .distances) ≡ s .places * s .places
+    square = eqb-true (length (s .distances)) full (not-false _ (or-left (not (eqb (length (s .distances)) full)) _ (W .tables)))
+
+-- ---- lists
+
+module _ {A : Type 0} (P : A → Type 0) where
+  -- what each element has, and the default, a lookup has
+  pub all-getD : (l : List A) (i : ℕ) (d : A) → All P l → P d → P (getD l i d)
+  all-getD [] i d a h = h
+  all-getD (x ∷ l) zero d a h = a .0
+  all-getD (x ∷ l) (suc i) d a h = all-getD l i d (a .1) h
+
+  pub all-take : (n : ℕ) (l : List A) → All P l → All P (take n l)
+  all-take zero l a = tt
+  all-take (suc n) [] a = tt
+  all-take (suc n) (x ∷ l) a = (a .0, all-take n l (a .1))
+
+  pub all-drop : (n : ℕ) (l : List A) → All P l → All P (drop n l)
+  all-drop zero l a = a
+  all-drop (suc n) [] a = tt
+  all-drop (suc n) (x ∷ l) a = all-drop n l (a .1)
+
+-- ---- inside the tables
+
+-- the leg from a to b stands in a table of n rows, however its numbers are held
+pub leg-inside : {F : Type 0} (table : List F) (n a b : ℕ) → length table ≡ n * n → a < n → b < n → a * n + b < length table
+leg-inside table n a b z p q = omega (arith, mul-le-mul-right n p)
+
+zero-right : (m n : ℕ) → m + n ≡ 0 → n ≡ 0
+zero-right m n h = omega arith
+
+not-one : (n : ℕ) → 1 + n ≡ 0 → ⊥
+not-one n h = omega arith
+
+-- a is a place of the sheet, the depot or a customer
+abbrev pub Place : Sheet → ℕ → Type 0
+Place s a = a < s .places
+
+module _ (s : Sheet) where
+  -- the calls of a tour or a run list are few, and each is a customer
+  pub few-calls : (calls : List ℕ) → WithinCalls s calls → length calls ≤ mostCalls
+  few-calls calls e = ltb-false mostCalls (length calls) (or-left (ltb mostCalls (length calls)) _ e)
+
+  are-calls : (calls : List ℕ) → WithinCalls s calls → All (λ (c : ℕ). isCall (s .places) c ≡ true) calls
+  are-calls calls e =
+      fails-not (isCall (s .places)) calls
+      (any-fails (λ (c : ℕ). not (isCall (s .places) c)) calls (or-right (ltb mostCalls (length calls)) _ e))
+
+  pub calls-inside : (calls : List ℕ) → WithinCalls s calls → All (Place s) calls
+  calls-inside calls e =
+      all-imp (λ (c : ℕ). isCall (s .places) c ≡ true) (Place s) (λ c h. ltb-true c (s .places) (and-right (leb 1 c) _ h)) calls (are-calls calls e)
+
+  pub calls-customers : (calls : List ℕ) → WithinCalls s calls → All (λ (c : ℕ). 1 ≤ c) calls
+  calls-customers calls e =
+      all-imp (λ (c : ℕ). isCall (s .places) c ≡ true) (λ (c : ℕ). 1 ≤ c) (λ c h. leb-true 1 c (and-left (leb 1 c) _ h)) calls (are-calls calls e)
+
+  -- the last place before the return
+  pub last-inside : (a : ℕ) (calls : List ℕ) → Place s a → All (Place s) calls → Place s (lastOf a calls)
+  last-inside a [] h i = h
+  last-inside a (c ∷ cs) h i = last-inside c cs (i .0) (i .1)
+
+  -- the same calls in another order, as an improver makes them
+  pub same-inside : (xs ys : List ℕ) → Same xs ys → All (Place s) xs → All (Place s) ys
+  same-inside xs ys e a = within-of ys (sym (e outside) ∙ of-within xs a)
+    where
+      outside : ℕ → ℕ
+      outside c = cond (ltb c (s .places)) 0 1
+
+      of-within : (l : List ℕ) → All (Place s) l → sum outside l ≡ 0
+      of-within [] a = refl
+      of-within (c ∷ l) a = rw (lt-ltb c (s .places) (a .0)) (zero-add (sum outside l) ∙ of-within l (a .1))
+
+      within-of : (l : List ℕ) → sum outside l ≡ 0 → All (Place s) l
+      within-of [] h = tt
+      within-of (c ∷ l) h =
+          by-test (ltb c (s .places)) (λ t. (ltb-true c (s .places) t, within-of l (zero-right (outside c) (sum outside l) h)))
+          (λ f. absurd (not-one (sum outside l) (rw f at h)))
+
+  module _ (S : Sized s) where
+    pub depot-inside : Place s 0
+    depot-inside = S .some-place
+
+    pub distance-inside : (a b : ℕ) → Place s a → Place s b → a * s .places + b < length (s .distances)
+    distance-inside a b p q = leg-inside (s .distances) (s .places) a b (S .distances-all) p q
+
+    pub time-inside : (a b : ℕ) → Place s a → Place s b → a * s .places + b < length (timesOf s)
+    time-inside a b p q = leg-inside (timesOf s) (s .places) a b (S .times-all) p q
+
+    -- a customer's record is one of the sheet's
+    pub record-inside : (c : ℕ) → Place s c → c < length (s .customers)
+    record-inside c h = omega (arith, S .records-all)
+
+    -- a call by its number, and calls by their positions; what is beyond the tour is the depot
+    pub call-inside : (calls : List ℕ) (i : ℕ) → All (Place s) calls → Place s (getD calls i 0)
+    call-inside calls i a = all-getD (Place s) calls i 0 a depot-inside
+
+    pub held-inside : (tour held : List ℕ) → All (Place s) tour → All (Place s) (callsAt tour held)
+    held-inside tour [] a = tt
+    held-inside tour (p ∷ held) a = (call-inside tour (p - 1) a, held-inside tour held a)
+
+    -- ---- each number that is looked up is small, outside the tables too
+
+    pub distance-small : (a b : ℕ) → Small (distance s a b)
+    distance-small a b = all-getD Small (s .distances) (a * s .places + b) 0 (S .distances-small) (omega arith)
+
+    pub time-small : (a b : ℕ) → Small (time s a b)
+    time-small a b = all-getD Small (timesOf s) (a * s .places + b) 0 (S .times-small) (omega arith)
+
+    pub customer-small : (c : ℕ) → SmallCustomer (customer s c)
+    customer-small c =
+        all-getD SmallCustomer (s .customers) c depot (S .records-small)
+        (record { demand-small = omega arith; service-small = omega arith; window-small = tt; penalty-small = tt })
+
+    -- the break at a call, if it is there
+    pub break-small : (place k : ℕ) → Holds SmallBreak (breakAt s place k)
+    break-small place k = by-test (eqb place k) (λ t. rw t (S .rest-small)) (λ f. rw f tt)

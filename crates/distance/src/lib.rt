@@ -1,0 +1,2 @@
+// Legs between places.
+pub mod matrix;

@@ -1,0 +1,2 @@
+-- On whole numbers up to 2 ^ 53 the windows and limits on floats are those of the definitions.
+pub mod Exact

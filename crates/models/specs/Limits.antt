@@ -1,0 +1,13 @@
+-- Limits on floats, as the code has them. Definitions only.
+use mathlib.Core.Bool.{Bool, true, _&&_}
+use mathlib.Core.Option.{Option, none, some}
+use lib.Ieee as Ieee
+use lib.Ieee.{Float}
+
+-- at most the limit, if given
+abbrev pub withinF : Option Float → Float → Bool
+withinF none x = true
+withinF (some max) x = Ieee.le x max
+
+abbrev pub allowF : Option Float → Option Float → Float → Float → Bool
+allowF maxDistance maxDuration distance duration = withinF maxDistance distance && withinF maxDuration duration

@@ -1,0 +1,46 @@
+-- What the code's structs and enums hold, as the records of crates/definitions over floats. Definitions only.
+use mathlib.Core.Option.{Option, none, some}
+use lib.Ieee.{Float}
+use Rattle.definitions.specs.Sheet.{WindowOf, BreakOf, CustomerOf}
+use Rattle.models.specs.declared.customer.TimeWindow.{TimeWindow}
+use Rattle.models.specs.declared.customer.Opening.{Opening}
+use Rattle.models.specs.declared.customer.Opening.the-variants.{Always, Window}
+use Rattle.models.specs.declared.customer.Penalty.{Penalty}
+use Rattle.models.specs.declared.customer.Penalty.the-variants.{Hard, Soft}
+use Rattle.models.specs.declared.customer.Customer.{Customer}
+use Rattle.models.specs.declared.vehicle.VehicleBreak.{VehicleBreak}
+use Rattle.models.specs.declared.vehicle.Rest.{Rest}
+use Rattle.models.specs.declared.vehicle.Rest.the-variants.{Unbroken, Break}
+use Rattle.models.specs.declared.limits.Limit.{Limit}
+use Rattle.models.specs.declared.limits.Limit.the-variants.{Unlimited, At}
+
+abbrev pub windowOf : TimeWindow → WindowOf Float
+windowOf w = record { ready = w .ready; due = w .due }
+
+abbrev pub openingOf : Opening → Option (WindowOf Float)
+openingOf Always = none
+openingOf (Window w) = some (windowOf w)
+
+abbrev pub penaltyOf : Penalty → Option Float
+penaltyOf Hard = none
+penaltyOf (Soft p) = some p
+
+abbrev pub customerOf : Customer → CustomerOf Float
+customerOf c =
+    record {
+      demand = c .demand;
+      service = c .«service_duration»;
+      window = openingOf (c .«time_window»);
+      penalty = penaltyOf (c .«lateness_penalty»);
+    }
+
+abbrev pub breakOf : VehicleBreak → BreakOf Float
+breakOf b = record { earliest = b .earliest; latest = b .latest; duration = b .duration }
+
+abbrev pub restOf : Rest → Option (BreakOf Float)
+restOf Unbroken = none
+restOf (Break b) = some (breakOf b)
+
+abbrev pub limitOf : Limit → Option Float
+limitOf Unlimited = none
+limitOf (At max) = some max

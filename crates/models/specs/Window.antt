@@ -1,0 +1,19 @@
+-- Windows on floats, step by step as the code has them. Definitions only.
+use mathlib.Core.Bool.{Bool, cond}
+use lib.Ieee as Ieee
+use lib.Ieee.{Float, binary64}
+use Rattle.definitions.specs.Sheet.{WindowOf}
+use Rattle.whole.specs.Whole.{fl}
+use Rattle.whole.specs.Later.{laterF}
+
+-- late means arrival above due
+abbrev pub lateF : WindowOf Float → Float → Bool
+lateF w arrival = Ieee.lt (w .due) arrival
+
+-- waiting is ready minus arrival, if positive
+abbrev pub waitingF : WindowOf Float → Float → Float
+waitingF w arrival = cond (Ieee.lt arrival (w .ready)) (Ieee.sub binary64 (w .ready) arrival) (fl 0)
+
+-- the later of 0 and arrival minus due
+abbrev pub latenessF : WindowOf Float → Float → Float
+latenessF w arrival = laterF (Ieee.sub binary64 arrival (w .due)) (fl 0)
