@@ -3,6 +3,23 @@
 pub mod Cases
 pub mod ListingCases
 pub mod Decimal
+-- The reader: what `encode` writes is read back, and only that is accepted; the leftmost bad word counts.
+pub mod ReaderCases
+pub mod ByKind
+pub mod Says
+pub mod Ranges
+pub mod Good
+pub mod Accepts
+pub mod ReadsBack
+pub mod Inverts
+pub mod OnlySheets
+pub mod Bytes
+pub mod Files
+pub mod Leftmost
+pub mod Enough
+-- The refusals of the other calls, and what an accepted call is known to be.
+pub mod RefusalCases
+pub mod Accepted
 -- The break: serving is monotone in time, and the clock is as good as any place.
 pub mod Serving
 pub mod Places

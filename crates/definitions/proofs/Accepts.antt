@@ -1,0 +1,286 @@
+-- The words of a good sheet and tour are accepted.
+use Prim.Native.Nat.{ℕ, suc, pred, _+_, _*_, _≤_, _<_}
+use native.Mathlib.Omega.{arith}
+use native.Mathlib.Nat.{mul-le-mul}
+use mathlib.Core.Path.{_≡_, refl, sym, ap, subst, _∙_}
+use mathlib.Core.Bool.{Bool, true, false, _&&_, not}
+use mathlib.Core.List.{List, [], _∷_, _++_, append-assoc, cons≢nil}
+use mathlib.Core.Option.{Option, none, some}
+use mathlib.Core.Logic.{inl, inr}
+use lib.ListN.{length, length-append}
+use lib.Dec.{eqb, ltb, leb, eqb·suc-zero}
+use borrow.Author.Tests.{leb-true, eq-eqb, lt-ltb, le-ltb, lt-leb}
+use Rattle.basics.specs.Tests.{by-test, and-left}
+use Rattle.basics.specs.Options.{Holds, IfAny}
+use Rattle.basics.specs.Lists.{All, Passes}
+use Rattle.definitions.specs.Domain.{isPenalty, isNumber, isCall}
+use Rattle.definitions.specs.Sheet.{Window, Break, Customer, Sheet}
+use Rattle.definitions.specs.Words.{Word, word}
+use Rattle.definitions.specs.Encoding.{optional, breakWords, windowWords, customerWords}
+use Rattle.definitions.specs.Reader.{State, start, next, onward, mayStand, inRange, pairFalls, among, faultAt, accepted, behind, walk}
+use Rattle.definitions.proofs.Says.{callWords, timeWords, tableWords, limitWords, allWords, others}
+use Rattle.definitions.proofs.Good.{GoodWindow, GoodBreak, GoodCustomer, AsMany, GoodSheet, GoodCalls}
+
+-- the state behind the word of kind k and value v, the r-th of its kind in a row
+abbrev pub behindWord : ℕ → ℕ → ℕ → ℕ → ℕ → State
+behindWord k v r n d = record { last = word k v; row = r; places = n; coming = d }
+
+-- a good word
+pub record Fine (s : State) (i k v : ℕ) : Type 0 where
+  pub stands : among k (mayStand s) ≡ true
+  pub ranged : inRange s (word k v) ≡ true
+  pub paired : pairFalls s (word k v) ≡ false
+
+no-fault : (s : State) (i k v : ℕ) → Fine s i k v → eqb k 0xF && not (eqb v i) ≡ false → faultAt s i (word k v) ≡ none
+unfolding faultAt
+no-fault s i k v F h = rw (F .stands, F .ranged, F .paired, h)
+
+pub step : (s : State) (i k v : ℕ) (ws : List Word) (left : Bool) → eqb k 0xF ≡ false → Fine s i k v → walk s i (word k v ∷ ws) left ≡ walk (next s (word k v)) (suc i) ws left
+unfolding walk
+step s i k v ws left n F = let e : eqb k 0xF && not (eqb v i) ≡ false = rw n refl in rw (no-fault s i k v F e, n)
+
+pub last-step : (s : State) (i v : ℕ) → Fine s i 0xF v → v ≡ i → walk s i (word 0xF v ∷ []) false ≡ accepted
+unfolding walk
+last-step s i v F e = let h : not (eqb v i) ≡ false = rw (eq-eqb v i e) refl in rw (no-fault s i 0xF v F h)
+
+-- ---- the tour and F
+
+abbrev Accepted : State → ℕ → List Word → Type 0
+Accepted s i ws = walk s i ws false ≡ accepted
+
+tour-ok : (v r n d i : ℕ) (tour : List ℕ) (f : ℕ) → Passes (isCall n) tour → r + length tour ≤ 128 → f ≡ i + length tour
+    → Accepted (behindWord 0xE v r n d) i (callWords tour f)
+unfolding mayStand inRange pairFalls
+tour-ok v r n d i [] f a h e = last-step (behindWord 0xE v r n d) i f (record { stands = refl; ranged = refl; paired = refl }) (omega arith)
+tour-ok v r n d i (c ∷ tour) f a h e =
+    step (behindWord 0xE v r n d) i 0xE c (callWords tour f) false refl
+    (record { stands = refl; ranged = rw (a .0, lt-leb 128 r (omega arith)) refl; paired = refl })
+    ∙ tour-ok c (suc r) n d (suc i) tour f (a .1) (omega arith) (omega arith)
+
+-- from a state that a tour may follow
+tour-from : (k v r n d i : ℕ) (tour : List ℕ) (f : ℕ) → eqb 0xE k ≡ false → eqb k 0xE ≡ false
+    → among 0xE (mayStand (behindWord k v r n d)) ≡ true → among 0xF (mayStand (behindWord k v r n d)) ≡ true
+    → GoodCalls n tour → f ≡ i + length tour → Accepted (behindWord k v r n d) i (callWords tour f)
+unfolding inRange pairFalls
+tour-from k v r n d i [] f p q mE mF C e = last-step (behindWord k v r n d) i f (record { stands = mF; ranged = refl; paired = refl }) (omega arith)
+tour-from k v r n d i (c ∷ tour) f p q mE mF C e =
+    step (behindWord k v r n d) i 0xE c (callWords tour f) false refl
+    (record { stands = mE; ranged = rw (C .each .0, q) refl; paired = refl })
+    ∙ rw p (tour-ok c 1 n d (suc i) tour f (C .each .1) (omega (arith, C .few)) (omega arith))
+
+-- ---- the tables
+
+times-ok : (v r n d i : ℕ) (ts tour : List ℕ) (f : ℕ) → Passes isNumber ts → r + length ts ≡ n * n → GoodCalls n tour
+    → f ≡ i + length ts + length tour → Accepted (behindWord 0xD v r n d) i (timeWords ts tour f)
+unfolding mayStand inRange pairFalls
+times-ok v r n d i [] tour f a h C e =
+    let full : ltb r (n * n) ≡ false = le-ltb r (n * n) (omega arith) in
+    tour-from 0xD v r n d i tour f refl refl (rw full refl) (rw full refl) C (omega arith)
+times-ok v r n d i (t ∷ ts) tour f a h C e =
+    step (behindWord 0xD v r n d) i 0xD t (timeWords ts tour f) false refl
+    (record { stands = rw (lt-ltb r (n * n) (omega arith)) refl; ranged = a .0; paired = refl })
+    ∙ times-ok t (suc r) n d (suc i) ts tour f (a .1) (omega arith) C (omega arith)
+
+distances-ok : (v r n d i : ℕ) (ds ts tour : List ℕ) (f : ℕ) → 0 < n * n → Passes isNumber ds → r + length ds ≡ n * n → Passes isNumber ts → AsMany (n * n) ts
+    → GoodCalls n tour → f ≡ i + length ds + length ts + length tour → Accepted (behindWord 0xC v r n d) i (tableWords ds ts tour f)
+unfolding mayStand inRange pairFalls
+distances-ok v r n d i [] [] tour f z a h at m C e =
+    let full : ltb r (n * n) ≡ false = le-ltb r (n * n) (omega arith) in
+    tour-from 0xC v r n d i tour f refl refl (rw full refl) (rw full refl) C (omega arith)
+distances-ok v r n d i [] (t ∷ ts) tour f z a h at m C e =
+    step (behindWord 0xC v r n d) i 0xD t (timeWords ts tour f) false refl
+    (record { stands = rw (le-ltb r (n * n) (omega arith)) refl; ranged = at .0; paired = refl })
+    ∙ times-ok t 1 n d (suc i) ts tour f (at .1) (many m) C (omega arith)
+  where
+    many : AsMany (n * n) (t ∷ ts) → 1 + length ts ≡ n * n
+    many (inl x) = absurd (cons≢nil x)
+    many (inr x) = omega arith
+distances-ok v r n d i (c ∷ ds) ts tour f z a h at m C e =
+    step (behindWord 0xC v r n d) i 0xC c (tableWords ds ts tour f) false refl
+    (record { stands = rw (lt-ltb r (n * n) (omega arith)) refl; ranged = a .0; paired = refl })
+    ∙ distances-ok c (suc r) n d (suc i) ds ts tour f z (a .1) (omega arith) at m C (omega arith)
+
+-- ---- the customers
+
+-- a kind, and how many of it in a row, behind which the next customer or the distances stand
+pub record Ends (k r : ℕ) : Type 0 where
+  pub on : (v n d : ℕ) → among (onward (behindWord k v r n d)) (mayStand (behindWord k v r n d)) ≡ true
+  pub fresh : eqb 0xC k ≡ false
+
+ends-by : (k r : ℕ) → eqb 0xC k ≡ false
+    → ((v n d : ℕ) → eqb d 0 ≡ true → among (onward (behindWord k v r n d)) (mayStand (behindWord k v r n d)) ≡ true)
+    → ((v n d : ℕ) → eqb d 0 ≡ false → among (onward (behindWord k v r n d)) (mayStand (behindWord k v r n d)) ≡ true) → Ends k r
+ends-by k r h y z = record { on = λ v n d. by-test (eqb d 0) (y v n d) (z v n d); fresh = h }
+
+pub ends-3 : Ends 3 1
+unfolding mayStand
+ends-3 = ends-by 3 1 refl (λ v n d e. rw e refl) (λ v n d e. rw e refl)
+
+pub ends-4 : Ends 4 1
+unfolding mayStand
+ends-4 = ends-by 4 1 refl (λ v n d e. rw e refl) (λ v n d e. rw e refl)
+
+pub ends-5 : Ends 5 1
+unfolding mayStand
+ends-5 = ends-by 5 1 refl (λ v n d e. rw e refl) (λ v n d e. rw e refl)
+
+pub ends-6 : Ends 6 3
+unfolding mayStand
+ends-6 = ends-by 6 3 refl (λ v n d e. rw e refl) (λ v n d e. rw e refl)
+
+pub ends-8 : Ends 8 1
+unfolding mayStand
+ends-8 = ends-by 8 1 refl (λ v n d e. rw e refl) (λ v n d e. rw e refl)
+
+pub ends-A : Ends 0xA 1
+unfolding mayStand
+ends-A = ends-by 0xA 1 refl (λ v n d e. rw e refl) (λ v n d e. rw e refl)
+
+pub ends-B : Ends 0xB 1
+unfolding mayStand
+ends-B = ends-by 0xB 1 refl (λ v n d e. rw e refl) (λ v n d e. rw e refl)
+
+-- what is left to show: the rest is accepted wherever it begins
+record Onward (n d i : ℕ) (rest : List Word) : Type 0 where
+  from : (k v r : ℕ) → Ends k r → Accepted (behindWord k v r n d) i rest
+
+-- the same index, written otherwise
+at-index : {n d i j : ℕ} {rest : List Word} → Onward n d i rest → i ≡ j → Onward n d j rest
+at-index {n} {d} {rest} on e = subst (λ (q : ℕ). Onward n d q rest) e on
+
+penalty-ok : (p : Option ℕ) (k v n d i : ℕ) (rest : List Word) → IfAny isPenalty p → Ends k 1 → among 0xB (mayStand (behindWord k v 1 n d)) ≡ true
+    → Onward n d (i + length (optional 0xB p)) rest → eqb 0xB k ≡ false → Accepted (behindWord k v 1 n d) i (optional 0xB p ++ rest)
+unfolding inRange pairFalls
+penalty-ok none k v n d i rest g E m on h = at-index {j = i} on (omega arith) .from k v 1 E
+penalty-ok (some p) k v n d i rest g E m on h =
+    step (behindWord k v 1 n d) i 0xB p rest false refl (record { stands = m; ranged = g; paired = refl }) ∙ rw h (at-index {j = suc i} on (omega arith) .from 0xB p 1 ends-B)
+
+-- behind an 8: window and penalty
+inner-ok : (w : Option Window) (p : Option ℕ) (v n d i : ℕ) (rest : List Word) → Holds GoodWindow w → IfAny isPenalty p
+    → Onward n d (i + length (windowWords w) + length (optional 0xB p)) rest → Accepted (behindWord 8 v 1 n d) i (windowWords w ++ (optional 0xB p ++ rest))
+unfolding mayStand inRange pairFalls
+inner-ok none p v n d i rest g h on = penalty-ok p 8 v n d i rest h ends-8 refl (at-index on (omega arith)) refl
+inner-ok (some w) p v n d i rest g h on =
+    step (behindWord 8 v 1 n d) i 9 (w .ready) (word 0xA (w .due) ∷ (optional 0xB p ++ rest)) false refl (record { stands = refl; ranged = g .ready; paired = refl })
+    ∙ step (behindWord 9 (w .ready) 1 n d) (suc i) 0xA (w .due) (optional 0xB p ++ rest) false refl (record { stands = refl; ranged = g .due; paired = g .rises })
+    ∙ penalty-ok p 0xA (w .due) n d (suc (suc i)) rest h ends-A refl (at-index on (omega arith)) refl
+
+seven-next : (k v r n d : ℕ) → Ends k r → among 7 (mayStand (behindWord k v r n (suc d))) ≡ true
+seven-next k v r n d E =
+    let s = behindWord k v r n (suc d) in
+    let seven : onward s ≡ 7 = rw (eqb·suc-zero d) refl in
+    sym (ap (λ (j : ℕ). among j (mayStand s)) seven) ∙ E .on v n (suc d)
+
+customers-ok : (cs : List Customer) (k v r n i : ℕ) (rest : List Word) → All GoodCustomer cs → Ends k r
+    → Onward n 0 (i + length (customerWords cs)) rest → Accepted (behindWord k v r n (length cs)) i (customerWords cs ++ rest)
+unfolding mayStand inRange pairFalls
+customers-ok [] k v r n i rest g E on = at-index {j = i} on (omega arith) .from k v r E
+customers-ok (c ∷ cs) k v r n i rest g E on =
+    ap (λ (l : List Word). walk (behindWord k v r n (suc (length cs))) i l false) split
+    ∙ step (behindWord k v r n (suc (length cs))) i 7 (c .demand) (word 8 (c .service) ∷ (inner ++ (customerWords cs ++ rest))) false refl
+    (record { stands = seven-next k v r n (length cs) E; ranged = g .0 .demand; paired = refl })
+    ∙ step (next (behindWord k v r n (suc (length cs))) (word 7 (c .demand))) (suc i) 8 (c .service) (inner ++ (customerWords cs ++ rest)) false refl
+    (record { stands = refl; ranged = g .0 .service; paired = refl })
+    ∙ ap (λ (l : List Word). walk (behindWord 8 (c .service) 1 n (length cs)) (suc (suc i)) l false) (append-assoc (windowWords (c .window)) (optional 0xB (c .penalty)) (customerWords cs ++ rest))
+    ∙ inner-ok (c .window) (c .penalty) (c .service) n (length cs) (suc (suc i)) (customerWords cs ++ rest) (g .0 .window) (g .0 .penalty)
+    (record { from = λ k' v' r' E'. customers-ok cs k' v' r' n j rest (g .1) E' (at-index on total) })
+  where
+    inner : List Word
+    inner = windowWords (c .window) ++ optional 0xB (c .penalty)
+
+    j : ℕ
+    j = suc (suc i) + length (windowWords (c .window)) + length (optional 0xB (c .penalty))
+
+    split : customerWords (c ∷ cs) ++ rest ≡ word 7 (c .demand) ∷ word 8 (c .service) ∷ (inner ++ (customerWords cs ++ rest))
+    split = simp append-assoc
+
+    total : i + length (customerWords (c ∷ cs)) ≡ j + length (customerWords cs)
+    total =
+        omega (arith, length-append (windowWords (c .window) ++ optional 0xB (c .penalty)) (customerWords cs), length-append (windowWords (c .window)) (optional 0xB (c .penalty)))
+
+-- ---- all but the three first words
+
+tables-ok : (k v r n i : ℕ) (ds ts tour : List ℕ) (f : ℕ) → Ends k r → 0 < n * n → Passes isNumber ds → length ds ≡ n * n → Passes isNumber ts → AsMany (n * n) ts
+    → GoodCalls n tour → f ≡ i + length ds + length ts + length tour → Accepted (behindWord k v r n 0) i (tableWords ds ts tour f)
+unfolding inRange pairFalls
+tables-ok k v r n i [] ts tour f E z a h at m C e = absurd (none-due z h)
+  where
+    none-due : 0 < n * n → 0 ≡ n * n → ⊥
+    none-due x y = omega arith
+tables-ok k v r n i (c ∷ ds) ts tour f E z a h at m C e =
+    step (behindWord k v r n 0) i 0xC c (tableWords ds ts tour f) false refl (record { stands = E .on v n 0; ranged = a .0; paired = refl })
+    ∙ rw (E .fresh) (distances-ok c 1 n 0 (suc i) ds ts tour f z (a .1) (omega arith) at m C (omega arith))
+
+break-ok : (b : Option Break) (k v n d i : ℕ) (rest : List Word) → Holds GoodBreak b → Ends k 1 → among 6 (mayStand (behindWord k v 1 n d)) ≡ true
+    → eqb 6 k ≡ false → eqb k 6 ≡ false → Onward n d (i + length (breakWords b)) rest → Accepted (behindWord k v 1 n d) i (breakWords b ++ rest)
+unfolding mayStand inRange pairFalls
+break-ok none k v n d i rest g E m h h' on = at-index {j = i} on (omega arith) .from k v 1 E
+break-ok (some b) k v n d i rest g E m h h' on =
+    step (behindWord k v 1 n d) i 6 (b .earliest) (word 6 (b .latest) ∷ word 6 (b .duration) ∷ rest) false refl (record { stands = m; ranged = g .earliest; paired = rw h' refl })
+    ∙ rw h
+    (step (behindWord 6 (b .earliest) 1 n d) (suc i) 6 (b .latest) (word 6 (b .duration) ∷ rest) false refl (record { stands = refl; ranged = g .latest; paired = g .rises })
+    ∙ step (behindWord 6 (b .latest) 2 n d) (suc (suc i)) 6 (b .duration) rest false refl (record { stands = refl; ranged = g .duration; paired = refl })
+    ∙ at-index {j = suc (suc (suc i))} on (omega arith) .from 6 (b .duration) 3 ends-6)
+
+limits-ok : (dl tl : Option ℕ) (br : Option Break) (v n d i : ℕ) (rest : List Word) → IfAny isNumber dl → IfAny isNumber tl → Holds GoodBreak br
+    → Onward n d (i + length (optional 4 dl) + length (optional 5 tl) + length (breakWords br)) rest → Accepted (behindWord 3 v 1 n d) i (limitWords dl tl br rest)
+unfolding mayStand inRange pairFalls
+limits-ok none none br v n d i rest a b g on = break-ok br 3 v n d i rest g ends-3 refl refl refl (at-index on (omega arith))
+limits-ok none (some t) br v n d i rest a b g on =
+    step (behindWord 3 v 1 n d) i 5 t (breakWords br ++ rest) false refl (record { stands = refl; ranged = b; paired = refl })
+    ∙ break-ok br 5 t n d (suc i) rest g ends-5 refl refl refl (at-index on (omega arith))
+limits-ok (some l) none br v n d i rest a b g on =
+    step (behindWord 3 v 1 n d) i 4 l (breakWords br ++ rest) false refl (record { stands = refl; ranged = a; paired = refl })
+    ∙ break-ok br 4 l n d (suc i) rest g ends-4 refl refl refl (at-index on (omega arith))
+limits-ok (some l) (some t) br v n d i rest a b g on =
+    step (behindWord 3 v 1 n d) i 4 l (word 5 t ∷ (breakWords br ++ rest)) false refl (record { stands = refl; ranged = a; paired = refl })
+    ∙ step (behindWord 4 l 1 n d) (suc i) 5 t (breakWords br ++ rest) false refl (record { stands = refl; ranged = b; paired = refl })
+    ∙ break-ok br 5 t n d (suc (suc i)) rest g ends-5 refl refl refl (at-index on (omega arith))
+
+-- ---- the whole sheet
+
+-- how many words stand before the customers' words, and before F
+abbrev limitsEnd : Sheet → ℕ
+limitsEnd s = 3 + length (optional 4 (s .maxDistance)) + length (optional 5 (s .maxDuration)) + length (breakWords (s .rest))
+
+abbrev pub wordCount : Sheet → List ℕ → ℕ
+wordCount s tour = limitsEnd s + length (customerWords (others s)) + length (s .distances) + length (s .times) + length tour
+
+pub all-ok : (s : Sheet) (tour : List ℕ) → GoodSheet s → GoodCalls (s .places) tour → walk start 0 (allWords s tour (wordCount s tour)) false ≡ accepted
+unfolding mayStand inRange pairFalls
+all-ok s tour G C =
+    step start 0 1 n (word 2 (s .capacity) ∷ word 3 (s .fixed) ∷ rest) false refl (record { stands = refl; ranged = G .places; paired = refl })
+    ∙ step (behindWord 1 n 1 n (pred n)) 1 2 (s .capacity) (word 3 (s .fixed) ∷ rest) false refl (record { stands = refl; ranged = G .capacity; paired = refl })
+    ∙ step (behindWord 2 (s .capacity) 1 n (pred n)) 2 3 (s .fixed) rest false refl (record { stands = refl; ranged = G .fixed; paired = refl })
+    ∙ limits-ok (s .maxDistance) (s .maxDuration) (s .rest) (s .fixed) n (pred n) 3 behind (G .maxDistance) (G .maxDuration) (G .rest) from-customers
+  where
+    n : ℕ
+    n = s .places
+
+    tables : List Word
+    tables = tableWords (s .distances) (s .times) tour (wordCount s tour)
+
+    behind : List Word
+    behind = customerWords (others s) ++ tables
+
+    rest : List Word
+    rest = limitWords (s .maxDistance) (s .maxDuration) (s .rest) behind
+
+    some-place : 1 ≤ n
+    some-place = leb-true 1 n (and-left (leb 1 n) (leb n 64) (G .places))
+
+    from-tables : Onward n 0 (limitsEnd s + length (customerWords (others s))) tables
+    from-tables = record {
+      from = λ k v r E.
+          tables-ok k v r n (limitsEnd s + length (customerWords (others s))) (s .distances) (s .times) tour (wordCount s tour) E (mul-le-mul some-place some-place) (G .distances) (G .square)
+          (G .times) (G .as-many) C refl;
+    }
+
+    others-counted : length (others s) ≡ pred n
+    others-counted = omega (arith, G .counted, ap length (G .first))
+
+    from-customers : Onward n (pred n) (limitsEnd s) behind
+    from-customers = record {
+      from = λ k v r E.
+          subst (λ (d : ℕ). Accepted (behindWord k v r n d) (limitsEnd s) behind) others-counted (customers-ok (others s) k v r n (limitsEnd s) tables (G .customers) E from-tables);
+    }

@@ -1,0 +1,303 @@
+-- The longest sheet has 8,644 words, and of a longer file no more than one byte behind them is needed to answer.
+use Prim.Native.Nat.{ℕ, zero, suc, _+_, _-_, _*_, pred, _≤_, _<_}
+use native.Mathlib.Omega.{arith}
+use native.Mathlib.Nat.{mul-le-mul}
+use mathlib.Core.Path.{_≡_, refl, sym, ap, subst}
+use mathlib.Core.Bool.{Bool, true, false, cond, _&&_, not, true≢false}
+use mathlib.Core.List.{List, [], _∷_, _++_}
+use mathlib.Core.Option.{Option, none, some}
+use mathlib.Core.Logic.{_⊎_, inl, inr}
+use lib.ListN.{length}
+use lib.Dec.{eqb, ltb, leb}
+use borrow.Author.Tests.{eqb-true, eqb-false, ltb-true, leb-true, leb-false, not-true}
+use Rattle.basics.specs.Tests.{by-test, and-left, and-right}
+use Rattle.basics.specs.Options.{clash}
+use Rattle.definitions.specs.Domain.{isCall}
+use Rattle.definitions.specs.Words.{Word, word, wordOf, littleEndian, wordsOf, leftOver}
+use Rattle.definitions.specs.Reader.{State, start, next, After, lookup, onward, table, mayStand, inRange, among, faultAt, Outcome, refused, behind, unless, walk, read, readWords}
+use Rattle.definitions.proofs.Accepts.{behindWord}
+use Rattle.definitions.proofs.ByKind.{ByKind, no-other, _or_, by-kind}
+
+-- how many words may come before F, from the next customer on
+abbrev rest : ℕ → ℕ → ℕ
+rest n d = 5 * d + (n * n + n * n) + 128
+
+-- a line of the table below: behind a word of this kind so many words may come before F
+record Most : Type 0 where
+  kind : ℕ
+  words : ℕ
+
+abbrev most-of : ℕ → ℕ → Most
+most-of k n = record { kind = k; words = n }
+
+abbrev wordsOr : ℕ → ℕ → List Most → ℕ
+wordsOr n k [] = n
+wordsOr n k (m ∷ more) = cond (eqb k (m .kind)) (m .words) (wordsOr n k more)
+
+-- how many words may come before F, behind a word of kind k, the r-th in a row
+abbrev most : ℕ → ℕ → ℕ → ℕ → ℕ
+most k r n d =
+    wordsOr (128 - r) k
+    (most-of 16 8643
+    ∷ most-of 1 (7 + rest n d)
+    ∷ most-of 2 (6 + rest n d)
+    ∷ most-of 3 (5 + rest n d)
+    ∷ most-of 4 (4 + rest n d)
+    ∷ most-of 5 (3 + rest n d)
+    ∷ most-of 6 ((3 - r) + rest n d)
+    ∷ most-of 7 (4 + rest n d)
+    ∷ most-of 8 (3 + rest n d)
+    ∷ most-of 9 (2 + rest n d)
+    ∷ most-of 0xA (1 + rest n d)
+    ∷ most-of 0xB (0 + rest n d)
+    ∷ most-of 0xC ((n * n - r) + n * n + 128)
+    ∷ most-of 0xD ((n * n - r) + 128)
+    ∷ [])
+
+abbrev mostFrom : State → ℕ
+mostFrom s = most (s .last .kind) (s .row) (s .places) (s .coming)
+
+-- each line of the table of kinds
+infixr 5 _then_
+data ByLine (Q : ℕ → List ℕ → Type 0) : List After → Type 0 where
+  no-line : ByLine Q []
+  _then_ : {a : After} {more : List After} → Q (a .kind) (a .kinds) → ByLine Q more → ByLine Q (a ∷ more)
+
+by-line : (Q : ℕ → List ℕ → Type 0) (lines : List After) (k : ℕ) → Q k [] → ByLine Q lines → Q k (lookup k lines)
+by-line Q [] k e no-line = e
+by-line Q (a ∷ more) k e (q then qs) =
+    by-test (eqb k (a .kind))
+    (λ t. rw t (subst (λ (j : ℕ). Q j (a .kinds)) (sym (eqb-true k (a .kind) t)) q))
+    (λ f. rw f (by-line Q more k e qs))
+
+by-cond : {A : Type 0} (P : A → Type 0) (t : Bool) (x y : A) → (t ≡ true → P x) → (t ≡ false → P y) → P (cond t x y)
+by-cond P true x y p q = p refl
+by-cond P false x y p q = q refl
+
+square : (n : ℕ) → 1 ≤ n → 1 ≤ n * n
+square n h = mul-le-mul h h
+
+module _ (v r n d u : ℕ) where
+  -- behind a word of kind k, the next of kind j and value u: where it is in range and not F, it lowers the number
+  abbrev Lower : ℕ → ℕ → Type 0
+  Lower k j = inRange (behindWord k v r n d) (word j u) ≡ true → eqb j 0xF ≡ false → mostFrom (next (behindWord k v r n d) (word j u)) < most k r n d
+
+  abbrev on : ℕ
+  on = onward (behindWord 0 0 r n d)
+
+  -- the first word says how many places there are
+  places-line : ByKind (Lower 16) (1 ∷ [])
+  unfolding inRange
+  places-line = (λ g f. few u (leb-true u 64 (and-right (leb 1 u) (leb u 64) g))) or no-other
+    where
+      few : (u : ℕ) → u ≤ 64 → 7 + rest u (pred u) < 8643
+      few u h = omega (arith, mul-le-mul h h)
+
+  -- words before the next customer
+  fewer : {A B : Type 0} (a b : ℕ) → a < b → A → B → a + rest n d < b + rest n d
+  fewer a b h g f = omega arith
+
+  -- the next customer's first word, or the first distance
+  onwards : 1 ≤ n → (k : ℕ) → eqb 0xC k ≡ false → rest n d ≤ most k r n d → ByKind (Lower k) (on ∷ [])
+  onwards z k c m =
+      by-cond (Lower k) (eqb d 0) 0xC 7
+      (λ t g f. rw c (omega (arith, square n z, eqb-true d 0 t)))
+      (λ t g f. next-customer (eqb-false d 0 t))
+      or no-other
+    where
+      some-coming : (d ≡ 0 → ⊥) → 1 ≤ d
+      some-coming h = omega arith
+
+      next-customer : (d ≡ 0 → ⊥) → 4 + rest n (pred d) < most k r n d
+      next-customer h = omega (arith, some-coming h)
+
+  at-least : (a : ℕ) → rest n d ≤ a + rest n d
+  at-least a = omega arith
+
+  break-line : 1 ≤ n → ByKind (Lower 6) (cond (ltb r 3) (6 ∷ []) (on ∷ []))
+  break-line z =
+      by-cond (ByKind (Lower 6)) (ltb r 3) (6 ∷ []) (on ∷ [])
+      (λ t. fewer (3 - suc r) (3 - r) (omega (arith, ltb-true r 3 t)) or no-other)
+      (λ t. onwards z 6 refl (at-least (3 - r)))
+
+  distance-line : 1 ≤ n → ByKind (Lower 0xC) (cond (ltb r (n * n)) (0xC ∷ []) (0xD ∷ 0xE ∷ 0xF ∷ []))
+  distance-line z =
+      by-cond (ByKind (Lower 0xC)) (ltb r (n * n)) (0xC ∷ []) (0xD ∷ 0xE ∷ 0xF ∷ [])
+      (λ t. (λ g f. omega (arith, ltb-true r (n * n) t)) or no-other)
+      (λ t. (λ g f. omega (arith, square n z)) or (λ g f. omega arith) or (λ g f. absurd (true≢false f)) or no-other)
+
+  time-line : ByKind (Lower 0xD) (cond (ltb r (n * n)) (0xD ∷ []) (0xE ∷ 0xF ∷ []))
+  time-line =
+      by-cond (ByKind (Lower 0xD)) (ltb r (n * n)) (0xD ∷ []) (0xE ∷ 0xF ∷ [])
+      (λ t. (λ g f. omega (arith, ltb-true r (n * n) t)) or no-other)
+      (λ t. (λ g f. omega arith) or (λ g f. absurd (true≢false f)) or no-other)
+
+  call-line : ByKind (Lower 0xE) (0xE ∷ 0xF ∷ [])
+  unfolding inRange
+  call-line = (λ g f. next-call g) or (λ g f. absurd (true≢false f)) or no-other
+    where
+      next-call : isCall n u && not (leb 128 r) ≡ true → 128 - suc r < 128 - r
+      next-call h = omega (arith, leb-false 128 r (not-true (leb 128 r) (and-right (isCall n u) (not (leb 128 r)) h)))
+
+  lines : 1 ≤ n → ByLine (λ k ks. ByKind (Lower k) ks) (table (behindWord 0 0 r n d))
+  lines z =
+      places-line
+      then (fewer 6 7 (omega arith) or no-other)
+      then (fewer 5 6 (omega arith) or no-other)
+      then (fewer 4 5 (omega arith) or fewer 3 5 (omega arith) or fewer 2 5 (omega arith) or onwards z 3 refl (at-least 5))
+      then (fewer 3 4 (omega arith) or fewer 2 4 (omega arith) or onwards z 4 refl (at-least 4))
+      then (fewer 2 3 (omega arith) or onwards z 5 refl (at-least 3))
+      then break-line z
+      then (fewer 3 4 (omega arith) or no-other)
+      then (fewer 2 3 (omega arith) or fewer 0 3 (omega arith) or onwards z 8 refl (at-least 3))
+      then (fewer 1 2 (omega arith) or no-other)
+      then (fewer 0 1 (omega arith) or onwards z 0xA refl (at-least 1))
+      then onwards z 0xB refl (at-least 0)
+      then distance-line z
+      then time-line
+      then call-line
+      then no-line
+
+-- no word yet, or some place
+abbrev Begun : State → Type 0
+Begun s = (s .last .kind ≡ 16) ⊎ (1 ≤ s .places)
+
+-- a good word that is not F lowers it
+lowers : (s : State) (w : Word) → Begun s → among (w .kind) (mayStand s) ≡ true → inRange s w ≡ true → eqb (w .kind) 0xF ≡ false → mostFrom (next s w) < mostFrom s
+unfolding mayStand
+lowers s w b m g f = by-kind (Lower v r n d u k) (mayStand s) (w .kind) (go b) m g f
+  where
+    k : ℕ
+    k = s .last .kind
+
+    v : ℕ
+    v = s .last .value
+
+    r : ℕ
+    r = s .row
+
+    n : ℕ
+    n = s .places
+
+    d : ℕ
+    d = s .coming
+
+    u : ℕ
+    u = w .value
+
+    go : Begun s → ByKind (Lower v r n d u k) (mayStand s)
+    go (inl e) = subst (λ (q : ℕ). ByKind (Lower v r n d u q) (lookup q (table s))) (sym e) (places-line v r n d u)
+    go (inr z) = by-line (λ q ks. ByKind (Lower v r n d u q) ks) (table s) k no-other (lines v r n d u z)
+
+-- ---- the answer
+
+-- what a word without fault passed
+fine : (s : State) (i : ℕ) (w : Word) → faultAt s i w ≡ none → (among (w .kind) (mayStand s) ≡ true) × (inRange s w ≡ true)
+unfolding faultAt
+fine s i w h =
+    by-test (among (w .kind) (mayStand s))
+    (λ a. by-test (inRange s w) (λ b. (a, b)) (λ b. clash (sym (rw (a, b) at h))))
+    (λ a. clash (sym (rw a at h)))
+
+begun-next : (s : State) (w : Word) → Begun s → among (w .kind) (mayStand s) ≡ true → inRange s w ≡ true → 1 ≤ next s w .places
+unfolding mayStand inRange
+begun-next s w b m g =
+    by-test (eqb (w .kind) 1)
+    (λ t. rw t (leb-true 1 (w .value) (and-left (leb 1 (w .value)) (leb (w .value) 64)
+    (subst (λ (k : ℕ). inRange s (word k (w .value)) ≡ true) (eqb-true (w .kind) 1 t) g))))
+    (λ f. rw f (go b f))
+  where
+    go : Begun s → eqb (w .kind) 1 ≡ false → 1 ≤ s .places
+    go (inr h) f = h
+    go (inl e) f =
+        by-kind (λ (j : ℕ). eqb j 1 ≡ false → 1 ≤ s .places) (1 ∷ []) (w .kind) ((λ x. absurd (true≢false x)) or no-other)
+        (subst (λ (k : ℕ). among (w .kind) (lookup k (table s)) ≡ true) e m) f
+
+-- there is more: a word, or bytes left over
+abbrev pub Further : List Word → Bool → Type 0
+Further [] left = left ≡ true
+Further (w ∷ ws) left = Unit {0}
+
+behind-further : (i : ℕ) (ws : List Word) (left : Bool) → Further ws left → behind i ws left ≡ refused 3 i
+behind-further i [] left h = rw h refl
+behind-further i (w ∷ ws) left h = refl
+
+further-append : (xs ys : List Word) (left : Bool) → Further ys left → Further (xs ++ ys) left
+further-append [] ys left h = h
+further-append (x ∷ xs) ys left h = tt
+
+-- two answers are the same refusal
+abbrev pub SameRefusal : Outcome → Outcome → Type 0
+SameRefusal a b = (n : ℕ) × (j : ℕ) × (a ≡ refused n j) × (b ≡ refused n j)
+
+decided : (s : State) (i : ℕ) (xs ys zs : List Word) (left left' : Bool) → Begun s → mostFrom s < length xs → Further ys left → Further zs left'
+    → SameRefusal (walk s i (xs ++ ys) left) (walk s i (xs ++ zs) left')
+unfolding walk
+decided s i [] ys zs left left' b h p q = absurd (none-left h)
+  where
+    none-left : mostFrom s < 0 → ⊥
+    none-left l = omega arith
+decided s i (w ∷ xs) ys zs left left' b h p q =
+    go (λ c l. decided (next s w) (suc i) xs ys zs left left' c l p q) (faultAt s i w) refl
+  where
+    on : List Word → Bool → Outcome
+    on ws l = cond (eqb (w .kind) 0xF) (behind (suc i) (xs ++ ws) l) (walk (next s w) (suc i) (xs ++ ws) l)
+
+    go : (Begun (next s w) → mostFrom (next s w) < length xs → SameRefusal (walk (next s w) (suc i) (xs ++ ys) left) (walk (next s w) (suc i) (xs ++ zs) left'))
+        → (o : Option ℕ) → faultAt s i w ≡ o → SameRefusal (unless o i (on ys left)) (unless o i (on zs left'))
+    go ih (some n) e = (n, i, refl, refl)
+    go ih none e =
+        by-test (eqb (w .kind) 0xF)
+        (λ t. rw t (3, suc i, behind-further (suc i) (xs ++ ys) left (further-append xs ys left p), behind-further (suc i) (xs ++ zs) left' (further-append xs zs left' q)))
+        (λ t. let m = fine s i w e in
+        let less : mostFrom (next s w) < mostFrom s = lowers s w b (m .0) (m .1) t in
+        rw t (ih (inr (begun-next s w b (m .0) (m .1))) (omega (arith, less, h))))
+
+-- ---- files
+
+-- 4 m bytes are m words, and what is behind them follows
+pub record Split (xs bs : List ℕ) (m : ℕ) : Type 0 where
+  pub words : wordsOf (xs ++ bs) ≡ wordsOf xs ++ wordsOf bs
+  pub left : leftOver (xs ++ bs) ≡ leftOver bs
+  pub many : length (wordsOf xs) ≡ m
+
+few : {A : Type 0} (a m : ℕ) → a < 4 → a ≡ 4 * suc m → A
+few a m h e = absurd (never h)
+  where
+    never : a < 4 → ⊥
+    never l = omega arith
+
+split : (m : ℕ) (xs bs : List ℕ) → length xs ≡ 4 * m → Split xs bs m
+split zero [] bs e = record { words = refl; left = refl; many = refl }
+split zero (a ∷ xs) bs e = absurd (too-many e)
+  where
+    too-many : suc (length xs) ≡ 0 → ⊥
+    too-many x = omega arith
+split (suc m) [] bs e = few 0 m (omega arith) e
+split (suc m) (a ∷ []) bs e = few 1 m (omega arith) e
+split (suc m) (a ∷ b ∷ []) bs e = few 2 m (omega arith) e
+split (suc m) (a ∷ b ∷ c ∷ []) bs e = few 3 m (omega arith) e
+split (suc m) (a ∷ b ∷ c ∷ d ∷ xs) bs e =
+    let S = split m xs bs (omega (arith, e)) in
+    record { words = ap (λ (l : List Word). wordOf (littleEndian a b c d) ∷ l) (S .words); left = S .left; many = ap suc (S .many) }
+
+-- some byte
+abbrev pub SomeByte : List ℕ → Type 0
+SomeByte [] = ⊥
+SomeByte (b ∷ bs) = Unit {0}
+
+further-bytes : (bs : List ℕ) → SomeByte bs → Further (wordsOf bs) (leftOver bs)
+further-bytes [] h = absurd h
+further-bytes (a ∷ []) h = refl
+further-bytes (a ∷ b ∷ []) h = refl
+further-bytes (a ∷ b ∷ c ∷ []) h = refl
+further-bytes (a ∷ b ∷ c ∷ d ∷ bs) h = tt
+
+-- behind the first 34,576 bytes, which are 8,644 words, one byte is as good as any others
+pub enough : (xs bs cs : List ℕ) → length xs ≡ 34576 → SomeByte bs → SomeByte cs → read (xs ++ bs) ≡ read (xs ++ cs)
+unfolding read readWords
+enough xs bs cs e p q =
+    let B = split 8644 xs bs e in
+    let C = split 8644 xs cs e in
+    let D = decided start 0 (wordsOf xs) (wordsOf bs) (wordsOf cs) (leftOver bs) (leftOver cs) (inl refl) (omega (arith, B .many)) (further-bytes bs p) (further-bytes cs q) in
+    rw (B .words, B .left, C .words, C .left, D .2, D .3)

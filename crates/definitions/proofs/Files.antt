@@ -1,0 +1,194 @@
+-- Reading files of bytes: a sheet's own file gives it back, and no other file is accepted.
+use Prim.Native.Nat.{ℕ, _*_, _≤_, _<_}
+use native.Mathlib.Omega.{arith}
+use native.Mathlib.Nat.{mul-le-mul}
+use mathlib.Core.Path.{_≡_, sym, ap, _∙_}
+use mathlib.Core.Bool.{Bool, true}
+use mathlib.Core.List.{List, [], _∷_, _++_, map}
+use mathlib.Core.Option.{Option, none, some}
+use mathlib.Core.Logic.{inl, inr}
+use lib.ListN.{length, length-append}
+use lib.Dec.{leb, ltb}
+use borrow.Author.Tests.{leb-true, ltb-true}
+use Rattle.basics.specs.Tests.{and-right}
+use Rattle.basics.specs.Options.{Holds, IfAny}
+use Rattle.basics.specs.Lists.{All, Passes, all-append, all-imp, all-map}
+use Rattle.definitions.specs.Domain.{isDemand, isCapacity, isPenalty, isNumber, isCall}
+use Rattle.definitions.specs.Sheet.{Window, Break, Customer, Sheet}
+use Rattle.definitions.specs.Words.{Word, word, wordsOf, leftOver, bytesOf}
+use Rattle.definitions.specs.Encoding.{optional, breakWords, windowWords, customerWords, bodyWords, encode}
+use Rattle.definitions.specs.Reader.{read, sheet}
+use Rattle.definitions.specs.Refusals.{Within, WithinCalls}
+use Rattle.definitions.proofs.Says.{callWords, timeWords, tableWords, limitWords, allWords, others}
+use Rattle.definitions.proofs.Good.{GoodWindow, GoodBreak, GoodCustomer, AsMany, GoodSheet, GoodCalls, good-sheet, good-calls}
+use Rattle.definitions.proofs.Accepts.{wordCount}
+use Rattle.definitions.proofs.ReadsBack.{body-length, encode-counted, reads-back}
+use Rattle.definitions.proofs.OnlySheets.{only-sheets}
+use Rattle.definitions.proofs.Bytes.{Fits, AllFit, AllBytes, words-of-bytes, nothing-left, bytes-of-words}
+
+-- ---- the words of a sheet have 32 bits
+
+-- a test that only numbers below 2^28 pass
+abbrev Small : (ℕ → Bool) → Type 0
+Small p = (v : ℕ) → p v ≡ true → v < 0x10000000
+
+small : (m : ℕ) → m < 0x10000000 → Small (λ (v : ℕ). leb v m)
+small m h v e = omega (arith, leb-true v m e)
+
+numbers : Small isNumber
+numbers = small 10000000 (omega arith)
+
+fit : (k : ℕ) (p : ℕ → Bool) → k < 16 → Small p → (v : ℕ) → p v ≡ true → Fits (word k v)
+fit k p h s v e = record { kind = h; value = s v e }
+
+-- a word of kind k that holds a number
+fit-number : (k : ℕ) → k < 16 → (v : ℕ) → isNumber v ≡ true → Fits (word k v)
+fit-number k h = fit k isNumber h numbers
+
+fit-row : (k : ℕ) (p : ℕ → Bool) (vs : List ℕ) → k < 16 → Small p → Passes p vs → AllFit (map (word k) vs)
+fit-row k p vs h s a = all-map Fits (word k) vs (all-imp (λ (v : ℕ). p v ≡ true) (λ (v : ℕ). Fits (word k v)) (fit k p h s) vs a)
+
+fit-optional : (k : ℕ) (p : ℕ → Bool) (o : Option ℕ) → k < 16 → Small p → IfAny p o → AllFit (optional k o)
+fit-optional k p none h s g = tt
+fit-optional k p (some v) h s g = (fit k p h s v g, tt)
+
+fit-break : (b : Option Break) → Holds GoodBreak b → AllFit (breakWords b)
+fit-break none G = tt
+fit-break (some b) G =
+    let six = fit-number 6 (omega arith) in
+    (six (b .earliest) (G .earliest), (six (b .latest) (G .latest), (six (b .duration) (G .duration), tt)))
+
+fit-window : (w : Option Window) → Holds GoodWindow w → AllFit (windowWords w)
+fit-window none G = tt
+fit-window (some w) G = (fit-number 9 (omega arith) (w .ready) (G .ready), (fit-number 0xA (omega arith) (w .due) (G .due), tt))
+
+fit-customers : (cs : List Customer) → All GoodCustomer cs → AllFit (customerWords cs)
+fit-customers [] g = tt
+fit-customers (c ∷ cs) g = (
+  fit 7 isDemand (omega arith) (small 32767 (omega arith)) (c .demand) (g .0 .demand),
+  (
+    fit-number 8 (omega arith) (c .service) (g .0 .service),
+    all-append Fits (windowWords (c .window) ++ optional 0xB (c .penalty)) (customerWords cs) inner (fit-customers cs (g .1)),
+  ),
+)
+  where
+    inner : AllFit (windowWords (c .window) ++ optional 0xB (c .penalty))
+    inner =
+        all-append Fits (windowWords (c .window)) (optional 0xB (c .penalty)) (fit-window (c .window) (g .0 .window))
+        (fit-optional 0xB isPenalty (c .penalty) (omega arith) (small 1000 (omega arith)) (g .0 .penalty))
+
+-- ---- how many there are
+
+few-optional : (k : ℕ) (o : Option ℕ) → length (optional k o) ≤ 1
+few-optional k none = omega arith
+few-optional k (some v) = omega arith
+
+few-window : (w : Option Window) → length (windowWords w) ≤ 2
+few-window none = omega arith
+few-window (some w) = omega arith
+
+few-break : (b : Option Break) → length (breakWords b) ≤ 3
+few-break none = omega arith
+few-break (some b) = omega arith
+
+few-customers : (cs : List Customer) → length (customerWords cs) ≤ 5 * length cs
+few-customers [] = omega arith
+few-customers (c ∷ cs) =
+    omega (
+      arith,
+      few-customers cs,
+      length-append (windowWords (c .window) ++ optional 0xB (c .penalty)) (customerWords cs),
+      length-append (windowWords (c .window)) (optional 0xB (c .penalty)),
+      few-window (c .window),
+      few-optional 0xB (c .penalty),
+    )
+
+module _ (s : Sheet) (tour : List ℕ) (G : GoodSheet s) (C : GoodCalls (s .places) tour) where
+  few-places : s .places ≤ 64
+  few-places = leb-true (s .places) 64 (and-right (leb 1 (s .places)) (leb (s .places) 64) (G .places))
+
+  few-legs : s .places * s .places ≤ 64 * 64
+  few-legs = mul-le-mul few-places few-places
+
+  few-times : AsMany (s .places * s .places) (s .times) → length (s .times) ≤ 4096
+  few-times (inl e) = omega (arith, ap length e)
+  few-times (inr e) = omega (arith, e, few-legs)
+
+  -- with F at most 8,644
+  pub few-words : length (bodyWords s tour) ≤ 8643
+  few-words =
+      omega (
+        arith,
+        body-length s tour,
+        few-optional 4 (s .maxDistance),
+        few-optional 5 (s .maxDuration),
+        few-break (s .rest),
+        few-customers (others s),
+        G .counted,
+        ap length (G .first),
+        few-places,
+        G .square,
+        few-legs,
+        few-times (G .as-many),
+        C .few,
+      )
+
+  fit-all : AllFit (allWords s tour (wordCount s tour))
+  fit-all = (
+    record { kind = omega arith; value = omega (arith, few-places) },
+    (fit 2 isCapacity (omega arith) (small 1000000 (omega arith)) (s .capacity) (G .capacity), (fit-number 3 (omega arith) (s .fixed) (G .fixed), limited)),
+  )
+    where
+      f : ℕ
+      f = wordCount s tour
+
+      small-call : Small (isCall (s .places))
+      small-call v e = omega (arith, ltb-true v (s .places) (and-right (leb 1 v) (ltb v (s .places)) e), few-places)
+
+      called : AllFit (callWords tour f)
+      called =
+          all-append Fits (map (word 0xE) tour) (word 0xF f ∷ []) (fit-row 0xE (isCall (s .places)) tour (omega arith) small-call (C .each))
+          (record { kind = omega arith; value = omega (arith, few-words, body-length s tour) }, tt)
+
+      timed : AllFit (timeWords (s .times) tour f)
+      timed = all-append Fits (map (word 0xD) (s .times)) (callWords tour f) (fit-row 0xD isNumber (s .times) (omega arith) numbers (G .times)) called
+
+      tabled : AllFit (tableWords (s .distances) (s .times) tour f)
+      tabled = all-append Fits (map (word 0xC) (s .distances)) (timeWords (s .times) tour f) (fit-row 0xC isNumber (s .distances) (omega arith) numbers (G .distances)) timed
+
+      rest : List Word
+      rest = customerWords (others s) ++ tableWords (s .distances) (s .times) tour f
+
+      from-customers : AllFit rest
+      from-customers = all-append Fits (customerWords (others s)) (tableWords (s .distances) (s .times) tour f) (fit-customers (others s) (G .customers)) tabled
+
+      from-break : AllFit (breakWords (s .rest) ++ rest)
+      from-break = all-append Fits (breakWords (s .rest)) rest (fit-break (s .rest) (G .rest)) from-customers
+
+      limited : AllFit (limitWords (s .maxDistance) (s .maxDuration) (s .rest) rest)
+      limited =
+          all-append Fits (optional 4 (s .maxDistance)) (optional 5 (s .maxDuration) ++ (breakWords (s .rest) ++ rest))
+          (fit-optional 4 isNumber (s .maxDistance) (omega arith) numbers (G .maxDistance))
+          (all-append Fits (optional 5 (s .maxDuration)) (breakWords (s .rest) ++ rest) (fit-optional 5 isNumber (s .maxDuration) (omega arith) numbers (G .maxDuration)) from-break)
+
+pub encode-fits : (s : Sheet) (tour : List ℕ) → Within s → WithinCalls s tour → AllFit (encode s tour)
+encode-fits s tour W C = rw (encode-counted s tour) (fit-all s tour (good-sheet s W) (good-calls (s .places) tour C))
+
+-- ---- files
+
+-- for every sheet within the limits and tour of it, reading their file gives them back
+pub file-reads-back : (s : Sheet) (tour : List ℕ) → Within s → WithinCalls s tour → read (bytesOf (encode s tour)) ≡ sheet s tour
+unfolding read
+file-reads-back s tour W C = rw (words-of-bytes (encode s tour) (encode-fits s tour W C), nothing-left (encode s tour)) (reads-back s tour W C)
+
+pub record IsFile (bs : List ℕ) (s : Sheet) (tour : List ℕ) : Type 0 where
+  pub bytes : bs ≡ bytesOf (encode s tour)
+  pub within : Within s
+  pub calls : WithinCalls s tour
+
+-- a file that is accepted is the file of the sheet and tour returned, which are within the limits
+pub only-files : (bs : List ℕ) (s : Sheet) (tour : List ℕ) → AllBytes bs → read bs ≡ sheet s tour → IsFile bs s tour
+unfolding read
+only-files bs s tour a e =
+    let I = only-sheets (wordsOf bs) (leftOver bs) s tour e in
+    record { bytes = sym (bytes-of-words bs a (I .nothing-left)) ∙ ap bytesOf (I .words); within = I .within; calls = I .calls }

@@ -1,0 +1,30 @@
+-- Reading the words of a sheet within the limits gives that sheet and its tour back.
+use Prim.Native.Nat.{ℕ}
+use native.Mathlib.Omega.{arith}
+use mathlib.Core.Path.{_≡_, ap, _∙_}
+use mathlib.Core.Bool.{false}
+use mathlib.Core.List.{List}
+use lib.ListN.{length, length-append, length-map}
+use Rattle.definitions.specs.Sheet.{Sheet}
+use Rattle.definitions.specs.Encoding.{bodyWords, encode}
+use Rattle.definitions.specs.Reader.{readWords, sheet}
+use Rattle.definitions.specs.Refusals.{Within, WithinCalls}
+use Rattle.definitions.proofs.Says.{allWords, encode-is, sheet-said, tour-said}
+use Rattle.definitions.proofs.Good.{good-sheet, good-calls}
+use Rattle.definitions.proofs.Accepts.{wordCount, all-ok}
+
+-- how many words stand before F
+pub body-length : (s : Sheet) (tour : List ℕ) → length (bodyWords s tour) ≡ wordCount s tour
+unfolding bodyWords
+body-length s tour = simp (length-append, length-map) (omega arith)
+
+pub encode-counted : (s : Sheet) (tour : List ℕ) → encode s tour ≡ allWords s tour (wordCount s tour)
+encode-counted s tour = encode-is s tour ∙ ap (allWords s tour) (body-length s tour)
+
+-- for every sheet within the limits and tour of it, reading their words gives them back
+pub reads-back : (s : Sheet) (tour : List ℕ) → Within s → WithinCalls s tour → readWords (encode s tour) false ≡ sheet s tour
+unfolding readWords
+reads-back s tour W C =
+    let G = good-sheet s W in
+    let f = wordCount s tour in
+    rw (encode-counted s tour, all-ok s tour G (good-calls (s .places) tour C), sheet-said s tour f (G .first), tour-said s tour f)
