@@ -10,14 +10,15 @@ use lib.ListN.{length, getD, take, drop}
 use lib.Seq.{take-length}
 use lib.Dec.{leb, ltb, eqb}
 use borrow.Author.Tests.{leb-true, ltb-true, ltb-false, lt-ltb, eqb-true}
-use Rattle.basics.specs.Tests.{by-test, either, or-left, or-right, not-false, and-left, and-right}
+use Rattle.basics.specs.Tests.{by-test, or-left, or-right, not-false, and-left, and-right}
 use Rattle.basics.specs.Options.{Holds}
 use Rattle.basics.specs.Lists.{isEmpty, any, sum, All, Same, all-imp, any-fails, fails-not}
-use Rattle.definitions.specs.Domain.{isPlaces, isCapacity, isDemand, isPenalty, isNumber, isCall, mostCalls}
+use Rattle.definitions.specs.Domain.{isPlaces, isNumber, isCall, mostCalls}
 use Rattle.definitions.specs.Sheet.{Window, Break, Customer, Sheet, records, depot, customer, distance, timeTable, time}
 use Rattle.definitions.specs.Run.{lastOf, breakAt}
 use Rattle.definitions.specs.Drop.{callsAt}
-use Rattle.definitions.specs.Refusals.{unfit, badLimit, badBreak, badWindow, badCustomer, badDepot, badSheet, Within, WithinCalls}
+use Rattle.definitions.specs.Refusals.{unfit, badLimit, badBreak, badWindow, badCustomer, Within, WithinCalls}
+use Rattle.definitions.proofs.Ranges.{in-range, tables-even, break-in-range, window-in-range, customer-in-range}
 
 -- ---- the most that the Domain allows
 
@@ -72,12 +73,6 @@ pub record Sized (s : Sheet) : Type 0 where
 
 -- ---- they follow from the tests
 
--- the test number k of several, where none holds
-fails : (bs : List Bool) → either bs ≡ false → (k : ℕ) → getD bs k false ≡ false
-fails [] e k = refl
-fails (b ∷ bs) e zero = or-left b (either bs) e
-fails (b ∷ bs) e (suc k) = fails bs (or-right b (either bs) e) k
-
 kept : (n m : ℕ) → not (leb n m) ≡ false → n ≤ m
 kept n m e = leb-true n m (not-false (leb n m) e)
 
@@ -88,29 +83,25 @@ limit-kept m (some n) e = kept n m e
 break-kept : (o : Option Break) → badBreak some o ≡ false → Holds SmallBreak o
 break-kept none e = tt
 break-kept (some b) e =
-    let f = fails (unfit some isNumber (b .earliest) ∷ unfit some isNumber (b .latest) ∷ unfit some isNumber (b .duration) ∷ []) e in
+    let R = break-in-range some b e in
     record {
-      earliest-small = kept (b .earliest) mostNumber (f 0);
-      latest-small = kept (b .latest) mostNumber (f 1);
-      duration-small = kept (b .duration) mostNumber (f 2);
+      earliest-small = kept (b .earliest) mostNumber (R .earliest);
+      latest-small = kept (b .latest) mostNumber (R .latest);
+      duration-small = kept (b .duration) mostNumber (R .duration);
     }
 
 window-kept : (o : Option Window) → badWindow some o ≡ false → Holds SmallWindow o
 window-kept none e = tt
-window-kept (some w) e =
-    record {
-      ready-small = kept (w .ready) mostNumber (or-left (unfit some isNumber (w .ready)) (unfit some isNumber (w .due)) e);
-      due-small = kept (w .due) mostNumber (or-right (unfit some isNumber (w .ready)) (unfit some isNumber (w .due)) e);
-    }
+window-kept (some w) e = let R = window-in-range some w e in record { ready-small = kept (w .ready) mostNumber (R .ready); due-small = kept (w .due) mostNumber (R .due) }
 
 customer-kept : (c : Customer) → badCustomer some c ≡ false → SmallCustomer c
 customer-kept c e =
-    let f = fails (not (isDemand (c .demand)) ∷ unfit some isNumber (c .service) ∷ badWindow some (c .window) ∷ badLimit some isPenalty (c .penalty) ∷ []) e in
+    let R = customer-in-range some c e in
     record {
-      demand-small = kept (c .demand) mostDemand (f 0);
-      service-small = kept (c .service) mostNumber (f 1);
-      window-small = window-kept (c .window) (f 2);
-      penalty-small = limit-kept mostPenalty (c .penalty) (f 3);
+      demand-small = kept (c .demand) mostDemand (R .demand);
+      service-small = kept (c .service) mostNumber (R .service);
+      window-small = window-kept (c .window) (R .window);
+      penalty-small = limit-kept mostPenalty (c .penalty) (R .penalty);
     }
 
 numbers-kept : (l : List ℕ) → any (unfit some isNumber) l ≡ false → All Small l
@@ -130,49 +121,27 @@ times-kept distances [] a b = a
 times-kept distances (t ∷ ts) a b = b
 
 pub sized : (s : Sheet) → Within s → Sized s
-unfolding badSheet
 sized s W =
+    let R = in-range some s (W .ranged) in
+    let T = tables-even s (W .tables) in
+    let full = s .places * s .places in
+    let places = not-false (isPlaces (s .places)) (R .places) in
+    let square = eqb-true (length (s .distances)) full (not-false _ (T .distances)) in
     record {
       some-place = leb-true 1 (s .places) (and-left (leb 1 (s .places)) _ places);
       few-places = leb-true (s .places) 64 (and-right (leb 1 (s .places)) _ places);
-      capacity-small = kept (s .capacity) 1000000 (f 1);
-      fixed-small = kept (s .fixed) mostNumber (f 2);
-      far-small = limit-kept mostNumber (s .maxDistance) (f 3);
-      long-small = limit-kept mostNumber (s .maxDuration) (f 4);
-      rest-small = break-kept (s .rest) (f 5);
+      capacity-small = kept (s .capacity) 1000000 (R .capacity);
+      fixed-small = kept (s .fixed) mostNumber (R .fixed);
+      far-small = limit-kept mostNumber (s .maxDistance) (R .maxDistance);
+      long-small = limit-kept mostNumber (s .maxDuration) (R .maxDuration);
+      rest-small = break-kept (s .rest) (R .rest);
       records-all = W .counted;
-      records-small = records-kept s (W .counted) (f 7);
+      records-small = records-kept s (W .counted) (R .customers);
       distances-all = square;
-      distances-small = numbers-kept (s .distances) (f 8);
-      times-all = times-long full (s .distances) (s .times) square (not-false _ (or-right (not (eqb (length (s .distances)) full)) _ (W .tables)));
-      times-small = times-kept (s .distances) (s .times) (numbers-kept (s .distances) (f 8)) (numbers-kept (s .times) (f 9));
+      distances-small = numbers-kept (s .distances) (R .distances);
+      times-all = times-long full (s .distances) (s .times) square (not-false _ (T .times));
+      times-small = times-kept (s .distances) (s .times) (numbers-kept (s .distances) (R .distances)) (numbers-kept (s .times) (R .times));
     }
-  where
-    full : ℕ
-    full = s .places * s .places
-
-    tests : List Bool
-    tests =
-        not (isPlaces (s .places))
-        ∷ not (isCapacity (s .capacity))
-        ∷ unfit some isNumber (s .fixed)
-        ∷ badLimit some isNumber (s .maxDistance)
-        ∷ badLimit some isNumber (s .maxDuration)
-        ∷ badBreak some (s .rest)
-        ∷ badDepot some (records s)
-        ∷ any (badCustomer some) (records s)
-        ∷ any (unfit some isNumber) (s .distances)
-        ∷ any (unfit some isNumber) (s .times)
-        ∷ []
-
-    f : (k : ℕ) → getD tests k false ≡ false
-    f = fails tests (W .ranged)
-
-    places : isPlaces (s .places) ≡ true
-    places = not-false (isPlaces (s .places)) (f 0)
-
-    square : length (s .distances) ≡ s .places * s .places
-    square = eqb-true (length (s .distances)) full (not-false _ (or-left (not (eqb (length (s .distances)) full)) _ (W .tables)))
 
 -- ---- lists
 

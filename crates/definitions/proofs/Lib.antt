@@ -31,6 +31,8 @@ pub mod Least
 -- The drop rule, and demand 3 as a whole.
 pub mod Shortest
 pub mod Dropping
+pub mod Placement
+pub mod Ties
 pub mod Promised
 -- Without window, limit and break.
 pub mod Plain

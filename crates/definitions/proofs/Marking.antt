@@ -248,7 +248,7 @@ module _ (s : Sheet) (tour : List ℕ) (rs : List Run) (shaped : all (λ r. not 
       by-rest (some b) e = refl
       by-rest none e =
           let c = cheaper-is h in
-          absurd (off (c .2) (promised s tour .least-clock rs (c .0) (c .1) (plain-by-clock s e rs (c .1))))
+          absurd (off (c .2) (promised s tour .least-clock rs (c .0) (c .1, plain-by-clock s e rs (c .1))))
 
 -- the planner's own cutting is marked Best
 pub own-best : (s : Sheet) (tour : List ℕ) → mark s tour (promised s tour .runs) ≡ best

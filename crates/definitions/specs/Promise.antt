@@ -44,6 +44,18 @@ pub data Parts : List ℕ → List ℕ → List ℕ → Type 0 where
 abbrev pub byClock : Sheet → List Run → Bool
 byClock s runs = all (λ r. holds (clock s (r .calls)) (λ t. eqb (t .place) (r .place))) runs
 
+-- rivals with lateness pay: legal, with their breaks where the clock puts them
+abbrev pub ClockRival : Sheet → List Run → Type 0
+ClockRival s runs = (legalCutting s runs ≡ true) × (byClock s runs ≡ true)
+
+-- Ties go to the earlier cut point, from the last run back: no rival of the same calls and the same cost has a last run that starts earlier.
+pub data Ties (s : Sheet) (Rival : List Run → Type 0) : List Run → Type 0 where
+  no-run : Ties s Rival []
+  last-run : {runs : List Run} (r : Run) → Ties s Rival runs
+      → ((rival : List Run) (t : Run) → joined (rival ++ (t ∷ [])) ≡ joined (runs ++ (r ∷ [])) → Rival (rival ++ (t ∷ []))
+      → cuttingCost s (rival ++ (t ∷ [])) ≡ cuttingCost s (runs ++ (r ∷ [])) → length (joined runs) ≤ length (joined rival))
+      → Ties s Rival (runs ++ (r ∷ []))
+
 pub record Promise (s : Sheet) (tour : List ℕ) (x : Result) : Type 0 where
   -- the runs returned, and the positions held in the end
   pub runs : List Run
@@ -59,7 +71,9 @@ pub record Promise (s : Sheet) (tour : List ℕ) (x : Result) : Type 0 where
   pub adds-up : cuttingCost s runs ≡ x .cost
   -- every other legal cutting of the served calls costs at least as much
   pub least-free : latenessPay s ≡ false → (rival : List Run) → joined rival ≡ x .served → legalCutting s rival ≡ true → x .cost ≤ cuttingCost s rival
-  pub least-clock : (rival : List Run) → joined rival ≡ x .served → legalCutting s rival ≡ true → byClock s rival ≡ true → x .cost ≤ cuttingCost s rival
+  pub least-clock : (rival : List Run) → joined rival ≡ x .served → ClockRival s rival → x .cost ≤ cuttingCost s rival
+  -- of equal cost the earlier cut point is kept
+  pub ties : Ties s (ClockRival s) runs
   -- the drop rule, and every position served or dropped
   pub drop-rule : Settles (HasCutting s) tour (allHeld tour) (record { held = held; dropped = x .dropped })
   pub parted : Parts (count 1 (length tour)) held (x .dropped)
