@@ -13,10 +13,10 @@ use Rattle.basics.specs.Tests.{or-left, or-right, not-false, not-of-true}
 use Rattle.basics.specs.Options.{holds, present, valueOr}
 use Rattle.basics.specs.Lists.{isEmpty, any, all-imp, all-map, any-fails, fails-any}
 use Rattle.definitions.specs.Domain.{isPenalty, isNumber}
-use Rattle.definitions.specs.Sheet.{WindowOf, BreakOf, CustomerOf, SheetOf, Customer, records, soft, anySoft, latenessPay}
+use Rattle.definitions.specs.Sheet.{WindowOf, BreakOf, CustomerOf, SheetOf, Customer, records, soft, anySoft, latenessPay, mapWindow, mapBreak, mapCustomer}
 use Rattle.definitions.specs.Room.{short}
 use Rattle.definitions.specs.Lent.{Lent, Call}
-use Rattle.definitions.specs.Refusals.{Within, WithinCalls, tablesOdd, unfit, badLimit, badBreak, badWindow, badCustomer, badDepot, badSheet, windowFalls, breakFalls, pairsFall, refusalOf, whole, wholeWindow, wholeBreak, wholeCustomer, wholeSheet}
+use Rattle.definitions.specs.Refusals.{Within, WithinCalls, tablesOdd, unfit, badLimit, badBreak, badWindow, badCustomer, badDepot, badSheet, windowFalls, breakFalls, pairsFall, refusalOf, whole, wholeSheet}
 use Rattle.definitions.proofs.Ranges.{LongEnough, long-enough, RunsEven, runs-even, break-in-range, range-break, window-in-range, range-window, customer-in-range, range-customer, depot-in-range, range-depot, InRange, in-range, range-in, LentInRange, lent-in-range, PairsRise, pairs-rise, rise-pairs, NotRefused, not-refused}
 
 -- ---- lists long enough
@@ -69,23 +69,23 @@ module _ {F : Type 0} (value : F → Option ℕ) where
   fit-limit p none h = refl
   fit-limit p (some x) h = fit p x h
 
-  fit-break : (b : Option (BreakOf F)) → badBreak value b ≡ false → badBreak some (Option·map (wholeBreak value) b) ≡ false
+  fit-break : (b : Option (BreakOf F)) → badBreak value b ≡ false → badBreak some (Option·map (mapBreak (whole value)) b) ≡ false
   fit-break none h = refl
   fit-break (some b) h =
       let R = break-in-range value b h in
-      range-break some (wholeBreak value b)
+      range-break some (mapBreak (whole value) b)
       (record { earliest = fit isNumber (b .earliest) (R .earliest); latest = fit isNumber (b .latest) (R .latest); duration = fit isNumber (b .duration) (R .duration) })
 
-  fit-window : (w : Option (WindowOf F)) → badWindow value w ≡ false → badWindow some (Option·map (wholeWindow value) w) ≡ false
+  fit-window : (w : Option (WindowOf F)) → badWindow value w ≡ false → badWindow some (Option·map (mapWindow (whole value)) w) ≡ false
   fit-window none h = refl
   fit-window (some w) h =
       let R = window-in-range value w h in
-      range-window some (wholeWindow value w) (record { ready = fit isNumber (w .ready) (R .ready); due = fit isNumber (w .due) (R .due) })
+      range-window some (mapWindow (whole value) w) (record { ready = fit isNumber (w .ready) (R .ready); due = fit isNumber (w .due) (R .due) })
 
-  fit-customer : (c : CustomerOf F) → badCustomer value c ≡ false → badCustomer some (wholeCustomer value c) ≡ false
+  fit-customer : (c : CustomerOf F) → badCustomer value c ≡ false → badCustomer some (mapCustomer (whole value) c) ≡ false
   fit-customer c h =
       let R = customer-in-range value c h in
-      range-customer some (wholeCustomer value c)
+      range-customer some (mapCustomer (whole value) c)
       (record {
         demand = R .demand;
         service = fit isNumber (c .service) (R .service);
@@ -93,39 +93,39 @@ module _ {F : Type 0} (value : F → Option ℕ) where
         penalty = fit-limit isPenalty (c .penalty) (R .penalty);
       })
 
-  fit-depot : (cs : List (CustomerOf F)) → badDepot value cs ≡ false → badDepot some (map (wholeCustomer value) cs) ≡ false
+  fit-depot : (cs : List (CustomerOf F)) → badDepot value cs ≡ false → badDepot some (map (mapCustomer (whole value)) cs) ≡ false
   fit-depot [] h = refl
   fit-depot (c ∷ cs) h =
       let R = depot-in-range value c cs h in
-      range-depot some (wholeCustomer value c) (map (wholeCustomer value) cs)
+      range-depot some (mapCustomer (whole value) c) (map (mapCustomer (whole value)) cs)
       (record {
         demand = R .demand;
         service = fit (λ (n : ℕ). eqb n 0) (c .service) (R .service);
-        window = present-same (wholeWindow value) (c .window) ∙ R .window;
+        window = present-same (mapWindow (whole value)) (c .window) ∙ R .window;
         penalty = present-same (whole value) (c .penalty) ∙ R .penalty;
       })
 
-  window-same : (w : Option (WindowOf F)) → windowFalls some (Option·map (wholeWindow value) w) ≡ windowFalls value w
+  window-same : (w : Option (WindowOf F)) → windowFalls some (Option·map (mapWindow (whole value)) w) ≡ windowFalls value w
   window-same none = refl
   window-same (some w) = refl
 
-  break-same : (b : Option (BreakOf F)) → breakFalls some (Option·map (wholeBreak value) b) ≡ breakFalls value b
+  break-same : (b : Option (BreakOf F)) → breakFalls some (Option·map (mapBreak (whole value)) b) ≡ breakFalls value b
   break-same none = refl
   break-same (some b) = refl
 
-  soft-same : (c : CustomerOf F) → soft (wholeCustomer value c) ≡ soft c
-  soft-same c = λ i. present-same (wholeWindow value) (c .window) i && present-same (whole value) (c .penalty) i
+  soft-same : (c : CustomerOf F) → soft (mapCustomer (whole value) c) ≡ soft c
+  soft-same c = λ i. present-same (mapWindow (whole value)) (c .window) i && present-same (whole value) (c .penalty) i
 
   -- ---- a lent sheet
 
   module _ (s : SheetOf F) (l : s .places ≤ length (s .customers)) where
     counted : length (wholeSheet value s .customers) ≡ s .places
     unfolding wholeSheet
-    counted = length-map (records s) (wholeCustomer value) ∙ length-take-le (s .places) (s .customers) l
+    counted = length-map (records s) (mapCustomer (whole value)) ∙ length-take-le (s .places) (s .customers) l
 
-    all-records : records (wholeSheet value s) ≡ map (wholeCustomer value) (records s)
+    all-records : records (wholeSheet value s) ≡ map (mapCustomer (whole value)) (records s)
     unfolding wholeSheet
-    all-records = take-all (s .places) (map (wholeCustomer value) (records s)) (omega (arith, counted))
+    all-records = take-all (s .places) (map (mapCustomer (whole value)) (records s)) (omega (arith, counted))
 
     whole-in-range : InRange value s → InRange some (wholeSheet value s)
     unfolding wholeSheet
@@ -138,7 +138,7 @@ module _ {F : Type 0} (value : F → Option ℕ) where
           maxDuration = fit-limit isNumber (s .maxDuration) (R .maxDuration);
           rest = fit-break (s .rest) (R .rest);
           depot = rw all-records (fit-depot (records s) (R .depot));
-          customers = rw all-records (any-imp (wholeCustomer value) (badCustomer value) (badCustomer some) fit-customer (records s) (R .customers));
+          customers = rw all-records (any-imp (mapCustomer (whole value)) (badCustomer value) (badCustomer some) fit-customer (records s) (R .customers));
           distances = any-imp (whole value) (unfit value isNumber) (unfit some isNumber) (fit isNumber) (s .distances) (R .distances);
           times = any-imp (whole value) (unfit value isNumber) (unfit some isNumber) (fit isNumber) (s .times) (R .times);
         }
@@ -148,7 +148,7 @@ module _ {F : Type 0} (value : F → Option ℕ) where
     whole-rises P =
         record {
           rest = break-same (s .rest) ∙ P .rest;
-          windows = rw all-records (any-same (wholeCustomer value) (λ (c : CustomerOf F). windowFalls value (c .window)) (λ (c : Customer). windowFalls some (c .window)) (λ c. window-same (c .window)) (records s) ∙ P .windows);
+          windows = rw all-records (any-same (mapCustomer (whole value)) (λ (c : CustomerOf F). windowFalls value (c .window)) (λ (c : Customer). windowFalls some (c .window)) (λ c. window-same (c .window)) (records s) ∙ P .windows);
         }
 
     -- one that is neither short, odd, out of range nor falling means one within the limits
@@ -165,7 +165,7 @@ module _ {F : Type 0} (value : F → Option ℕ) where
   -- lateness pay is on the sheet as lent where it is on the sheet that is meant
   pub pay-same : (s : SheetOf F) → latenessPay (wholeSheet value s) ≡ anySoft (records s)
   unfolding wholeSheet anySoft
-  pay-same s = any-same (wholeCustomer value) soft soft soft-same (records s)
+  pay-same s = any-same (mapCustomer (whole value)) soft soft soft-same (records s)
 
   -- ---- a call that is accepted
 

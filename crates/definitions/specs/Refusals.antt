@@ -10,7 +10,7 @@ use Rattle.basics.specs.Tests.{either}
 use Rattle.basics.specs.Options.{holds, present, valueOr}
 use Rattle.basics.specs.Lists.{isEmpty, any}
 use Rattle.definitions.specs.Domain.{isPlaces, isCapacity, isDemand, isPenalty, isNumber, isCall, mostCalls}
-use Rattle.definitions.specs.Sheet.{WindowOf, BreakOf, CustomerOf, SheetOf, Sheet, records, anySoft}
+use Rattle.definitions.specs.Sheet.{WindowOf, BreakOf, CustomerOf, SheetOf, Sheet, records, own, mapSheet, anySoft}
 use Rattle.definitions.specs.Refusal.{Refusal, refusal, firstFit}
 use Rattle.definitions.specs.Room.{short}
 use Rattle.definitions.specs.Lent.{Lent, Call}
@@ -164,26 +164,5 @@ module _ {F : Type 0} (value : F → Option ℕ) where
   abbrev pub whole : F → ℕ
   whole x = valueOr 0 (value x)
 
-  abbrev pub wholeWindow : WindowOf F → WindowOf ℕ
-  wholeWindow w = record { ready = whole (w .ready); due = whole (w .due) }
-
-  abbrev pub wholeBreak : BreakOf F → BreakOf ℕ
-  wholeBreak b = record { earliest = whole (b .earliest); latest = whole (b .latest); duration = whole (b .duration) }
-
-  abbrev pub wholeCustomer : CustomerOf F → CustomerOf ℕ
-  wholeCustomer c =
-      record { demand = c .demand; service = whole (c .service); window = Option·map wholeWindow (c .window); penalty = Option·map whole (c .penalty) }
-
   unfoldable pub wholeSheet : SheetOf F → Sheet
-  wholeSheet s =
-      record {
-        places = s .places;
-        capacity = s .capacity;
-        fixed = whole (s .fixed);
-        maxDistance = Option·map whole (s .maxDistance);
-        maxDuration = Option·map whole (s .maxDuration);
-        rest = Option·map wholeBreak (s .rest);
-        customers = map wholeCustomer (records s);
-        distances = map whole (s .distances);
-        times = map whole (s .times);
-      }
+  wholeSheet s = mapSheet whole (own s)

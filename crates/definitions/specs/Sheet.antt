@@ -2,8 +2,8 @@
 -- F is how a number is held that may be a float in lent memory: a whole number in all that follows.
 use Prim.Native.Nat.{ℕ, _+_, _*_}
 use mathlib.Core.Bool.{Bool, true, false, _&&_}
-use mathlib.Core.List.{List, [], _∷_}
-use mathlib.Core.Option.{Option, none, some}
+use mathlib.Core.List.{List, [], _∷_, map}
+use mathlib.Core.Option.{Option, none, some, Option·map}
 use lib.ListN.{getD, take}
 use Rattle.basics.specs.Options.{present}
 use Rattle.basics.specs.Lists.{any}
@@ -46,6 +46,46 @@ pub record SheetOf (F : Type 0) : Type 0 where
 -- the customers that a sheet has, the depot's record first; what is lent beyond them is not read
 abbrev pub records : {F : Type 0} → SheetOf F → List (CustomerOf F)
 records s = take (s .places) (s .customers)
+
+-- the same sheet with these records alone
+abbrev pub own : {F : Type 0} → SheetOf F → SheetOf F
+own s =
+    record {
+      places = s .places;
+      capacity = s .capacity;
+      fixed = s .fixed;
+      maxDistance = s .maxDistance;
+      maxDuration = s .maxDuration;
+      rest = s .rest;
+      customers = records s;
+      distances = s .distances;
+      times = s .times;
+    }
+
+-- the same records with each number held in another way
+module _ {F G : Type 0} (hold : F → G) where
+  abbrev pub mapWindow : WindowOf F → WindowOf G
+  mapWindow w = record { ready = hold (w .ready); due = hold (w .due) }
+
+  abbrev pub mapBreak : BreakOf F → BreakOf G
+  mapBreak b = record { earliest = hold (b .earliest); latest = hold (b .latest); duration = hold (b .duration) }
+
+  abbrev pub mapCustomer : CustomerOf F → CustomerOf G
+  mapCustomer c = record { demand = c .demand; service = hold (c .service); window = Option·map mapWindow (c .window); penalty = Option·map hold (c .penalty) }
+
+  abbrev pub mapSheet : SheetOf F → SheetOf G
+  mapSheet s =
+      record {
+        places = s .places;
+        capacity = s .capacity;
+        fixed = hold (s .fixed);
+        maxDistance = Option·map hold (s .maxDistance);
+        maxDuration = Option·map hold (s .maxDuration);
+        rest = Option·map mapBreak (s .rest);
+        customers = map mapCustomer (s .customers);
+        distances = map hold (s .distances);
+        times = map hold (s .times);
+      }
 
 -- ---- in whole numbers
 

@@ -1,5 +1,6 @@
 // The leg tables (distance/matrix.rs): distances and, where given, travel times, by rows.
 ghost use mathlib.Core.Path.{_≡_};
+ghost use Prim.Native.Nat.{_<_};
 ghost use Rattle.definitions.specs.Sheet.{timeTable};
 ghost use Rattle.distance.specs.Lookup.{lookupF};
 use whole::infinity;
@@ -24,16 +25,12 @@ pub fn lookup(table: &[f64], size: usize, from: usize, to: usize) -> f64
     table[i]
 }
 
-// The same where the index could wrap: the row is tested by a quotient, and the column by a difference.
-pub fn lookup_wide(table: &[f64], size: usize, from: usize, to: usize) -> f64
+// The same inside the rows and columns, where the index could wrap: the row is tested by a quotient, and the column by a difference.
+fn lookup_wide(table: &[f64], size: usize, from: usize, to: usize) -> f64
+    requires { ⌜ from < size ⌝ }
+    requires { ⌜ to < size ⌝ }
     ensures { λ r. ⌜ r ≡ lookupF (now (table .entry)) size from to ⌝ }
 {
-    if size <= from {
-        return infinity();
-    }
-    if size <= to {
-        return infinity();
-    }
     let rows = table.len() / size;
     if rows < from {
         return infinity();
