@@ -6,7 +6,7 @@ use mathlib.Core.Path.{_≡_, refl, sym, ap, _∙_}
 use mathlib.Core.Bool.{Bool, true, false, cond, not, _&&_, _||_}
 use mathlib.Core.List.{List, [], _∷_, _++_, map}
 use lib.ListN.{length}
-use Rattle.basics.specs.Tests.{or-left, or-right, or-false, not-false, not-of-true}
+use Rattle.basics.specs.Tests.{by-test, both, or-left, or-right, or-false, not-false, not-of-true}
 
 module _ {A : Type 0} where
   abbrev pub isEmpty : List A → Bool
@@ -77,6 +77,18 @@ module _ {A : Type 0} where
   pub sum-append : (f : A → ℕ) (l m : List A) → sum f (l ++ m) ≡ sum f l + sum f m
   sum-append f [] m = sym (zero-add (sum f m))
   sum-append f (x ∷ l) m = ap (λ (n : ℕ). f x + n) (sum-append f l m) ∙ sym (add-assoc (f x) (sum f l) (sum f m))
+
+  pub any-append : (p : A → Bool) (l m : List A) → any p (l ++ m) ≡ any p l || any p m
+  any-append p [] m = refl
+  any-append p (x ∷ l) m = by-test (p x) (λ t. rw t refl) (λ f. rw f (any-append p l m))
+
+  pub empty-append : (l m : List A) → isEmpty (l ++ m) ≡ isEmpty l && isEmpty m
+  empty-append [] m = refl
+  empty-append (x ∷ l) m = refl
+
+  pub all-parts : (p : A → Bool) (l m : List A) → all p (l ++ m) ≡ true → (all p l ≡ true) × (all p m ≡ true)
+  all-parts p [] m h = (refl, h)
+  all-parts p (x ∷ l) m h = let b = both (p x) _ h in let r = all-parts p l m (b .1) in (rw (b .0) (r .0), r .1)
 
   pub all-imp : (P Q : A → Type 0) → ((x : A) → P x → Q x) → (l : List A) → All P l → All Q l
   all-imp P Q h [] a = tt

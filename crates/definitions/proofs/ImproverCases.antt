@@ -43,6 +43,14 @@ no-distance : improvedDistance free [] ≡ 0
 unfolding improved passes
 no-distance = refl
 
+-- an empty run has no distance, though the depot's own leg has one
+abbrev depotAway : Given
+depotAway = record { leg = λ a b. 7; demand = λ c. 0; capacity = 0; fixed = 0; asked = false; feasible = λ r. true }
+
+no-leg : improvedDistance depotAway [] ≡ 0
+unfolding improved passes
+no-leg = refl
+
 alone : improved free (7 ∷ []) ≡ 7 ∷ []
 unfolding improved passes pass passFrom
 alone = refl

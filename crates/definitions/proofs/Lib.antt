@@ -1,5 +1,6 @@
 -- What is proved of the definitions.
 -- The starred cases, and case m's listing.
+pub mod Bench
 pub mod Cases
 pub mod ListingCases
 pub mod Decimal
@@ -37,9 +38,14 @@ pub mod Promised
 -- Without window, limit and break.
 pub mod Plain
 pub mod Agreement
--- Visits and marker.
+-- Evaluation, visits and marker.
+pub mod EvaluationCases
 pub mod Visiting
+pub mod Violations
+pub mod VisitCases
 pub mod Marking
+pub mod Faults
+pub mod MarkCases
 -- The improvers.
 pub mod Sums
 pub mod SortLaws

@@ -1,26 +1,31 @@
--- The marker finds a fault in a run exactly where it is not legal, and says Cheaper only with lateness pay and a break. Assumes nothing.
-use Prim.Native.Nat.{ℕ, zero, suc, _+_, _-_, _≤_, _<_}
+-- The marker finds a fault in a run exactly where it is not legal; it says Best, Dearer or Cheaper exactly of legal runs of the served calls, by their cost, and Cheaper only with lateness pay and a break. Assumes nothing.
+use Prim.Native.Nat.{ℕ, suc, _+_, _-_, _≤_, _<_}
 use native.Mathlib.Omega.{arith}
+use mathlib.Core.Logic.{_↔_}
 use mathlib.Core.Path.{_≡_, refl, sym, ap, subst, _∙_}
-use mathlib.Core.Bool.{Bool, true, false, cond, not, _&&_, true≢false, false≢true}
+use mathlib.Core.Bool.{Bool, true, false, not}
 use mathlib.Core.List.{List, [], _∷_}
 use mathlib.Core.Option.{Option, none, some}
 use lib.ListN.{length}
 use lib.Dec.{ltb, eqb}
-use borrow.Author.Tests.{ltb-true, ltb-false, eqb-true, eq-eqb}
+use borrow.Author.Tests.{ltb-true, ltb-false, lt-ltb, le-ltb, eqb-true, eq-eqb}
 use Rattle.basics.specs.Tests.{by-test, not-both, both, and-true}
 use Rattle.basics.specs.Options.{_>>=_, holds, present, valueOr, orElse, given, neither, passed, same, clash}
 use Rattle.basics.specs.Lists.{isEmpty, all}
 use Rattle.definitions.specs.Sheet.{Break, Sheet, time, latenessPay}
 use Rattle.definitions.specs.Limits.{within}
 use Rattle.definitions.specs.Run.{ready, Label, start, serve, breakAt, serveAll, Totals, home, Run, ride, load, fits, placed, legal}
-use Rattle.definitions.specs.Clock.{clock}
 use Rattle.definitions.specs.Cutting.{joined, legalCutting, cuttingCost}
 use Rattle.definitions.specs.Drop.{splitTw}
-use Rattle.definitions.specs.Promise.{byClock}
+use Rattle.definitions.specs.Promise.{Promise, byClock}
 use Rattle.definitions.specs.Marker.{markAgainst, Verdict, otherCalls, overload, breakTooLate, windowMissed, breakMissing, tooFar, tooLong, best, dearer, cheaper, differ, breakOr, callFault, walkFault, totalFault, runFault, firstFault, against, mark}
 use Rattle.definitions.proofs.Legality.{legal-has, has-legal, legal-arc, arc-clock}
 use Rattle.definitions.proofs.Promised.{promised}
+
+-- what is not there after a step that cannot fail was not there before it
+pub nothing-mapped : {A B : Type 0} (o : Option A) (f : A → B) → (o >>= λ x. some (f x)) ≡ none → o ≡ none
+nothing-mapped none f h = refl
+nothing-mapped (some x) f h = clash (sym h)
 
 -- ---- the walk
 
@@ -111,37 +116,37 @@ pub same-differ : (k : ℕ) (xs : List ℕ) → differ k xs xs ≡ none
 same-differ k [] = refl
 same-differ k (x ∷ xs) = rw (eq-eqb x x refl) (same-differ (suc k) xs)
 
--- ---- a fault is not Cheaper
+-- ---- a fault is not Best, Dearer or Cheaper
 
-abbrev pub isCheaper : Verdict → Bool
-isCheaper (otherCalls p) = false
-isCheaper (overload n l c) = false
-isCheaper (breakTooLate n k c t l) = false
-isCheaper (windowMissed n k c t l) = false
-isCheaper (breakMissing n t e) = false
-isCheaper (tooFar n d l) = false
-isCheaper (tooLong n d l) = false
-isCheaper best = false
-isCheaper (dearer k) = false
-isCheaper (cheaper k) = true
+abbrev pub isPriced : Verdict → Bool
+isPriced (otherCalls p) = false
+isPriced (overload n l c) = false
+isPriced (breakTooLate n k c t l) = false
+isPriced (windowMissed n k c t l) = false
+isPriced (breakMissing n t e) = false
+isPriced (tooFar n d l) = false
+isPriced (tooLong n d l) = false
+isPriced best = true
+isPriced (dearer k) = true
+isPriced (cheaper k) = true
 
 abbrev Fault : Option Verdict → Type 0
-Fault o = (v : Verdict) → o ≡ some v → isCheaper v ≡ false
+Fault o = (v : Verdict) → o ≡ some v → isPriced v ≡ false
 
-fault-one : (v : Verdict) → isCheaper v ≡ false → (t : Bool) → Fault (given t v)
-fault-one v h true w e = subst (λ (x : Verdict). isCheaper x ≡ false) (same e) h
+fault-one : (v : Verdict) → isPriced v ≡ false → (t : Bool) → Fault (given t v)
+fault-one v h true w e = subst (λ (x : Verdict). isPriced x ≡ false) (same e) h
 fault-one v h false w e = clash e
 
 fault-or : (a b : Option Verdict) → Fault a → Fault b → Fault (orElse a b)
 fault-or none b f g = g
 fault-or (some a) b f g = f
 
-call-fault : (s : Sheet) (n : ℕ) (here : Option Break) (k a c : ℕ) (l : Label) → isCheaper (callFault s n here k a c l) ≡ false
+call-fault : (s : Sheet) (n : ℕ) (here : Option Break) (k a c : ℕ) (l : Label) → isPriced (callFault s n here k a c l) ≡ false
 call-fault s n here k a c l = go (ready here (l .time + time s a c)) refl
   where
-    go : (o : Option ℕ) → ready here (l .time + time s a c) ≡ o → isCheaper (callFault s n here k a c l) ≡ false
-    go none e = rw (e, isCheaper) refl
-    go (some r) e = rw (e, isCheaper) refl
+    go : (o : Option ℕ) → ready here (l .time + time s a c) ≡ o → isPriced (callFault s n here k a c l) ≡ false
+    go none e = rw (e, isPriced) refl
+    go (some r) e = rw (e, isPriced) refl
 
 walk-fault : (s : Sheet) (n place k a : ℕ) (l : Label) (calls : List ℕ) → Fault (walkFault s n place k a l calls)
 unfolding walkFault
@@ -149,7 +154,7 @@ walk-fault s n place k a l [] = λ v e. clash e
 walk-fault s n place k a l (c ∷ cs) = go (serve s (breakAt s place k) k a c l) refl (λ m. walk-fault s n place (suc k) c m cs)
   where
     go : (o : Option Label) → serve s (breakAt s place k) k a c l ≡ o → ((m : Label) → Fault (walkFault s n place (suc k) c m cs)) → Fault (walkFault s n place k a l (c ∷ cs))
-    go none e ih = rw (e, walkFault) (λ v q. subst (λ (x : Verdict). isCheaper x ≡ false) (same q) (call-fault s n (breakAt s place k) k a c l))
+    go none e ih = rw (e, walkFault) (λ v q. subst (λ (x : Verdict). isPriced x ≡ false) (same q) (call-fault s n (breakAt s place k) k a c l))
     go (some m) e ih = rw (e, walkFault) (ih m)
 
 total-fault : (s : Sheet) (n : ℕ) (r : Run) (t : Totals) → Fault (totalFault s n r t)
@@ -179,12 +184,41 @@ first-fault : (s : Sheet) (n : ℕ) (rs : List Run) → Fault (firstFault s n rs
 first-fault s n [] = λ v e. clash e
 first-fault s n (r ∷ rs) = fault-or _ _ (run-fault s n r) (first-fault s (suc n) rs)
 
--- ---- Cheaper
+-- ---- against the planner's cost
 
-against-cheaper : (planner given : ℕ) → isCheaper (against planner given) ≡ true → given < planner
-against-cheaper planner given h =
-    by-test (ltb planner given) (λ t. not-both false (rw t at h) refl)
-    (λ f. by-test (ltb given planner) (λ t. ltb-true given planner t) (λ g. not-both false (rw (f, g) at h) refl))
+against-priced : (planner cost : ℕ) → isPriced (against planner cost) ≡ true
+against-priced planner cost =
+    by-test (ltb planner cost) (λ t. rw t refl) (λ f. by-test (ltb cost planner) (λ t. rw (f, t) refl) (λ g. rw (f, g) refl))
+
+-- the same, or dearer or cheaper by something
+pub data Compared (planner cost : ℕ) : Verdict → Type 0 where
+  equal : cost ≡ planner → Compared planner cost best
+  above : {d : ℕ} → cost ≡ planner + d → 0 < d → Compared planner cost (dearer d)
+  below : {d : ℕ} → planner ≡ cost + d → 0 < d → Compared planner cost (cheaper d)
+
+module _ (planner cost : ℕ) where
+  pub compared : Compared planner cost (against planner cost)
+  compared =
+      by-test (ltb planner cost)
+      (λ t. let h = ltb-true planner cost t in rw t (above {d = cost - planner} (omega arith) (omega arith)))
+      (λ f. let h = ltb-false planner cost f in
+      by-test (ltb cost planner)
+      (λ t. let h = ltb-true cost planner t in rw (f, t) (below {d = planner - cost} (omega arith) (omega arith)))
+      (λ g. let k = ltb-false cost planner g in rw (f, g) (equal (omega arith))))
+
+  is-equal : Compared planner cost best → cost ≡ planner
+  is-equal (equal e) = e
+
+  is-above : (d : ℕ) → Compared planner cost (dearer d) → (cost ≡ planner + d) × (0 < d)
+  is-above d (above e h) = (e, h)
+
+  is-below : (d : ℕ) → Compared planner cost (cheaper d) → (planner ≡ cost + d) × (0 < d)
+  is-below d (below e h) = (e, h)
+
+  against-is : (v : Verdict) → Compared planner cost v → against planner cost ≡ v
+  against-is v (equal e) = rw (le-ltb cost planner (omega arith), le-ltb planner cost (omega arith)) refl
+  against-is v (above e h) = rw (lt-ltb planner cost (omega arith)) (ap dearer (omega arith))
+  against-is v (below e h) = rw (le-ltb planner cost (omega arith), lt-ltb cost planner (omega arith)) (ap cheaper (omega arith))
 
 -- without a break on the sheet every legal run is as the clock has it
 plain-by-clock : (s : Sheet) → s .rest ≡ none → (rs : List Run) → legalCutting s rs ≡ true → byClock s rs ≡ true
@@ -216,39 +250,73 @@ mark-legal s tour rs j l =
     mark-same s tour rs (subst (λ (c : List ℕ). differ 1 (joined rs) c ≡ none) j (same-differ 1 (joined rs)))
     ∙ ap (λ (o : Option Verdict). valueOr (against (splitTw s tour .cost) (cuttingCost s rs)) o) (legal-runs-unmarked s 1 rs l)
 
+-- the runs are legal with their places, and join to the planner's served customers
+abbrev pub Cuts : Sheet → List ℕ → List Run → Type 0
+Cuts s tour rs = (joined rs ≡ splitTw s tour .served) × (legalCutting s rs ≡ true)
+
+abbrev pub plannerCost : Sheet → List ℕ → ℕ
+plannerCost s tour = splitTw s tour .cost
+
 module _ (s : Sheet) (tour : List ℕ) (rs : List Run) (shaped : all (λ r. not (isEmpty (r .calls))) rs ≡ true) where
-  abbrev Means : Type 0
-  Means = (joined rs ≡ splitTw s tour .served) × (legalCutting s rs ≡ true) × (cuttingCost s rs < splitTw s tour .cost)
-
-  -- what a mark of Cheaper means
-  pub cheaper-is : isCheaper (mark s tour rs) ≡ true → Means
-  cheaper-is h = go (differ 1 (joined rs) (splitTw s tour .served)) refl
+  priced-cuts : isPriced (mark s tour rs) ≡ true → Cuts s tour rs
+  priced-cuts h = go (differ 1 (joined rs) (splitTw s tour .served)) refl
     where
-      at : differ 1 (joined rs) (splitTw s tour .served) ≡ none → (o : Option Verdict) → firstFault s 1 rs ≡ o → isCheaper (valueOr (against (splitTw s tour .cost) (cuttingCost s rs)) o) ≡ true → Means
-      at e (some v) f k = not-both (isCheaper v) k (first-fault s 1 rs v f)
-      at e none f k = (differ-same 1 (joined rs) (splitTw s tour .served) e, unmarked-runs s 1 rs shaped f, against-cheaper (splitTw s tour .cost) (cuttingCost s rs) k)
+      at : differ 1 (joined rs) (splitTw s tour .served) ≡ none → (o : Option Verdict) → firstFault s 1 rs ≡ o → isPriced (valueOr (against (plannerCost s tour) (cuttingCost s rs)) o) ≡ true → Cuts s tour rs
+      at e (some v) f k = not-both (isPriced v) k (first-fault s 1 rs v f)
+      at e none f k = (differ-same 1 (joined rs) (splitTw s tour .served) e, unmarked-runs s 1 rs shaped f)
 
-      go : (o : Option ℕ) → differ 1 (joined rs) (splitTw s tour .served) ≡ o → Means
-      go (some p) e = not-both (isCheaper (mark s tour rs)) h (ap isCheaper (mark-other s tour rs p e))
-      go none e = at e (firstFault s 1 rs) refl (sym (ap isCheaper (mark-same s tour rs e)) ∙ h)
+      go : (o : Option ℕ) → differ 1 (joined rs) (splitTw s tour .served) ≡ o → Cuts s tour rs
+      go (some p) e = not-both (isPriced (mark s tour rs)) h (ap isPriced (mark-other s tour rs p e))
+      go none e = at e (firstFault s 1 rs) refl (sym (ap isPriced (mark-same s tour rs e)) ∙ h)
+
+  -- the mark is Best, Dearer or Cheaper exactly when the runs are legal with their places and join to the served customers
+  pub priced-exactly : (isPriced (mark s tour rs) ≡ true) ↔ Cuts s tour rs
+  priced-exactly = (priced-cuts, λ c. ap isPriced (mark-legal s tour rs (c .0) (c .1)) ∙ against-priced (plannerCost s tour) (cuttingCost s rs))
+
+  compared-exactly : (v : Verdict) → isPriced v ≡ true → (mark s tour rs ≡ v) ↔ (Cuts s tour rs × Compared (plannerCost s tour) (cuttingCost s rs) v)
+  compared-exactly v p = (
+    λ h. let c = priced-cuts (ap isPriced h ∙ p) in (
+      c,
+      subst (λ (w : Verdict). Compared (plannerCost s tour) (cuttingCost s rs) w) (sym (mark-legal s tour rs (c .0) (c .1)) ∙ h) (compared (plannerCost s tour) (cuttingCost s rs)),
+    ),
+    λ x. mark-legal s tour rs (x .0 .0) (x .0 .1) ∙ against-is (plannerCost s tour) (cuttingCost s rs) v (x .1),
+  )
+
+  -- Best: at the planner's cost
+  pub best-exactly : (mark s tour rs ≡ best) ↔ (Cuts s tour rs × (cuttingCost s rs ≡ plannerCost s tour))
+  best-exactly =
+      let x = compared-exactly best refl in
+      (λ h. let y = x .0 h in (y .0, is-equal _ _ (y .1)), λ y. x .1 (y .0, equal (y .1)))
+
+  pub dearer-exactly : (d : ℕ) → (mark s tour rs ≡ dearer d) ↔ (Cuts s tour rs × (cuttingCost s rs ≡ plannerCost s tour + d) × (0 < d))
+  dearer-exactly d =
+      let x = compared-exactly (dearer d) refl in
+      (λ h. let y = x .0 h in let z = is-above _ _ d (y .1) in (y .0, z .0, z .1), λ y. x .1 (y .0, above (y .1) (y .2)))
+
+  pub cheaper-exactly : (d : ℕ) → (mark s tour rs ≡ cheaper d) ↔ (Cuts s tour rs × (plannerCost s tour ≡ cuttingCost s rs + d) × (0 < d))
+  cheaper-exactly d =
+      let x = compared-exactly (cheaper d) refl in
+      (λ h. let y = x .0 h in let z = is-below _ _ d (y .1) in (y .0, z .0, z .1), λ y. x .1 (y .0, below (y .1) (y .2)))
 
   -- Cheaper occurs only with lateness pay and a break
-  pub cheaper-only : isCheaper (mark s tour rs) ≡ true → (latenessPay s ≡ true) × (present (s .rest) ≡ true)
-  cheaper-only h =
-      let c = cheaper-is h in
-      let P = promised s tour in (
-        by-test (latenessPay s) (λ t. t) (λ f. absurd (off (c .2) (P .least-free f rs (c .0) (c .1)))),
-        by-rest (s .rest) refl,
-      )
+  pub cheaper-only : (d : ℕ) → mark s tour rs ≡ cheaper d → (latenessPay s ≡ true) × (present (s .rest) ≡ true)
+  cheaper-only d h = (
+    by-test (latenessPay s) (λ t. t) (λ f. off (P .least-free f rs (c .0 .0) (c .0 .1)) (c .1) (c .2)),
+    by-rest (s .rest) refl,
+  )
     where
-      off : {a b : ℕ} → a < b → b ≤ a → ⊥
-      off p q = omega arith
+      P : Promise s tour (splitTw s tour)
+      P = promised s tour
+
+      c : Cuts s tour rs × (plannerCost s tour ≡ cuttingCost s rs + d) × (0 < d)
+      c = cheaper-exactly d .0 h
+
+      off : {A : Type 0} {a b d : ℕ} → b ≤ a → b ≡ a + d → 0 < d → A
+      off p q r = absurd (omega arith)
 
       by-rest : (o : Option Break) → s .rest ≡ o → present o ≡ true
       by-rest (some b) e = refl
-      by-rest none e =
-          let c = cheaper-is h in
-          absurd (off (c .2) (promised s tour .least-clock rs (c .0) (c .1, plain-by-clock s e rs (c .1))))
+      by-rest none e = off (P .least-clock rs (c .0 .0) (c .0 .1, plain-by-clock s e rs (c .0 .1))) (c .1) (c .2)
 
 -- the planner's own cutting is marked Best
 pub own-best : (s : Sheet) (tour : List ℕ) → mark s tour (promised s tour .runs) ≡ best
@@ -256,7 +324,4 @@ own-best s tour =
     let P = promised s tour in
     mark-legal s tour (P .runs) (P .cuts) (P .all-legal)
     ∙ ap (λ (n : ℕ). against (splitTw s tour .cost) n) (P .adds-up)
-    ∙ even (splitTw s tour .cost)
-  where
-    even : (n : ℕ) → against n n ≡ best
-    even n = rw (borrow.Author.Tests.le-ltb n n (native.Mathlib.Nat.le-refl n)) refl
+    ∙ against-is (splitTw s tour .cost) (splitTw s tour .cost) best (equal refl)

@@ -13,7 +13,7 @@ use lib.Dec.{ltb}
 use borrow.Author.Tests.{ltb-true, ltb-false}
 use Rattle.basics.specs.Tests.{by-test, both}
 use Rattle.basics.specs.Options.{same, clash, bound}
-use Rattle.basics.specs.Lists.{all, sum-append}
+use Rattle.basics.specs.Lists.{all-parts, sum-append}
 use Rattle.definitions.specs.Sheet.{Sheet}
 use Rattle.definitions.specs.Run.{Run, legal}
 use Rattle.definitions.specs.Clock.{Arc}
@@ -41,10 +41,6 @@ ends-in c (x ∷ before) since [] e h = absurd (h (nil-right before since (tail-
 ends-in c (x ∷ before) since (y ∷ done) e h =
     let r = ends-in c before since done (tail-eq-of-cons-eq e) h in
     (r .0, r .1, ap (λ (z : ℕ). z ∷ (before ++ r .0)) (head-eq-of-cons-eq e) ∙ ap (λ (l : List ℕ). y ∷ l) (r .2))
-
-all-parts : {A : Type 0} (p : A → Bool) (l m : List A) → all p (l ++ m) ≡ true → (all p l ≡ true) × (all p m ≡ true)
-all-parts p [] m h = (refl, h)
-all-parts p (x ∷ l) m h = let b = both (p x) _ h in let r = all-parts p l m (b .1) in (rw (b .0) (r .0), r .1)
 
 module _ (s : Sheet) (price : List ℕ → Option Arc) (P : Placement s price) (Rival : List Run → Type 0)
     (legal-rival : (rs : List Run) → Rival rs → legalCutting s rs ≡ true) (dear-rival : (rs : List Run) → Rival rs → worth price rs ≤ cuttingCost s rs) where
