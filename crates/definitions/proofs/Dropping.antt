@@ -51,10 +51,11 @@ module _ (arc : List ℕ → Option Arc) (tour : List ℕ) where
     unfolding drops
     settles = settles-in (length tour) (allHeld tour) (subst (λ (n : ℕ). n ≤ length tour) (sym (length-count 1 (length tour))) (le-refl (length tour)))
 
-  -- when no such beginning is left: every beginning of the served calls has a legal cutting
-  pub settled : {h g : Held} → Settles (Cuttable arc) tour h g → (i : ℕ) → i ≤ length (g .held) → Cuttable arc (beginning (Cuttable arc) tour i g)
-  settled (stop a) = a
-  settled (goes k b x a s) = settled s
+
+-- when no such beginning is left: every beginning of the calls held in the end has a cutting
+pub settled : (Has : List ℕ → Type 0) (tour : List ℕ) {h g : Held} → Settles Has tour h g → (i : ℕ) → i ≤ length (g .held) → Has (beginning Has tour i g)
+settled Has tour (stop a) = a
+settled Has tour (goes k b x a s) = settled Has tour s
 
 -- ---- every position is either served or dropped
 

@@ -85,7 +85,7 @@ module _ (s : Sheet) (price : List ℕ → Option Arc) (P : Placement s price) w
     -- the served calls have a cutting
     pub cut : (m : Best) × (cheapest price calls ≡ some m)
     cut =
-        let c = settled price tour (settles price tour no-empty) (length (final .held)) (le-refl (length (final .held))) in
+        let c = settled (Cuttable price) tour (settles price tour no-empty) (length (final .held)) (le-refl (length (final .held))) in
         let e : take (length (final .held)) calls ≡ calls = ap (λ (n : ℕ). take n calls) (sym (length-map (final .held) (callAt tour))) ∙ take-length calls in
         let m = best-of price no-empty calls .below (c .0) (subst (λ (l : List ℕ). Reach price l (c .0)) e (c .1)) in
         (m .0, m .1)

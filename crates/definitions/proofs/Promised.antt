@@ -3,6 +3,7 @@ use Prim.Native.Nat.{ℕ, zero, suc, _+_, _≤_, _<_}
 use native.Mathlib.Omega.{arith}
 use native.Mathlib.Nat.{le-refl, zero-add}
 use mathlib.Core.Path.{_≡_, refl, sym, ap, subst, _∙_}
+use mathlib.Core.Logic.{_⊎_}
 use mathlib.Core.Bool.{Bool, true, false, false≢true}
 use mathlib.Core.List.{List, [], _∷_, _++_, map}
 use mathlib.Core.Option.{Option, none, some}
@@ -12,13 +13,14 @@ use lib.Dec.{eqb}
 use borrow.Author.Tests.{eqb-true, eq-eqb}
 use Rattle.basics.specs.Tests.{both, and-true}
 use Rattle.basics.specs.Options.{holds, same, held}
+use Rattle.basics.specs.Lists.{In, Rising, count}
 use Rattle.definitions.specs.Sheet.{Sheet, latenessPay}
 use Rattle.definitions.specs.Run.{Run, Totals, legal, runCost}
 use Rattle.definitions.specs.Clock.{clock, Arc, arc}
 use Rattle.definitions.specs.Cutting.{legalCutting, cuttingCost, nothing}
-use Rattle.definitions.specs.Drop.{drops, splitTw}
-use Rattle.definitions.specs.Promise.{ClockRival, byClock, Promise}
-use Rattle.definitions.proofs.Dropping.{drops-parts}
+use Rattle.definitions.specs.Drop.{drops, splitTw, callAt}
+use Rattle.definitions.specs.Promise.{ClockRival, byClock, Promise, HasCutting}
+use Rattle.definitions.proofs.Dropping.{settled, parts-either, parts-not-both, parts-rise, count-rises, drops-parts}
 use Rattle.definitions.proofs.Least.{Made, costIn, worth}
 use Rattle.definitions.proofs.Legality.{arc-clock, arc-legal, legal-arc, free-cost}
 use Rattle.definitions.proofs.Placement.{plus, Placement, no-empty, cut, cut-legal, cut-least, drop-rule, calls}
@@ -85,3 +87,27 @@ module _ (s : Sheet) (tour : List ℕ) where
         drop-rule = drop-rule s (arc s) C tour;
         parted = drops-parts (arc s) tour (no-empty s (arc s) C);
       })
+
+  -- ---- what the clauses say of single calls and positions
+
+  -- every beginning of the served calls has a legal cutting
+  pub every-beginning : (i : ℕ) → i ≤ length (splitTw s tour .served) → HasCutting s (take i (splitTw s tour .served))
+  every-beginning i h =
+      let P = promised in
+      let long : length (splitTw s tour .served) ≡ length (P .held) = ap length (sym (P .served-are)) ∙ length-map (P .held) (callAt tour) in
+      subst (λ (l : List ℕ). HasCutting s (take i l)) (P .served-are) (settled (HasCutting s) tour (P .drop-rule) i (subst (λ (n : ℕ). i ≤ n) long h))
+
+  -- every position of the tour is either served or dropped
+  pub served-or-dropped : {p : ℕ} → In p (count 1 (length tour)) → In p (promised .held) ⊎ In p (splitTw s tour .dropped)
+  served-or-dropped i = parts-either (promised .parted) i
+
+  -- and never both
+  pub never-both : {p : ℕ} → In p (promised .held) → In p (splitTw s tour .dropped) → ⊥
+  never-both i j = parts-not-both 0 (promised .parted) (count-rises 0 (length tour)) i j
+
+  -- the drops come in rising order, and so do the positions served
+  pub drops-rise : Rising 0 (splitTw s tour .dropped)
+  drops-rise = parts-rise 0 (promised .parted) (count-rises 0 (length tour)) .1
+
+  pub served-rise : Rising 0 (promised .held)
+  served-rise = parts-rise 0 (promised .parted) (count-rises 0 (length tour)) .0
