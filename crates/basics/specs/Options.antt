@@ -1,5 +1,5 @@
 -- Answers that may be none. Assumes nothing.
-use mathlib.Core.Path.{_≡_, refl, sym, ap, _∙_}
+use mathlib.Core.Path.{_≡_, refl, sym}
 use mathlib.Core.Bool.{Bool, true, false, cond, not, true≢false, false≢true}
 use mathlib.Core.Option.{Option, none, some, Option·none-ne-some, Option·some-injective}
 

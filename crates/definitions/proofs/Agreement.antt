@@ -1,17 +1,16 @@
 -- Without window, limit and break `split` answers the same as `split_tw`. Assumes nothing.
 use Prim.Native.Nat.{ℕ, zero, suc, _+_, _-_, _≤_, _<_}
 use native.Mathlib.Omega.{arith}
-use native.Mathlib.Nat.{le-refl, not-suc-le-zero, add-zero, zero-add, le-trans}
+use native.Mathlib.Nat.{not-suc-le-zero}
 use mathlib.Core.Path.{_≡_, refl, sym, ap, subst, _∙_, fun-ext}
-use mathlib.Core.Bool.{Bool, true, false, cond, not, _&&_, true≢false, false≢true}
-use mathlib.Core.List.{List, [], _∷_, _++_, map, append-nil, append-assoc, nil≢cons}
-use mathlib.Core.Option.{Option, none, some}
+use mathlib.Core.Bool.{Bool, true, false, not, _&&_}
+use mathlib.Core.List.{List, [], _∷_, _++_, map, append-nil, append-assoc}
+use mathlib.Core.Option.{Option, none}
 use lib.ListN.{length, take, getD, length-append, length-map}
-use lib.Seq.{take-append-seam}
-use lib.Dec.{ltb, leb}
+use lib.Dec.{ltb}
 use borrow.Author.Tests.{leb-true, le-leb, ltb-true, ltb-false}
 use Rattle.basics.specs.Tests.{by-test, not-both, both, and-true}
-use Rattle.basics.specs.Options.{_>>=_, given, same, granted}
+use Rattle.basics.specs.Options.{_>>=_, given, granted}
 use Rattle.basics.specs.Lists.{isEmpty, all, only, count}
 use Rattle.definitions.specs.Sheet.{Sheet}
 use Rattle.definitions.specs.Run.{Label, start, distanceFrom, Totals, home, load, fits, allowed, price}

@@ -3,13 +3,13 @@ use Prim.Native.Nat.{ℕ, zero, suc, _+_, _-_, _*_, _/_, _%_, _≤_, _<_}
 use Prim.Native.Char.{code}
 use native.Mathlib.Nat.{not-suc-le-zero, zero-add, div-add-mod'}
 use native.Mathlib.Omega.{arith}
-use mathlib.Core.Path.{_≡_, refl, sym, ap, _∙_}
-use mathlib.Core.Bool.{Bool, true, false, _&&_}
+use mathlib.Core.Path.{_≡_, refl, ap, _∙_}
+use mathlib.Core.Bool.{Bool, true, _&&_}
 use mathlib.Core.List.{List, [], _∷_, _++_}
 use lib.Dec.{ltb, leb}
 use borrow.Author.Tests.{ltb-true, ltb-false, le-leb}
 use Rattle.basics.specs.Tests.{by-test, and-true}
-use Rattle.basics.specs.Lists.{All, Passes, all-append}
+use Rattle.basics.specs.Lists.{Passes, all-append}
 use Rattle.definitions.specs.Listing.{digitsIn, decimal}
 
 -- the number that digits say, behind those that said a

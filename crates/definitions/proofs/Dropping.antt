@@ -1,12 +1,11 @@
 -- The drop process: each drop is the end of the shortest beginning without a legal cutting; in the end there is no such beginning; positions are served or dropped, and both rise. Assumes nothing.
 use Prim.Native.Nat.{ℕ, zero, suc, _+_, _-_, _≤_, _<_}
 use native.Mathlib.Omega.{arith}
-use native.Mathlib.Nat.{le-refl, not-suc-le-zero, zero-add}
+use native.Mathlib.Nat.{le-refl, not-suc-le-zero}
 use mathlib.Core.Path.{_≡_, refl, sym, ap, subst, _∙_}
 use mathlib.Core.Logic.{_⊎_, inl, inr, ⊎-elim}
-use mathlib.Core.Bool.{Bool, true, false}
-use mathlib.Core.List.{List, [], _∷_, _++_, map, append-nil, append-assoc, nil≢cons}
-use mathlib.Core.Option.{Option, none, some}
+use mathlib.Core.List.{List, [], _∷_, _++_, map, append-nil, append-assoc}
+use mathlib.Core.Option.{Option, none}
 use lib.ListN.{length, take, drop, getD, length-append, length-map}
 use Rattle.basics.specs.Tests.{by-test}
 use Rattle.basics.specs.Lists.{without, count, In, first, next, Rising, length-without, length-count}
@@ -50,7 +49,6 @@ module _ (arc : List ℕ → Option Arc) (tour : List ℕ) where
     pub settles : Settles (Cuttable arc) tour (allHeld tour) (drops arc tour)
     unfolding drops
     settles = settles-in (length tour) (allHeld tour) (subst (λ (n : ℕ). n ≤ length tour) (sym (length-count 1 (length tour))) (le-refl (length tour)))
-
 
 -- when no such beginning is left: every beginning of the calls held in the end has a cutting
 pub settled : (Has : List ℕ → Type 0) (tour : List ℕ) {h g : Held} → Settles Has tour h g → (i : ℕ) → i ≤ length (g .held) → Has (beginning Has tour i g)

@@ -1,15 +1,14 @@
 -- The improvers and their sort on small sheets, worked by hand.
-use Prim.Native.Nat.{ℕ, zero, suc, _+_, _-_, _*_}
+use Prim.Native.Nat.{ℕ, _+_, _-_, _*_}
 use mathlib.Core.Path.{_≡_, refl}
 use mathlib.Core.Bool.{Bool, true, false, cond}
-use mathlib.Core.List.{List, [], _∷_, _++_}
-use mathlib.Core.Option.{Option, none, some}
+use mathlib.Core.List.{List, [], _∷_}
 use lib.ListN.{getD}
 use lib.Dec.{ltb, leb}
 use Rattle.definitions.specs.Sort.{rising, falling, insert, sort}
 use Rattle.definitions.specs.Improver.{Given}
 use Rattle.definitions.specs.RunList.{runsFrom, runsOf}
-use Rattle.definitions.specs.TwoOpt.{turned, tried, triedAll, passFrom, pass, passes, improved, improvedDistance}
+use Rattle.definitions.specs.TwoOpt.{tried, triedAll, passFrom, pass, passes, improved, improvedDistance}
 use Rattle.definitions.specs.Elimination.{candidates, firstBelow, placed, placedAll, emptied, firstEmptied, search, searches, eliminated, eliminatedCalls, eliminatedEnds}
 
 -- ---- sort: equals stay as they stood

@@ -1,7 +1,7 @@
 -- What a reversal and an insertion change in the distance of a run, leg by leg.
-use Prim.Native.Nat.{ℕ, zero, suc, _+_, _≤_, _<_}
+use Prim.Native.Nat.{ℕ, _+_}
 use native.Mathlib.Omega.{arith}
-use mathlib.Core.Path.{_≡_, refl, sym, ap, subst, _∙_}
+use mathlib.Core.Path.{_≡_, refl, sym, ap, _∙_}
 use mathlib.Core.List.{List, [], _∷_, _++_, reverse, reverseAux, reverseAux-eq}
 use Rattle.definitions.specs.Run.{legsFrom}
 use Rattle.definitions.specs.Improver.{Given, distanceOf}

@@ -1,17 +1,17 @@
 -- A run is legal with some break place exactly when it is by the clock; the clock is home no later than any legal place; without lateness pay all legal places cost the same. Assumes nothing.
-use Prim.Native.Nat.{ℕ, zero, suc, _+_, _-_, _*_, _≤_, _<_, max}
+use Prim.Native.Nat.{ℕ, zero, suc, _+_, _-_, _≤_, _<_}
 use native.Mathlib.Omega.{arith}
 use native.Mathlib.Nat.{le-refl, not-suc-le-zero}
 use mathlib.Core.Path.{_≡_, refl, sym, ap, subst, _∙_}
-use mathlib.Core.Bool.{Bool, true, false, cond, not, _&&_, _||_, true≢false, false≢true}
+use mathlib.Core.Bool.{Bool, true, false, not, _&&_, true≢false}
 use mathlib.Core.List.{List, [], _∷_}
 use mathlib.Core.Option.{Option, none, some}
 use lib.ListN.{length, getD}
-use lib.Dec.{ltb, leb, eqb}
-use borrow.Author.Tests.{eqb-true, eq-eqb, ne-eqb, leb-true, le-leb, not-false}
+use lib.Dec.{ltb}
+use borrow.Author.Tests.{eqb-true, eq-eqb, ne-eqb, leb-true, le-leb}
 use Rattle.basics.specs.Tests.{or-left, or-right, by-test, both, and-true}
 use Rattle.basics.specs.Options.{_>>=_, holds, present, same, clash, bound, held, granted}
-use Rattle.basics.specs.Lists.{isEmpty, all, any}
+use Rattle.basics.specs.Lists.{isEmpty, any}
 use Rattle.definitions.specs.Sheet.{anySoft, Window, Break, Sheet, depot, customer, time, soft, latenessPay}
 use Rattle.definitions.specs.Window.{Entry, enter}
 use Rattle.definitions.specs.Limits.{within, excused}

@@ -55,7 +55,3 @@ pub mod TwoOptLaws
 pub mod EliminationLaws
 pub mod ImproverCases
 pub mod Improving
--- Lookups lie inside the tables, and every sum is below 2 ^ 53.
-pub mod Inside
-pub mod Bounds
-pub mod CostBounds

@@ -2,13 +2,13 @@
 use Prim.Native.Nat.{ℕ}
 use mathlib.Core.Path.{_≡_, refl}
 use mathlib.Core.List.{List, [], _∷_, map}
-use Rattle.definitions.specs.Run.{serveAt, serveAll, ride, placed, legal, runCost, ready}
+use Rattle.definitions.specs.Run.{serveAt, serveAll, ready}
 use Rattle.definitions.specs.Window.{enter}
 use Rattle.definitions.specs.Clock.{clockFrom, clock, startOf, arc}
 use Rattle.definitions.specs.RunList.{runsFrom}
 use Rattle.definitions.specs.Cutting.{pointsFrom, cheapest, stuck}
 use Rattle.definitions.specs.Drop.{dropFrom, drops, splitTw}
-use Rattle.definitions.specs.Words.{Word, wordOf, bytesOf}
+use Rattle.definitions.specs.Words.{wordOf, bytesOf}
 use Rattle.definitions.specs.Reader.{mayStand, inRange, pairFalls, faultAt, walk, sheetOf, tourOf, readWords, read}
 use Rattle.definitions.specs.Listing.{text, digitsIn, runLine, planText, listing}
 

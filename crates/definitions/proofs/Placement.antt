@@ -1,21 +1,19 @@
 -- What is promised of a cutting, for any way to place the break that is sound and complete. Assumes nothing.
-use Prim.Native.Nat.{ℕ, zero, suc, _+_, _≤_, _<_}
+use Prim.Native.Nat.{ℕ, _+_, _≤_}
 use native.Mathlib.Omega.{arith}
 use native.Mathlib.Nat.{le-refl, zero-add}
 use mathlib.Core.Path.{_≡_, refl, sym, ap, subst, _∙_}
-use mathlib.Core.Bool.{Bool, true, false, false≢true}
-use mathlib.Core.List.{List, [], _∷_, _++_, map}
+use mathlib.Core.Bool.{true, false, false≢true}
+use mathlib.Core.List.{List, [], _∷_}
 use mathlib.Core.Option.{Option, none, some}
 use lib.ListN.{length, take, length-map}
 use lib.Seq.{take-length}
-use lib.Dec.{eqb}
-use borrow.Author.Tests.{eqb-true, eq-eqb}
 use Rattle.basics.specs.Tests.{both, and-true}
 use Rattle.basics.specs.Options.{same, held}
 use Rattle.definitions.specs.Sheet.{Sheet}
 use Rattle.definitions.specs.Run.{Run, legal, runCost}
-use Rattle.definitions.specs.Clock.{Arc, arc}
-use Rattle.definitions.specs.Cutting.{joined, legalCutting, cuttingCost, Best, nothing, cheapest}
+use Rattle.definitions.specs.Clock.{Arc}
+use Rattle.definitions.specs.Cutting.{joined, legalCutting, cuttingCost, Best, cheapest}
 use Rattle.definitions.specs.Drop.{allHeld, callAt, callsAt, Held, drops}
 use Rattle.definitions.specs.Promise.{HasCutting, Settles, stop, goes}
 use Rattle.definitions.proofs.Dropping.{settles, settled}

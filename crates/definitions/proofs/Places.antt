@@ -1,20 +1,20 @@
 -- The clock against every break place: its labels are those of runs with given places, and no given place is home earlier. Assumes nothing.
-use Prim.Native.Nat.{ℕ, zero, suc, _+_, _-_, _*_, _≤_, _<_, max}
+use Prim.Native.Nat.{ℕ, suc, _+_, _-_, _≤_, _<_}
 use native.Mathlib.Omega.{arith}
-use native.Mathlib.Nat.{le-refl, not-suc-le-zero, eq-or-lt-of-le}
+use native.Mathlib.Nat.{le-refl, eq-or-lt-of-le}
 use mathlib.Core.Path.{_≡_, refl, sym, ap, subst, _∙_}
 use mathlib.Core.Logic.{_⊎_, inl, inr, ⊎-elim}
-use mathlib.Core.Bool.{Bool, true, false, cond, not, _&&_, _||_}
+use mathlib.Core.Bool.{true, false}
 use mathlib.Core.List.{List, [], _∷_}
 use mathlib.Core.Option.{Option, none, some}
 use lib.ListN.{length}
-use lib.Dec.{ltb, leb, eqb}
-use borrow.Author.Tests.{ltb-true, ltb-false, eqb-true, eq-eqb, ne-eqb, leb-true, le-leb}
+use lib.Dec.{ltb, eqb}
+use borrow.Author.Tests.{ltb-true, ltb-false, eqb-true, eq-eqb, ne-eqb}
 use Rattle.basics.specs.Tests.{by-test, not-both}
 use Rattle.basics.specs.Options.{_>>=_, same, clash, bound}
 use Rattle.definitions.specs.Sheet.{Break, Sheet, time}
-use Rattle.definitions.specs.Run.{Label, start, serve, breakAt, serveAll, home}
-use Rattle.definitions.specs.Clock.{Clock, smaller, sooner, tick, clockFrom, clock}
+use Rattle.definitions.specs.Run.{Label, start, serve, breakAt, serveAll}
+use Rattle.definitions.specs.Clock.{Clock, smaller, sooner, tick, clockFrom}
 use Rattle.definitions.proofs.Serving.{NoLater, serve-mono, serve-sooner, serve-place}
 
 -- ---- the smaller of two labels

@@ -1,14 +1,12 @@
 -- Demand 3 holds of `split_tw`. Assumes nothing.
-use Prim.Native.Nat.{ℕ, zero, suc, _+_, _≤_, _<_}
+use Prim.Native.Nat.{ℕ, _≤_}
 use native.Mathlib.Omega.{arith}
-use native.Mathlib.Nat.{le-refl, zero-add}
 use mathlib.Core.Path.{_≡_, refl, sym, ap, subst, _∙_}
 use mathlib.Core.Logic.{_⊎_}
-use mathlib.Core.Bool.{Bool, true, false, false≢true}
-use mathlib.Core.List.{List, [], _∷_, _++_, map}
-use mathlib.Core.Option.{Option, none, some}
+use mathlib.Core.Bool.{true, false}
+use mathlib.Core.List.{List, [], _∷_}
+use mathlib.Core.Option.{Option}
 use lib.ListN.{length, take, length-map}
-use lib.Seq.{take-length}
 use lib.Dec.{eqb}
 use borrow.Author.Tests.{eqb-true, eq-eqb}
 use Rattle.basics.specs.Tests.{both, and-true}
@@ -17,7 +15,7 @@ use Rattle.basics.specs.Lists.{In, Rising, count}
 use Rattle.definitions.specs.Sheet.{Sheet, latenessPay}
 use Rattle.definitions.specs.Run.{Run, Totals, legal, runCost}
 use Rattle.definitions.specs.Clock.{clock, Arc, arc}
-use Rattle.definitions.specs.Cutting.{legalCutting, cuttingCost, nothing}
+use Rattle.definitions.specs.Cutting.{legalCutting, cuttingCost}
 use Rattle.definitions.specs.Drop.{drops, splitTw, callAt}
 use Rattle.definitions.specs.Promise.{ClockRival, byClock, Promise, HasCutting}
 use Rattle.definitions.proofs.Dropping.{settled, parts-either, parts-not-both, parts-rise, count-rises, drops-parts}

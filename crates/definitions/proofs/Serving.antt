@@ -1,14 +1,13 @@
 -- Serving is monotone in time: who is no later before a call is no later after it, and a break only delays. Assumes nothing.
-use Prim.Native.Nat.{ℕ, zero, suc, _+_, _-_, _*_, _≤_, _<_, max}
+use Prim.Native.Nat.{ℕ, _+_, _-_, _*_, _≤_, max}
 use native.Mathlib.Omega.{arith}
 use native.Mathlib.Nat.{le-refl}
-use mathlib.Core.Path.{_≡_, refl, sym, ap, subst, _∙_}
-use mathlib.Core.Bool.{Bool, true, false, cond}
+use mathlib.Core.Path.{_≡_, refl, ap}
 use mathlib.Core.Option.{Option, none, some}
 use lib.Dec.{ltb}
-use borrow.Author.Tests.{ltb-true, ltb-false, lt-ltb, le-ltb}
+use borrow.Author.Tests.{ltb-false, le-ltb}
 use Rattle.basics.specs.Tests.{by-test}
-use Rattle.basics.specs.Options.{_>>=_, same, clash, bound}
+use Rattle.basics.specs.Options.{same, clash, bound}
 use Rattle.definitions.specs.Sheet.{Window, Break, Customer, Sheet, customer, time}
 use Rattle.definitions.specs.Window.{Entry, enter}
 use Rattle.definitions.specs.Run.{serveAt, ready, Label, placeAfter, serve}

@@ -1,8 +1,8 @@
 -- The complete answer of each public call over what it is lent: refused by number with nothing written, or its result and what it writes at the front
 -- of each lent list. Definitions only.
 use Prim.Native.Nat.{ℕ}
-use mathlib.Core.Bool.{Bool, true, false, cond}
-use mathlib.Core.List.{List, [], _∷_, map}
+use mathlib.Core.Bool.{Bool}
+use mathlib.Core.List.{List, []}
 use mathlib.Core.Option.{Option, none, some}
 use Rattle.definitions.specs.Sheet.{Customer, Sheet}
 use Rattle.definitions.specs.Evaluation.{Evaluation, routeFeasible, routeEval, effectiveCost}

@@ -1,10 +1,10 @@
 -- The break clock: where no break place is named, the clock's place counts. Definitions only.
-use Prim.Native.Nat.{ℕ, zero, suc, _+_, _-_}
-use mathlib.Core.Bool.{Bool, true, false, cond, not, _&&_, _||_}
+use Prim.Native.Nat.{ℕ, zero, suc, _+_}
+use mathlib.Core.Bool.{Bool, cond, not, _&&_, _||_}
 use mathlib.Core.List.{List, [], _∷_}
 use mathlib.Core.Option.{Option, none, some}
 use lib.ListN.{getD, take}
-use lib.Dec.{ltb, leb, eqb}
+use lib.Dec.{ltb, eqb}
 use Rattle.basics.specs.Options.{_>>=_, holds, given}
 use Rattle.basics.specs.Lists.{isEmpty}
 use Rattle.definitions.specs.Sheet.{Break, Sheet, time}

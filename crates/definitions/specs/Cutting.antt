@@ -1,10 +1,8 @@
 -- A cutting divides calls, in order, into runs. Definitions only.
-use Prim.Native.Nat.{ℕ, zero, suc, _+_}
-use mathlib.Core.Path.{_≡_}
-use mathlib.Core.Bool.{Bool, true, false, cond, _&&_}
+use Prim.Native.Nat.{ℕ, suc, _+_}
+use mathlib.Core.Bool.{Bool, cond}
 use mathlib.Core.List.{List, [], _∷_, _++_, map, tail}
 use mathlib.Core.Option.{Option, none, some}
-use lib.ListN.{length}
 use lib.Dec.{ltb}
 use Rattle.basics.specs.Options.{_>>=_, present}
 use Rattle.basics.specs.Lists.{all, sum}

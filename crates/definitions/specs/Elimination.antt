@@ -1,7 +1,7 @@
 -- eliminate_routes on whole numbers. What a customer adds is a difference of distances: the distances of all runs are compared as they are.
 -- They add less than is saved when the runs that are left are shorter than those before, with one fixed cost on top.
 use Prim.Native.Nat.{ℕ, zero, suc, _+_}
-use mathlib.Core.Bool.{Bool, true, false, cond, _&&_}
+use mathlib.Core.Bool.{cond, _&&_}
 use mathlib.Core.List.{List, [], _∷_, _++_, map}
 use mathlib.Core.Option.{Option, none, some}
 use lib.ListN.{length}

@@ -2,7 +2,7 @@
 use Prim.Native.Nat.{ℕ, _+_}
 use mathlib.Core.Bool.{Bool}
 use mathlib.Core.List.{List}
-use mathlib.Core.Option.{Option, none, some}
+use mathlib.Core.Option.{Option, some}
 use Rattle.basics.specs.Options.{_>>=_, present, given}
 use Rattle.definitions.specs.Sheet.{Sheet}
 use Rattle.definitions.specs.Run.{Totals, allowed}

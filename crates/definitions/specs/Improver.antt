@@ -1,6 +1,6 @@
 -- What the improvers know of a sheet, and what they ask of a run. Definitions only.
-use Prim.Native.Nat.{ℕ, _+_}
-use mathlib.Core.Bool.{Bool, true, false, cond}
+use Prim.Native.Nat.{ℕ}
+use mathlib.Core.Bool.{Bool, true, cond}
 use mathlib.Core.List.{List, [], _∷_}
 use Rattle.basics.specs.Tests.{either}
 use Rattle.basics.specs.Options.{present}

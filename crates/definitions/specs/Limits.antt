@@ -1,6 +1,6 @@
 -- Limits: distance and duration each at most their limit, if given; and who needs no break. Definitions only.
 use Prim.Native.Nat.{ℕ}
-use mathlib.Core.Bool.{Bool, true, false, _&&_}
+use mathlib.Core.Bool.{Bool, true, _&&_}
 use mathlib.Core.Option.{Option, none, some}
 use lib.Dec.{leb}
 use Rattle.definitions.specs.Sheet.{Break, Sheet}

@@ -1,10 +1,9 @@
 -- Demand 3, clause by clause: what is promised of a result of `split_tw`. Definitions only.
-use Prim.Native.Nat.{ℕ, zero, suc, _+_, _≤_, _<_}
+use Prim.Native.Nat.{ℕ, suc, _+_, _≤_, _<_}
 use mathlib.Core.Path.{_≡_}
 use mathlib.Core.Bool.{Bool, true, false}
 use mathlib.Core.List.{List, [], _∷_, _++_, map}
-use mathlib.Core.Option.{Option}
-use lib.ListN.{length, take, getD}
+use lib.ListN.{length, take}
 use lib.Dec.{eqb}
 use Rattle.basics.specs.Options.{holds}
 use Rattle.basics.specs.Lists.{all, sum, count}

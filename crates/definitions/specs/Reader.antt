@@ -1,9 +1,8 @@
 -- What reading gives for any bytes: the sheet, or a refusal's number and the index of its word.
-use Prim.Native.Nat.{ℕ, zero, suc, _+_, _-_, _*_, pred}
+use Prim.Native.Nat.{ℕ, suc, _*_, pred}
 use mathlib.Core.Bool.{Bool, true, false, cond, _&&_, _||_, not}
-use mathlib.Core.List.{List, [], _∷_, _++_}
+use mathlib.Core.List.{List, [], _∷_}
 use mathlib.Core.Option.{Option, none, some, Option·getD}
-use lib.ListN.{length}
 use lib.Dec.{ltb, leb, eqb}
 use Rattle.basics.specs.Lists.{any}
 use Rattle.definitions.specs.Domain.{isPlaces, isCapacity, isDemand, isPenalty, isNumber, isCall, mostCalls}

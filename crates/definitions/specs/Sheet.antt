@@ -1,9 +1,9 @@
 -- A sheet: places (0 is the depot, the others customers), legs, limits, and, beside this record, a tour of customer numbers. Definitions only.
 -- F is how a number is held that may be a float in lent memory: a whole number in all that follows.
 use Prim.Native.Nat.{ℕ, _+_, _*_}
-use mathlib.Core.Bool.{Bool, true, false, _&&_}
+use mathlib.Core.Bool.{Bool, _&&_}
 use mathlib.Core.List.{List, [], _∷_, map}
-use mathlib.Core.Option.{Option, none, some, Option·map}
+use mathlib.Core.Option.{Option, none, Option·map}
 use lib.ListN.{getD, take}
 use Rattle.basics.specs.Options.{present}
 use Rattle.basics.specs.Lists.{any}

@@ -1,8 +1,8 @@
 -- two_opt_improve on whole numbers. A reversal's gain is a difference of distances: the two distances are compared as they are, so that
 -- nothing falls below 0. The least gain that counts, gain_floor, is above 0 only by less than 1, so a whole gain of at least 1 passes it.
 use Prim.Native.Nat.{ℕ, zero, suc, _+_, _-_}
-use mathlib.Core.Bool.{Bool, true, false, cond, _&&_}
-use mathlib.Core.List.{List, [], _∷_, _++_, map, reverse}
+use mathlib.Core.Bool.{cond, _&&_}
+use mathlib.Core.List.{List, [], _∷_, _++_, reverse}
 use lib.ListN.{length, take, drop}
 use lib.Dec.{ltb}
 use Rattle.basics.specs.Lists.{count}

@@ -1,9 +1,9 @@
 -- Visits: what `build_route` answers. Definitions only.
-use Prim.Native.Nat.{ℕ, zero, suc, _+_}
+use Prim.Native.Nat.{ℕ, suc, _+_}
 use mathlib.Core.Bool.{Bool, true, false, cond, not, _&&_}
 use mathlib.Core.List.{List, [], _∷_, _++_}
 use mathlib.Core.Option.{Option, none, some}
-use Rattle.basics.specs.Options.{_>>=_, present, valueOr}
+use Rattle.basics.specs.Options.{present, valueOr}
 use Rattle.basics.specs.Lists.{isEmpty}
 use Rattle.definitions.specs.Sheet.{Window, Break, Sheet, customer, time}
 use Rattle.definitions.specs.Window.{begins, Entry, enter}

@@ -1,7 +1,6 @@
 -- `matrix::lookup` meets its contract. Assumes nothing.
 use mathlib.Core.Path.{_∙_}
 use native.Mathlib.Omega.{arith}
-use lib.ListN.{length}
 use Rattle.distance.proofs.Ways.{no-row, no-column, past-end, inside, narrow}
 use borrow.Author.Needs.{needs}
 use Rattle.distance.proofs.matrix.lookup.Statement.{statement}

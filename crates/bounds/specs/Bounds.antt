@@ -1,5 +1,5 @@
 -- On a sheet within the limits every sum of a plan stays below 2 ^ 53, where floats hold whole numbers exactly: each kind of sum has its bound. Assumes nothing.
-use Prim.Native.Nat.{ℕ, zero, suc, _+_, _-_, _*_, _^_, _≤_, _<_, max}
+use Prim.Native.Nat.{ℕ, zero, suc, _+_, _-_, _*_, _≤_, _<_, max}
 use native.Mathlib.Omega.{arith}
 use native.Mathlib.Nat.{mul-le-mul}
 use mathlib.Core.Path.{_≡_, refl, subst}
@@ -9,20 +9,17 @@ use lib.ListN.{length, take, getD, length-take}
 use Rattle.basics.specs.Tests.{by-test}
 use Rattle.basics.specs.Options.{_>>=_, holds, Holds, valueOr, same, clash, bound}
 use Rattle.basics.specs.Lists.{All}
 use Rattle.definitions.specs.Domain.{mostCalls}
 use Rattle.definitions.specs.Sheet.{Window, Break, Customer, Sheet, customer, distance, time}
 use Rattle.definitions.specs.Window.{late, lateness, waiting, begins, Entry, enter}
 use Rattle.definitions.specs.Limits.{excused}
 use Rattle.definitions.specs.Run.{breakStart, tooLate, ready, Label, start, placeAfter, serveAt, serve, breakAt, serveAll, Run, lastOf, legsFrom, distanceFrom, Totals, home, ride, load}
 use Rattle.definitions.specs.Clock.{Clock, sooner, smaller, tick, clockFrom, counts, clock, startOf}
 use Rattle.definitions.specs.Visits.{Visit, readyFor, entered, visited, visitsFrom, lastLabel, placeOr, buildRoute}
-use Rattle.definitions.proofs.Inside.{mostNumber, mostDemand, mostPenalty, Small, SmallWindow, SmallBreak, SmallCustomer, Sized, distance-small, time-small, customer-small, break-small}
+use Rattle.whole.specs.Whole.{limit}
+use Rattle.bounds.specs.Inside.{mostNumber, mostDemand, mostPenalty, Small, SmallWindow, SmallBreak, SmallCustomer, Sized, distance-small, time-small, customer-small, break-small}
 
 -- ---- the bounds
-
--- up to here each whole number is an f64
-abbrev pub limit : ℕ
-limit = 2 ^ 53
 
 -- what a call adds to the clock at the most: the way to it, the break, and service
 abbrev pub step : ℕ

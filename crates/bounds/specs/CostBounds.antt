@@ -9,22 +9,23 @@ use lib.ListN.{length, take, length-append, length-map, length-take}
 use Rattle.basics.specs.Tests.{and-left}
 use Rattle.basics.specs.Options.{valueOr, granted, unbound, clash}
 use Rattle.basics.specs.Lists.{isEmpty, sum, All, length-count}
 use Rattle.definitions.specs.Domain.{mostCalls}
 use Rattle.definitions.specs.Sheet.{Sheet}
 use Rattle.definitions.specs.Run.{Run, distanceFrom, Totals, ride, fits, price, payOf, runCost}
 use Rattle.definitions.specs.Clock.{clock, Arc, arc}
 use Rattle.definitions.specs.RunList.{callsOf}
 use Rattle.definitions.specs.Cutting.{joined, cuttingCost, Best, nothing, cheapest}
 use Rattle.definitions.specs.Drop.{callAt, callsAt, drops, planBy, plainArc}
 use Rattle.definitions.specs.Promise.{Parts, ended, kept, gone}
 use Rattle.definitions.specs.Improver.{Given, distanceOf, total}
 use Rattle.definitions.proofs.Legality.{arc-clock}
 use Rattle.definitions.proofs.Least.{Reach, more, Made, best-reach, best-of}
 use Rattle.definitions.proofs.Dropping.{drops-parts}
 use Rattle.definitions.proofs.LegLaws as Legs
 use Rattle.definitions.proofs.LegLaws.{back}
-use Rattle.definitions.proofs.Inside.{mostNumber, Small, Sized}
-use Rattle.definitions.proofs.Bounds.{limit, mostPay, legs-most, distance-most, ride-most, clock-most}
+use Rattle.bounds.specs.Inside.{mostNumber, Small, Sized}
+use Rattle.whole.specs.Whole.{limit}
+use Rattle.bounds.specs.Bounds.{mostPay, legs-most, distance-most, ride-most, clock-most}
 
 -- what a call adds to the cost of a cutting at the most: a run's fixed cost and two legs, and its lateness pay
 abbrev pub mostCost : ℕ

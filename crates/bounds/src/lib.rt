@@ -1,0 +1,1 @@
+// On a sheet within the limits every lookup lies inside its table, and every sum stays below 2^53: see specs/. No functions.
