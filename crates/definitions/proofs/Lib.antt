@@ -21,6 +21,7 @@ pub mod Enough
 -- The refusals of the other calls, and what an accepted call is known to be.
 pub mod RefusalCases
 pub mod Accepted
+pub mod AnswerCases
 -- The break: serving is monotone in time, and the clock is as good as any place.
 pub mod Serving
 pub mod Places
