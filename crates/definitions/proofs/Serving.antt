@@ -9,8 +9,12 @@ use borrow.Author.Tests.{ltb-false, le-ltb}
 use Rattle.basics.specs.Tests.{by-test}
 use Rattle.basics.specs.Options.{same, clash, bound}
 use Rattle.definitions.specs.Sheet.{Window, Break, Customer, Sheet, customer, time}
-use Rattle.definitions.specs.Window.{Entry, enter}
+use Rattle.definitions.specs.Window.{waiting, begins, Entry, enter}
 use Rattle.definitions.specs.Run.{serveAt, ready, Label, placeAfter, serve}
+
+-- to wait to ready is to wait as long as waiting says
+pub waits : (w : Window) (r : ℕ) → begins (some w) r ≡ r + waiting w r
+waits w r = omega arith
 
 -- an earlier readiness enters where a later one does, and service starts no later
 pub enter-mono : (w : Option Window) (p : Option ℕ) (r' r : ℕ) → r' ≤ r → (e : Entry) → enter w p r ≡ some e

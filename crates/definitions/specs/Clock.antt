@@ -1,4 +1,4 @@
--- The break clock: where no break place is named, the clock's place counts. Definitions only.
+-- The break clock: where no break place is named, the clock's place counts, 0 when no break is needed. Definitions only.
 use Prim.Native.Nat.{ℕ, zero, suc, _+_}
 use mathlib.Core.Bool.{Bool, cond, not, _&&_, _||_}
 use mathlib.Core.List.{List, [], _∷_}

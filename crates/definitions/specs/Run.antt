@@ -61,7 +61,7 @@ serveAt c here k travel l = do
 abbrev pub serve : Sheet → Option Break → ℕ → ℕ → ℕ → Label → Option Label
 serve s here k a c l = serveAt (customer s c) here k (time s a c) l
 
--- ---- a run with a given break place
+-- ---- a run with a given break place: its calls are served as above, the break at that call alone
 
 pub record Run : Type 0 where
   -- its calls, as customers
@@ -129,13 +129,14 @@ fits s calls = leb (load s calls) (s .capacity)
 abbrev pub allowed : Sheet → Totals → Bool
 allowed s t = allow s (t .distance) (t .duration)
 
--- a place that the break may have in a run of n calls that is home at `duration`
+-- A place that the break may have in a run of n calls that is home at `duration`: with 0 on a sheet with a break it is home at or before earliest; a break not
+-- needed may be taken; on a sheet without one only 0 is legal.
 unfoldable pub placed : Option Break → ℕ → ℕ → ℕ → Bool
 placed none place n duration = eqb place 0
 placed (some b) zero n duration = excused b duration
 placed (some b) (suc k) n duration = leb (suc k) n
 
--- legal with its break place
+-- Legal with its break place: it is not empty, its load is at most capacity, nothing fails, its totals are allowed, and the break may be there.
 unfoldable pub legal : Sheet → Run → Bool
 legal s r =
     not (isEmpty (r .calls)) && fits s (r .calls)
