@@ -1,0 +1,85 @@
+//! A sheet in words, taken to be an accepted one.
+use crate::distance::DistanceMatrix;
+use crate::evaluation::RouteLimits;
+use crate::models::{Customer, TimeWindow, VehicleBreak};
+
+pub struct Sheet {
+    pub capacity: i32,
+    pub fixed: f64,
+    pub limits: RouteLimits,
+    pub customers: Vec<Customer>,
+    pub distances: DistanceMatrix,
+    pub tour: Vec<usize>,
+}
+
+/// The words not yet read.
+struct Words<'a>(&'a [u32]);
+
+impl Words<'_> {
+    /// The value of the next word, if it has this kind.
+    fn next_if(&mut self, kind: u32) -> Option<f64> {
+        let (&word, rest) = self.0.split_first()?;
+        if word >> 28 != kind {
+            return None;
+        }
+        self.0 = rest;
+        Some(f64::from(word & 0x0FFF_FFFF))
+    }
+
+    fn next(&mut self, kind: u32) -> f64 {
+        self.next_if(kind).expect("a word of this kind")
+    }
+
+    fn row(&mut self, kind: u32, count: usize) -> Vec<f64> {
+        (0..count).map(|_| self.next(kind)).collect()
+    }
+}
+
+impl Sheet {
+    pub fn from_words(words: &[u32]) -> Sheet {
+        let mut words = Words(words);
+        let places = words.next(1) as usize;
+        let capacity = words.next(2) as i32;
+        let fixed = words.next(3);
+        let limits = RouteLimits {
+            max_distance: words.next_if(4),
+            max_duration: words.next_if(5),
+            rest: words
+                .next_if(6)
+                .map(|earliest| VehicleBreak::new(earliest, words.next(6), words.next(6))),
+        };
+        let mut customers = vec![Customer::depot(0.0, 0.0)];
+        customers.extend((1..places).map(|id| customer(&mut words, id)));
+        let legs = places * places;
+        let mut distances =
+            DistanceMatrix::from_data(places, words.row(0xC, legs)).expect("a square table");
+        if let Some(first) = words.next_if(0xD) {
+            let mut times = vec![first];
+            times.extend(words.row(0xD, legs - 1));
+            distances = distances.with_travel_times(times).expect("a square table");
+        }
+        let tour = std::iter::from_fn(|| words.next_if(0xE).map(|c| c as usize)).collect();
+        Sheet {
+            capacity,
+            fixed,
+            limits,
+            customers,
+            distances,
+            tour,
+        }
+    }
+}
+
+fn customer(words: &mut Words, id: usize) -> Customer {
+    let demand = words.next(7) as i32;
+    let service = words.next(8);
+    let mut customer = Customer::new(id, 0.0, 0.0, demand, service);
+    if let Some(ready) = words.next_if(9) {
+        let window = TimeWindow::new(ready, words.next(0xA)).expect("a window");
+        customer = customer.with_time_window(window);
+    }
+    match words.next_if(0xB) {
+        Some(penalty) => customer.with_lateness_penalty(penalty).expect("a penalty"),
+        None => customer,
+    }
+}

@@ -1,0 +1,4 @@
+//! The distance module.
+mod matrix;
+
+pub use matrix::*;

@@ -1,0 +1,2 @@
+//! Named by local_search/mod.rs, and not given.
+pub(crate) fn minimize_routes() {}
