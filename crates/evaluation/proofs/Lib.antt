@@ -1,0 +1,9 @@
+-- Reading a call's record.
+pub mod Reading
+-- The clock, and the way with no break, as a run grows by a call.
+pub mod Growing
+pub mod Driving
+-- On whole numbers within the limits all that is that of the definitions.
+pub mod ServingExact
+pub mod ClockExact
+pub mod RouteExact

@@ -1,0 +1,234 @@
+-- On a sheet within the limits, held in floats, the evaluations of a run are those of crates/definitions. Assumes nothing.
+use Prim.Native.Nat.{ℕ, zero, suc, _+_, _≤_, _<_}
+use native.Mathlib.Omega.{arith}
+use native.Mathlib.Nat.{zero-add}
+use mathlib.Core.Path.{_≡_, refl, ap, subst, _∙_}
+use mathlib.Core.List.{List, [], _∷_}
+use mathlib.Core.Option.{Option, none, some, Option·map}
+use lib.ListN.{length, getD, take, length-take}
+use borrow.Author.Tests.{ne-eqb}
+use lib.Ieee as Ieee
+use lib.Ieee.{binary64}
+use Rattle.basics.specs.Tests.{by-test}
+use Rattle.basics.specs.Options.{_>>=_, Holds, given, present}
+use Rattle.basics.specs.Lists.{All}
+use Rattle.definitions.specs.Domain.{mostCalls}
+use Rattle.definitions.specs.Sheet.{Break, Sheet, time}
+use Rattle.definitions.specs.Run as Whole
+use Rattle.definitions.specs.Run.{start, serveAt, serve, breakStart, breakAt, serveAll, lastOf, distanceFrom, Totals, home, allowed}
+use Rattle.definitions.specs.Clock.{clockFrom, counts, clock, startOf}
+use Rattle.definitions.specs.Evaluation.{Evaluation, routeEval, routeFeasible, effectiveCost}
+use Rattle.definitions.specs.Refusals.{Within, WithinCalls}
+use Rattle.bounds.specs.Inside.{SmallBreak, Sized, sized, Place, few-calls, calls-inside, depot-inside, last-inside, call-inside, all-take, time-small}
+use Rattle.bounds.specs.Inside as Inside
+use Rattle.bounds.specs.Bounds.{Early, begun, start-early, serve-all-most, distance-most, clock-most, TotalsFit, totals-fit}
+use Rattle.definitions.proofs.Legality.{plain}
+use Rattle.whole.specs.Whole.{fl, fl-add}
+use Rattle.whole.specs.Later.{later-fl}
+use Rattle.models.specs.Image.{flBreak}
+use Rattle.models.specs.Limits.{allowF}
+use Rattle.models.proofs.Exact.{Small, allow-exact}
+use Rattle.evaluation.specs.declared.schedule.Label.{Label}
+use Rattle.evaluation.specs.declared.route.Way.{Way}
+use Rattle.evaluation.specs.Records.{Tables}
+use Rattle.evaluation.specs.Serving.{startLabel, breakStartF}
+use Rattle.evaluation.specs.Clock.{begunF}
+use Rattle.evaluation.specs.Tables.{timeF, legsF}
+use Rattle.evaluation.specs.Schedule.{clockFromF}
+use Rattle.evaluation.specs.Route.{servedF, wayF, driveF, homewardF, plainF, totalsF, allowedF, breakStartAtF, startF, feasibleF, pricedF, costF, evalF}
+use Rattle.evaluation.specs.Image.{flLabel, flTotals, flEvaluation, flCost, flLimits, flClock, Image}
+use Rattle.evaluation.proofs.ServingExact.{through}
+use Rattle.evaluation.proofs.ClockExact.{ended, home-exact, carried-early, carry-exact, distance-from-exact, time-exact, clock-exact, schedule-exact}
+
+-- an answer that goes on twice goes on once
+pub joined : {A B C : Type 0} (o : Option A) (f : A → Option B) (g : B → Option C) → ((o >>= f) >>= g) ≡ (o >>= λ a. f a >>= g)
+joined none f g = refl
+joined (some a) f g = refl
+
+-- the totals, and when the break starts
+abbrev evaluated : Sheet → List ℕ → Totals → Evaluation
+evaluated s calls u = record { totals = u; start = startOf s (record { calls = calls; place = u .place }) }
+
+small-limit : (o : Option ℕ) → Holds Inside.Small o → Small o
+small-limit none h = tt
+small-limit (some n) h = omega arith
+
+module _ (s : Sheet) (S : Sized s) (t : Tables) (I : Image s t) where
+  -- ---- with no break
+
+  -- without a break the number of a call plays no part
+  unnumbered : (j a c : ℕ) → 0 < j → (m : Option Whole.Label) → (m >>= serve s none 0 a c) ≡ (m >>= serve s (breakAt s 0 j) j a c)
+  unfolding serveAt
+  unnumbered j a c h none = refl
+  unnumbered j a c h (some l) = rw (ne-eqb 0 j (λ (e : 0 ≡ j). off e))
+    where
+      off : 0 ≡ j → ⊥
+      off e = omega arith
+
+  pub served-exact : (k j a : ℕ) → 0 < j → (m : Option Whole.Label) (calls : List ℕ) → k + length calls ≤ mostCalls → Place s a → All (Place s) calls → Holds (Early k) m
+      → servedF t a (Option·map flLabel m) calls ≡ Option·map flLabel (serveAll s 0 j a m calls)
+  unfolding servedF serveAll
+  served-exact k j a pos m [] h p i E = refl
+  served-exact k j a pos m (c ∷ cs) h p i E =
+      ap (λ (o : Option Label). servedF t c o cs) (carry-exact s S t I k (omega arith) none tt 0 a c p (i .0) m E)
+      ∙ (served-exact (suc k) (suc j) c (omega arith) (m >>= serve s none 0 a c) cs (omega arith) (i .0) (i .1) (carried-early s S t I k (omega arith) none tt 0 a c m E)
+      ∙ ap (λ (o : Option Whole.Label). Option·map flLabel (serveAll s 0 (suc j) c o cs)) (unnumbered j a c pos m))
+
+  module _ (calls : List ℕ) (few : length calls ≤ mostCalls) (i : All (Place s) calls) where
+    -- the label after the calls
+    abbrev last : Option Whole.Label
+    last = serveAll s 0 1 0 (some start) calls
+
+    last-exact : servedF t 0 (some startLabel) calls ≡ Option·map flLabel last
+    last-exact = served-exact 0 1 0 (omega arith) (some start) calls (omega arith) (depot-inside s S) i start-early
+
+    last-early : (l : Whole.Label) → last ≡ some l → Early (length calls) l
+    last-early l e = subst (Holds (Early (length calls))) e (serve-all-most s S 0 calls few)
+
+    -- what follows the way through the calls goes on from that label
+    pub driven : {C : Type 0} (g : Way → Option C) → (driveF t calls >>= g) ≡ (Option·map flLabel last >>= λ m. g (record { distance = legsF t (fl 0) 0 calls; label = m; prev = lastOf 0 calls }))
+    unfolding wayF
+    driven g = joined (servedF t 0 (some startLabel) calls) _ g ∙ rw last-exact
+
+  module _ (calls : List ℕ) (few : length calls ≤ mostCalls) (i : All (Place s) calls) where
+    -- with no break on the sheet the clock has the one label
+    plain-clock : s .rest ≡ none → clock s calls ≡ (last calls few i >>= λ l. some (home s calls l))
+    unfolding clock
+    plain-clock rest-is =
+        ap (λ (o : Option Break). counts o (time s (lastOf 0 calls) 0) (clockFrom s 1 0 begun calls) >>= λ l. some (home s calls l)) rest-is
+        ∙ ap (λ (o : Option Whole.Label). o >>= λ l. some (home s calls l)) (plain s calls)
+
+    pub plain-exact : s .rest ≡ none → plainF t calls ≡ Option·map flTotals (clock s calls)
+    unfolding plainF
+    plain-exact rest-is =
+        let far = distanceFrom s 0 calls in
+        let back = time s (lastOf 0 calls) 0 in
+        driven calls few i (λ d. some (homewardF t d))
+        ∙ rw (
+          distance-from-exact s S t I 0 0 calls (depot-inside s S) i (omega (arith, distance-most s S 0 calls)),
+          time-exact s S t I (lastOf 0 calls) 0 (last-inside s 0 calls (depot-inside s S) i) (depot-inside s S),
+          zero-add far,
+          plain-clock rest-is,
+        )
+        (through (last calls few i) flLabel _ flTotals (λ l. some (ended far back l)) (λ l e. home-exact (length calls) few far back (time-small s S (lastOf 0 calls) 0) l (last-early calls few i l e)))
+
+    -- ---- with a break or without
+
+    pub totals-exact : totalsF t (Option·map flBreak (s .rest)) calls ≡ Option·map flTotals (clock s calls)
+    unfolding totalsF
+    totals-exact = go (s .rest) refl
+      where
+        go : (o : Option Break) → s .rest ≡ o → totalsF t (Option·map flBreak o) calls ≡ Option·map flTotals (clock s calls)
+        go none e = plain-exact e
+        go (some b) e = schedule-exact s S t I b e calls few i
+
+    totals-fit-here : (u : Totals) → clock s calls ≡ some u → TotalsFit u
+    totals-fit-here u e = totals-fit (length calls) few u (clock-most s S calls few u e)
+
+    -- the totals of a run that keeps the limits
+    abbrev kept : Option Totals
+    kept = clock s calls >>= λ u. given (allowed s u) u
+
+    allowed-one : (u : Totals) → clock s calls ≡ some u
+        → given (allowF (flLimits s .maxDistance) (flLimits s .maxDuration) (fl (u .distance)) (fl (u .duration))) (flTotals u) ≡ Option·map flTotals (given (allowed s u) u)
+    allowed-one u e =
+        let F = totals-fit-here u e in
+        rw (allow-exact (s .maxDistance) (s .maxDuration) (u .distance) (u .duration) (small-limit (s .maxDistance) (S .far-small)) (small-limit (s .maxDuration) (S .long-small)) (F .distance-fits) (F .duration-fits))
+        (by-test (allowed s u) (λ y. rw y) (λ n. rw n))
+
+    pub allowed-exact : allowedF t (flLimits s) calls ≡ Option·map flTotals kept
+    unfolding allowedF
+    allowed-exact = rw totals-exact (through (clock s calls) flTotals _ flTotals (λ u. given (allowed s u) u) allowed-one)
+
+    -- ---- when the break starts
+
+    -- at call number k, from 0
+    break-start-exact : (b : Break) → SmallBreak b → (k : ℕ)
+        → breakStartAtF t (flBreak b) k calls
+        ≡ Option·map fl (serveAll s 0 1 0 (some start) (take k calls) >>= λ l. some (breakStart b (l .time + time s (lastOf 0 (take k calls)) (getD calls k 0))))
+    unfolding breakStartAtF
+    break-start-exact b B k =
+        let done = take k calls in
+        let less : length done ≤ mostCalls = simp length-take (omega arith) in
+        let within = all-take (Place s) k calls i in
+        let from = lastOf 0 done in
+        let to = getD calls k 0 in
+        driven done less within (λ d. some (breakStartF (flBreak b) (Ieee.add binary64 (d .label .time) (timeF t (d .prev) to))))
+        ∙ rw (time-exact s S t I from to (last-inside s 0 done (depot-inside s S) within) (call-inside s S calls k i))
+        (through (last done less within) flLabel _ fl (λ l. some (breakStart b (l .time + time s from to)))
+        (λ l e. let E = last-early done less within l e in
+        rw (fl-add (l .time) (time s from to) (omega arith) (omega (arith, time-small s S from to)), later-fl (l .time + time s from to) (b .earliest) (omega (arith, time-small s S from to)) (omega arith))))
+
+    pub start-exact : (place : ℕ) → startF t (Option·map flBreak (s .rest)) place calls ≡ Option·map fl (startOf s (record { calls = calls; place = place }))
+    unfolding startF startOf
+    start-exact zero = unplaced (s .rest)
+      where
+        unplaced : (o : Option Break) → startF t (Option·map flBreak o) zero calls ≡ none
+        unplaced none = refl
+        unplaced (some b) = refl
+    start-exact (suc k) = go (s .rest) (S .rest-small)
+      where
+        go : (o : Option Break) → Holds SmallBreak o
+            → startF t (Option·map flBreak o) (suc k) calls
+            ≡ Option·map fl (o >>= λ b. serveAll s 0 1 0 (some start) (take k calls) >>= λ l. some (breakStart b (l .time + time s (lastOf 0 (take k calls)) (getD calls k 0))))
+        go none B = refl
+        go (some b) B = break-start-exact b B k
+
+    -- ---- the evaluations
+
+    pub eval-exact : evalF t (flLimits s) calls ≡ Option·map flEvaluation (routeEval s calls)
+    unfolding evalF routeEval
+    eval-exact = rw allowed-exact (go (clock s calls))
+      where
+        go : (o : Option Totals)
+            → (Option·map flTotals (o >>= λ u. given (allowed s u) u) >>= λ u. some (record { totals = u; start = startF t (Option·map flBreak (s .rest)) (u .place) calls }))
+            ≡ Option·map flEvaluation (o >>= λ u. given (allowed s u) (evaluated s calls u))
+        go none = refl
+        go (some u) = by-test (allowed s u) (λ y. rw (y, start-exact (u .place))) (λ n. rw n)
+
+    pub feasible-exact : feasibleF t (flLimits s) calls ≡ routeFeasible s calls
+    unfolding feasibleF routeFeasible routeEval
+    feasible-exact = rw allowed-exact (go (clock s calls))
+      where
+        go : (o : Option Totals)
+            → present (Option·map flTotals (o >>= λ u. given (allowed s u) u))
+            ≡ present (o >>= λ u. given (allowed s u) (evaluated s calls u))
+        go none = refl
+        go (some u) = by-test (allowed s u) (λ y. rw y) (λ n. rw n)
+
+    pub cost-exact : costF t (flLimits s) calls ≡ flCost (effectiveCost s calls)
+    unfolding costF effectiveCost routeEval
+    cost-exact = rw allowed-exact (go (clock s calls) refl)
+      where
+        go : (o : Option Totals) → clock s calls ≡ o
+            → pricedF (Option·map flTotals (o >>= λ u. given (allowed s u) u))
+            ≡ flCost ((o >>= λ u. given (allowed s u) (evaluated s calls u)) >>= λ e. some (e .totals .distance + e .totals .pay))
+        go none e = refl
+        go (some u) e =
+            let F = totals-fit-here u e in
+            by-test (allowed s u) (λ y. rw (y, fl-add (u .distance) (u .pay) (F .distance-fits) (F .pay-fits))) (λ n. rw n)
+
+-- ---- by the limits of the Domain
+
+module _ (s : Sheet) (W : Within s) (t : Tables) (I : Image s t) (calls : List ℕ) (C : WithinCalls s calls) where
+  -- totals of a run, whatever the limits
+  pub totals-whole : totalsF t (Option·map flBreak (s .rest)) calls ≡ Option·map flTotals (clock s calls)
+  totals-whole = totals-exact s (sized s W) t I calls (few-calls s calls C) (calls-inside s calls C)
+
+  pub start-whole : (place : ℕ) → startF t (Option·map flBreak (s .rest)) place calls ≡ Option·map fl (startOf s (record { calls = calls; place = place }))
+  start-whole = start-exact s (sized s W) t I calls (few-calls s calls C) (calls-inside s calls C)
+
+  pub eval-whole : evalF t (flLimits s) calls ≡ Option·map flEvaluation (routeEval s calls)
+  eval-whole = eval-exact s (sized s W) t I calls (few-calls s calls C) (calls-inside s calls C)
+
+  pub feasible-whole : feasibleF t (flLimits s) calls ≡ routeFeasible s calls
+  feasible-whole = feasible-exact s (sized s W) t I calls (few-calls s calls C) (calls-inside s calls C)
+
+  pub cost-whole : costF t (flLimits s) calls ≡ flCost (effectiveCost s calls)
+  cost-whole = cost-exact s (sized s W) t I calls (few-calls s calls C) (calls-inside s calls C)
+
+  -- the clock over the calls, with both its labels
+  pub clock-whole : (b : Break) → s .rest ≡ some b → clockFromF t (begunF (flBreak b)) calls ≡ flClock b (lastOf 0 calls) (1 + length calls) (clockFrom s 1 0 begun calls)
+  clock-whole b rest-is =
+      clock-exact s (sized s W) t I b rest-is 0 1 0 begun calls (omega (arith, few-calls s calls C)) (depot-inside s (sized s W)) (calls-inside s calls C)
+      (record { before-early = start-early; after-early = tt })

@@ -1,0 +1,32 @@
+-- `route::totals` meets its contract. Assumes nothing.
+use mathlib.Core.Path.{_≡_}
+use Rattle.models.specs.declared.vehicle.Rest.the-variants.{Unbroken, Break}
+use Rattle.evaluation.specs.Route.{totalsF}
+use borrow.Author.Needs.{needs}
+use Rattle.evaluation.proofs.route.totals.Statement.{statement}
+use Rattle.evaluation.proofs.route.totals.Tie as tie
+
+enum-told : tie.Need-enum-told
+enum-told c = search needs
+
+plain-requires : tie.Need-plain-requires
+plain-requires c κs = search needs
+
+enum-known-rest : tie.Need-enum-known-rest
+enum-known-rest c = search needs
+
+schedule-requires : tie.Need-schedule-requires
+schedule-requires c κs = search needs
+
+returns : tie.Need-returns
+unfolding totalsF
+returns c = let e : c .before .before .before .before .before .before .args .rest ≡ Unbroken = search needs in rw e (c .plain .ensures)
+
+returns-2 : tie.Need-returns-2
+unfolding totalsF
+returns-2 c = let e : c .before .before .before .before .before .before .before .args .rest ≡ Break (c .before .before .rest .given .0 .0) = search needs in rw e (c .schedule .ensures)
+
+pub totals-spec : {M : Type 1} → statement M
+totals-spec =
+    tie.close
+    (tie.spec enum-told plain-requires enum-known-rest schedule-requires returns returns-2)

@@ -1,0 +1,48 @@
+-- Whole-number labels, totals and clocks, each number held in a float. Definitions only.
+use Prim.Native.Nat.{ℕ}
+use mathlib.Core.Path.{_≡_}
+use mathlib.Core.Bool.{false}
+use mathlib.Core.List.{map}
+use mathlib.Core.Option.{Option, none, some, Option·map}
+use lib.ListN.{take}
+use lib.Ieee.{Float, inf}
+use Rattle.definitions.specs.Sheet.{Break, Sheet}
+use Rattle.definitions.specs.Run as Whole
+use Rattle.definitions.specs.Clock.{Clock}
+use Rattle.definitions.specs.Evaluation.{Evaluation}
+use Rattle.whole.specs.Whole.{fl}
+use Rattle.models.specs.Image.{flBreak, flCustomer}
+use Rattle.evaluation.specs.declared.schedule.Label.{Label}
+use Rattle.evaluation.specs.declared.schedule.Scheduled.{Scheduled}
+use Rattle.evaluation.specs.Records.{ClockF, Tables, LimitsF, EvaluationF}
+
+abbrev pub flLabel : Whole.Label → Label
+flLabel l = record { time = fl (l .time); lateness = fl (l .lateness); cost = fl (l .pay); place = l .place }
+
+abbrev pub flTotals : Whole.Totals → Scheduled
+flTotals t = record { distance = fl (t .distance); duration = fl (t .duration); lateness = fl (t .lateness); cost = fl (t .pay); place = t .place }
+
+-- with the break b, after the place a, before call number k
+abbrev pub flClock : Break → ℕ → ℕ → Clock → ClockF
+flClock b a k x = record { rest = flBreak b; before = Option·map flLabel (x .before); after = Option·map flLabel (x .after); prev = a; index = k }
+
+abbrev pub flEvaluation : Evaluation → EvaluationF
+flEvaluation e = record { totals = flTotals (e .totals); start = Option·map fl (e .start) }
+
+-- a cost that may be none is infinite there
+abbrev pub flCost : Option ℕ → Float
+flCost none = inf false
+flCost (some n) = fl n
+
+abbrev pub flLimits : Sheet → LimitsF
+flLimits s = record { maxDistance = Option·map fl (s .maxDistance); maxDuration = Option·map fl (s .maxDuration); rest = Option·map flBreak (s .rest) }
+
+abbrev pub flTables : Sheet → Tables
+flTables s = record { customers = map flCustomer (s .customers); distances = map fl (s .distances); times = map fl (s .times); size = s .places }
+
+-- the tables hold the sheet; what is lent beyond its places may be anything
+pub record Image (s : Sheet) (t : Tables) : Type 0 where
+  pub size-is : t .size ≡ s .places
+  pub distances-are : t .distances ≡ map fl (s .distances)
+  pub times-are : t .times ≡ map fl (s .times)
+  pub records-are : take (s .places) (t .customers) ≡ map flCustomer (s .customers)

@@ -1,0 +1,98 @@
+-- What the code's structs and enums hold. Definitions only.
+use Prim.Native.Nat.{ℕ}
+use mathlib.Core.List.{List, map}
+use mathlib.Core.Option.{Option, none, some}
+use lib.Ieee.{Float}
+use Rattle.definitions.specs.Sheet.{BreakOf, CustomerOf}
+use Rattle.models.specs.declared.customer.Customer.{Customer}
+use Rattle.models.specs.declared.limits.RouteLimits.{RouteLimits}
+use Rattle.models.specs.Records.{customerOf, breakOf, restOf, limitOf}
+use Rattle.evaluation.specs.declared.schedule.Label.{Label}
+use Rattle.evaluation.specs.declared.schedule.Reached.{Reached}
+use Rattle.evaluation.specs.declared.schedule.Reached.the-variants.{Nowhere, At}
+use Rattle.evaluation.specs.declared.schedule.Ready.{Ready}
+use Rattle.evaluation.specs.declared.schedule.Ready.the-variants.{TooLate, From}
+use Rattle.evaluation.specs.declared.schedule.Scheduled.{Scheduled}
+use Rattle.evaluation.specs.declared.schedule.Finished.{Finished}
+use Rattle.evaluation.specs.declared.schedule.Finished.the-variants.{Impossible, Home}
+use Rattle.evaluation.specs.declared.schedule.BreakClock.{BreakClock}
+use Rattle.evaluation.specs.declared.route.Way.{Way}
+use Rattle.evaluation.specs.declared.route.Driven.{Driven}
+use Rattle.evaluation.specs.declared.route.Driven.the-variants.{Failed, To}
+use Rattle.evaluation.specs.declared.route.Start.{Start}
+use Rattle.evaluation.specs.declared.route.Start.the-variants as Starts
+use Rattle.evaluation.specs.declared.route.RouteEval.{RouteEval}
+use Rattle.evaluation.specs.declared.route.Evaluated.{Evaluated}
+use Rattle.evaluation.specs.declared.route.Evaluated.the-variants.{NotAllowed, Allowed}
+
+-- ---- the clock
+
+abbrev pub readyOf : Ready → Option Float
+readyOf TooLate = none
+readyOf (From t) = some t
+
+abbrev pub reachedOf : Reached → Option Label
+reachedOf Nowhere = none
+reachedOf (At l) = some l
+
+abbrev pub finishedOf : Finished → Option Scheduled
+finishedOf Impossible = none
+finishedOf (Home s) = some s
+
+-- the break, the labels before and after it, the last place, and the number of the next call, from 1
+pub record ClockF : Type 0 where
+  pub rest : BreakOf Float
+  pub before : Option Label
+  pub after : Option Label
+  pub prev : ℕ
+  pub index : ℕ
+
+abbrev pub clockOf : BreakClock → ClockF
+clockOf x = record { rest = breakOf (x .rest); before = reachedOf (x .before); after = reachedOf (x .after); prev = x .prev; index = x .index }
+
+-- ---- what is lent
+
+-- the customers' records and the leg tables of so many rows
+pub record Tables : Type 0 where
+  pub customers : List (CustomerOf Float)
+  pub distances : List Float
+  pub times : List Float
+  pub size : ℕ
+
+abbrev pub lent : List Customer → List Float → List Float → ℕ → Tables
+lent customers distances times size = record { customers = map customerOf customers; distances = distances; times = times; size = size }
+
+-- ---- the evaluations
+
+abbrev pub drivenOf : Driven → Option Way
+drivenOf Failed = none
+drivenOf (To d) = some d
+
+abbrev pub startOf : Start → Option Float
+startOf Starts.Unbroken = none
+startOf (Starts.At t) = some t
+
+-- a run's totals, and when its break starts
+pub record EvaluationF : Type 0 where
+  pub totals : Scheduled
+  pub start : Option Float
+
+abbrev pub evaluationOf : RouteEval → EvaluationF
+evaluationOf e =
+    record {
+      totals = record { distance = e .distance; duration = e .duration; lateness = e .lateness; cost = e .«lateness_cost»; place = e .place };
+      start = startOf (e .start);
+    }
+
+abbrev pub evaluatedOf : Evaluated → Option EvaluationF
+evaluatedOf NotAllowed = none
+evaluatedOf (Allowed e) = some (evaluationOf e)
+
+-- what a run may not exceed, and its break
+pub record LimitsF : Type 0 where
+  pub maxDistance : Option Float
+  pub maxDuration : Option Float
+  pub rest : Option (BreakOf Float)
+
+abbrev pub limitsOf : RouteLimits → LimitsF
+limitsOf l = record { maxDistance = limitOf (l .«max_distance»); maxDuration = limitOf (l .«max_duration»); rest = restOf (l .rest) }

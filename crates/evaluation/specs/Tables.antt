@@ -1,0 +1,35 @@
+-- What is looked up for a call: its record, the distance and the travel time. Definitions only.
+use Prim.Native.Nat.{ℕ}
+use mathlib.Core.Bool.{cond}
+use mathlib.Core.List.{List, [], _∷_}
+use mathlib.Core.Option.{none}
+use lib.Dec.{ltb}
+use lib.Ieee as Ieee
+use lib.Ieee.{Float, binary64}
+use lib.ListN.{getD}
+use Rattle.definitions.specs.Sheet.{CustomerOf, timeTable}
+use Rattle.whole.specs.Whole.{fl}
+use Rattle.distance.specs.Lookup.{lookupF}
+use Rattle.evaluation.specs.Records.{Tables}
+
+-- which of 64 records a call has: its own, or the first for a call beyond them
+abbrev pub recordIndex : ℕ → ℕ
+recordIndex c = cond (ltb c 64) c 0
+
+-- what stands where there is no record
+abbrev pub blank : CustomerOf Float
+blank = record { demand = 0; service = fl 0; window = none; penalty = none }
+
+unfoldable pub recordF : Tables → ℕ → CustomerOf Float
+recordF t c = getD (t .customers) (recordIndex c) blank
+
+abbrev pub distanceF : Tables → ℕ → ℕ → Float
+distanceF t a b = lookupF (t .distances) (t .size) a b
+
+abbrev pub timeF : Tables → ℕ → ℕ → Float
+timeF t a b = lookupF (timeTable (t .distances) (t .times)) (t .size) a b
+
+-- the legs from place a through the calls, on top of what is gone already
+unfoldable pub legsF : Tables → Float → ℕ → List ℕ → Float
+legsF t far a [] = far
+legsF t far a (c ∷ cs) = legsF t (Ieee.add binary64 far (distanceF t a c)) c cs

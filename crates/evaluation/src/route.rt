@@ -1,0 +1,265 @@
+// The evaluations of a run (evaluation/mod.rs): with a break by its clock, and without one by the plain way through its calls. None of them looks at load.
+ghost use mathlib.Core.Path.{_≡_};
+ghost use lib.ListN.{getD};
+ghost use Prim.Native.Nat.{min};
+ghost use Rattle.models.specs.Records.{breakOf, restOf};
+ghost use Rattle.evaluation.specs.Records.{finishedOf, drivenOf, startOf, evaluatedOf, limitsOf, lent};
+ghost use Rattle.evaluation.specs.Route.{driveF, plainF, totalsF, allowedF, breakStartAtF, startF, evalF, feasibleF, costF};
+use crate::schedule::Finished;
+use crate::schedule::Label;
+use crate::schedule::Reached;
+use crate::schedule::record_index;
+use crate::schedule::schedule;
+use crate::schedule::serve;
+use distance::matrix::get;
+use distance::matrix::travel_time;
+use models::customer::Customer;
+use models::limits::RouteLimits;
+use models::vehicle::Rest;
+use models::vehicle::VehicleBreak;
+use whole::infinity;
+use whole::later;
+
+// Some way through the calls: the distance travelled, the label, and the last place.
+pub struct Way {
+    pub distance: f64,
+    pub label: Label,
+    pub prev: usize,
+}
+
+// A way that fails at a window, or one.
+pub enum Driven {
+    Failed,
+    To(Way),
+}
+
+// No break, or when it starts.
+pub enum Start {
+    Unbroken,
+    At(f64),
+}
+
+// What `route_eval` reports of a run that is allowed. The place is that of the break, from 1, or 0.
+pub struct RouteEval {
+    pub distance: f64,
+    pub duration: f64,
+    pub lateness: f64,
+    pub lateness_cost: f64,
+    pub place: usize,
+    pub start: Start,
+}
+
+// A run that isn't allowed, or what it comes to.
+pub enum Evaluated {
+    NotAllowed,
+    Allowed(RouteEval),
+}
+
+// The way through the calls with no break.
+pub fn drive(
+    route: &[usize],
+    customers: [Customer; 64],
+    distances: &[f64],
+    times: &[f64],
+    size: usize,
+) -> Driven
+    ensures { λ r. ⌜ drivenOf r ≡ driveF (lent customers (now (distances .entry)) (now (times .entry)) size) (now (route .entry)) ⌝ }
+{
+    let mut distance = 0.0;
+    let mut label = Label::start();
+    let mut prev = 0;
+    let mut i = 0;
+    while i < route.len() {
+        let cid = route[i];
+        distance = distance + get(distances, size, prev, cid);
+        let travel = travel_time(distances, times, size, prev, cid);
+        let index = record_index(cid);
+        let customer = customers[index];
+        let Reached::At(l) = serve(label, travel, customer, 0, Rest::Unbroken) else {
+            return Driven::Failed;
+        };
+        label = l;
+        prev = cid;
+        i += 1;
+    }
+    Driven::To(Way {
+        distance,
+        label,
+        prev,
+    })
+}
+
+// The totals of a run with no break.
+pub fn plain(
+    route: &[usize],
+    customers: [Customer; 64],
+    distances: &[f64],
+    times: &[f64],
+    size: usize,
+) -> Finished
+    ensures { λ r. ⌜ finishedOf r ≡ plainF (lent customers (now (distances .entry)) (now (times .entry)) size) (now (route .entry)) ⌝ }
+{
+    let Driven::To(d) = drive(route, customers, distances, times, size) else {
+        return Finished::Impossible;
+    };
+    let label = d.label;
+    let prev = d.prev;
+    let distance = d.distance + get(distances, size, prev, 0);
+    Finished::Home(label.home(distance, travel_time(distances, times, size, prev, 0)))
+}
+
+// The totals of a run, whatever the limits.
+pub fn totals(
+    route: &[usize],
+    customers: [Customer; 64],
+    distances: &[f64],
+    times: &[f64],
+    size: usize,
+    rest: Rest,
+) -> Finished
+    ensures { λ r. ⌜ finishedOf r ≡ totalsF (lent customers (now (distances .entry)) (now (times .entry)) size) (restOf rest) (now (route .entry)) ⌝ }
+{
+    match rest {
+        Rest::Unbroken => plain(route, customers, distances, times, size),
+        Rest::Break(b) => schedule(route, customers, distances, times, size, b),
+    }
+}
+
+// The totals of a run that keeps the limits.
+pub fn allowed(
+    route: &[usize],
+    customers: [Customer; 64],
+    distances: &[f64],
+    times: &[f64],
+    size: usize,
+    limits: RouteLimits,
+) -> Finished
+    ensures { λ r. ⌜ finishedOf r ≡ allowedF (lent customers (now (distances .entry)) (now (times .entry)) size) (limitsOf limits) (now (route .entry)) ⌝ }
+{
+    let rest = limits.rest;
+    let Finished::Home(s) = totals(route, customers, distances, times, size, rest) else {
+        return Finished::Impossible;
+    };
+    if limits.allow(s.distance, s.duration) {
+        Finished::Home(s)
+    } else {
+        Finished::Impossible
+    }
+}
+
+// Whether a run serves each call in time, or late at a penalty, places its break and keeps the limits.
+pub fn route_feasible(
+    route: &[usize],
+    customers: [Customer; 64],
+    distances: &[f64],
+    times: &[f64],
+    size: usize,
+    limits: RouteLimits,
+) -> bool
+    ensures { λ r. ⌜ r ≡ feasibleF (lent customers (now (distances .entry)) (now (times .entry)) size) (limitsOf limits) (now (route .entry)) ⌝ }
+{
+    match allowed(route, customers, distances, times, size, limits) {
+        Finished::Impossible => false,
+        Finished::Home(_) => true,
+    }
+}
+
+// What the searches minimise: the distance and the lateness cost, infinite where the run is not allowed.
+pub fn effective_cost(
+    route: &[usize],
+    customers: [Customer; 64],
+    distances: &[f64],
+    times: &[f64],
+    size: usize,
+    limits: RouteLimits,
+) -> f64
+    ensures { λ r. ⌜ r ≡ costF (lent customers (now (distances .entry)) (now (times .entry)) size) (limitsOf limits) (now (route .entry)) ⌝ }
+{
+    match allowed(route, customers, distances, times, size, limits) {
+        Finished::Impossible => infinity(),
+        Finished::Home(s) => s.distance + s.cost,
+    }
+}
+
+// Call number k of a run, from 0; the depot where there is none.
+pub fn call_at(route: &[usize], k: usize) -> usize
+    ensures { λ r. ⌜ r ≡ getD (now (route .entry)) k 0 ⌝ }
+{
+    if k < route.len() { route[k] } else { 0 }
+}
+
+pub fn fewer(a: usize, b: usize) -> usize
+    ensures { λ r. ⌜ r ≡ min a b ⌝ }
+{
+    if a < b { a } else { b }
+}
+
+// When the break starts that is taken at call number k, from 0: the calls before it are served without it.
+pub fn break_start(
+    route: &[usize],
+    customers: [Customer; 64],
+    distances: &[f64],
+    times: &[f64],
+    size: usize,
+    rest: VehicleBreak,
+    k: usize,
+) -> Start
+    ensures { λ r. ⌜ startOf r ≡ breakStartAtF (lent customers (now (distances .entry)) (now (times .entry)) size) (breakOf rest) k (now (route .entry)) ⌝ }
+{
+    let n = fewer(k, route.len());
+    let Driven::To(d) = drive(&route[..n], customers, distances, times, size) else {
+        return Start::Unbroken;
+    };
+    let label = d.label;
+    let prev = d.prev;
+    let cid = call_at(route, k);
+    let arrival = label.time + travel_time(distances, times, size, prev, cid);
+    Start::At(later(arrival, rest.earliest))
+}
+
+// When the break of that place starts; a place of 0 is none.
+pub fn start_of(
+    route: &[usize],
+    customers: [Customer; 64],
+    distances: &[f64],
+    times: &[f64],
+    size: usize,
+    rest: Rest,
+    place: usize,
+) -> Start
+    ensures { λ r. ⌜ startOf r ≡ startF (lent customers (now (distances .entry)) (now (times .entry)) size) (restOf rest) place (now (route .entry)) ⌝ }
+{
+    let Rest::Break(b) = rest else {
+        return Start::Unbroken;
+    };
+    if place == 0 {
+        return Start::Unbroken;
+    }
+    break_start(route, customers, distances, times, size, b, place - 1)
+}
+
+// What a run comes to, with its break, if it is allowed.
+pub fn route_eval(
+    route: &[usize],
+    customers: [Customer; 64],
+    distances: &[f64],
+    times: &[f64],
+    size: usize,
+    limits: RouteLimits,
+) -> Evaluated
+    ensures { λ r. ⌜ evaluatedOf r ≡ evalF (lent customers (now (distances .entry)) (now (times .entry)) size) (limitsOf limits) (now (route .entry)) ⌝ }
+{
+    let Finished::Home(s) = allowed(route, customers, distances, times, size, limits) else {
+        return Evaluated::NotAllowed;
+    };
+    let rest = limits.rest;
+    let start = start_of(route, customers, distances, times, size, rest, s.place);
+    Evaluated::Allowed(RouteEval {
+        distance: s.distance,
+        duration: s.duration,
+        lateness: s.lateness,
+        lateness_cost: s.cost,
+        place: s.place,
+        start,
+    })
+}

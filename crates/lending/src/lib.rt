@@ -1,0 +1,99 @@
+// Lent lists of customers: read and written record by record, and carried to and from an array of 64.
+ghost use mathlib.Core.Path.{_≡_};
+ghost use Prim.Native.Nat.{_+_, _-_, _<_, min};
+ghost use lib.ListN.{length, getD, set, replicate, take};
+ghost use Rattle.definitions.specs.Room.{written};
+ghost use Rattle.lending.specs.Padding.{blankOf, padded};
+use models::customer::Customer;
+use models::customer::Opening;
+use models::customer::Penalty;
+
+pub fn count(customers: &[Customer]) -> usize
+    ensures { λ r. ⌜ r ≡ length (now (customers .entry)) ⌝ }
+{
+    customers.len()
+}
+
+pub fn customer_at(customers: &[Customer], i: usize) -> Customer
+    requires { ⌜ i < length (now customers) ⌝ }
+    ensures { λ r. ⌜ r ≡ getD (now (customers .entry)) i blankOf ⌝ }
+{
+    customers[i]
+}
+
+// The depot's record.
+pub fn blank() -> Customer
+    ensures { λ r. ⌜ r ≡ blankOf ⌝ }
+{
+    Customer {
+        demand: 0,
+        service_duration: 0.0,
+        time_window: Opening::Always,
+        lateness_penalty: Penalty::Hard,
+    }
+}
+
+pub fn blanks() -> [Customer; 64]
+    ensures { λ r. ⌜ r ≡ replicate 64 blankOf ⌝ }
+{
+    let c = blank();
+    [c; 64]
+}
+
+pub fn put(records: [Customer; 64], i: usize, c: Customer) -> [Customer; 64]
+    requires { ⌜ i < 64 ⌝ }
+    ensures { λ r. ⌜ r ≡ set records i c ⌝ }
+{
+    let mut all = records;
+    all[i] = c;
+    all
+}
+
+pub fn picked(records: [Customer; 64], i: usize) -> Customer
+    requires { ⌜ i < 64 ⌝ }
+    ensures { λ r. ⌜ r ≡ getD records i blankOf ⌝ }
+{
+    records[i]
+}
+
+pub fn capped(n: usize) -> usize
+    ensures { λ r. ⌜ r ≡ min n 64 ⌝ }
+{
+    if n < 64 { n } else { 64 }
+}
+
+// How many of n records an array of 64 holds and a list of so many takes.
+pub fn fitting(n: usize, room: usize) -> usize
+    ensures { λ r. ⌜ r ≡ min (min n 64) room ⌝ }
+{
+    let m = capped(n);
+    if m < room { m } else { room }
+}
+
+// The first 64 records, and the depot's after them where there are fewer.
+pub fn gathered(customers: &[Customer]) -> [Customer; 64]
+    ensures { λ r. ⌜ r ≡ padded 64 (now (customers .entry)) ⌝ }
+{
+    let n = capped(customers.len());
+    let mut all = blanks();
+    let mut i = 0;
+    while i < n {
+        let c = customer_at(customers, i);
+        all = put(all, i, c);
+        i += 1;
+    }
+    all
+}
+
+// The first n records written at the front, as far as there is room; the rest stays.
+pub fn scattered(records: [Customer; 64], n: usize, customers: &mut [Customer])
+    ensures { λ _. ⌜ now (customers .exit) ≡ written (take (min n (length (now (customers .entry)))) records) (now (customers .entry)) ⌝ }
+{
+    let m = fitting(n, customers.len());
+    let mut i = 0;
+    while i < m {
+        let c = picked(records, i);
+        customers[i] = c;
+        i += 1;
+    }
+}
