@@ -1,0 +1,18 @@
+-- `sheet::pairs_fall` meets its contract. Assumes nothing.
+use Rattle.checks.specs.Falling.{pairsFallF}
+use borrow.Author.Needs.{needs}
+use Rattle.checks.proofs.sheet.pairs_fall.Statement.{statement}
+use Rattle.checks.proofs.sheet.pairs_fall.Tie as tie
+
+break-falls-requires : tie.Need-break-falls-requires
+break-falls-requires c κs = search needs
+
+any-fits-requires : tie.Need-any-fits-requires
+any-fits-requires c κs = search needs
+
+returns : tie.Need-returns
+unfolding pairsFallF
+returns c = rw (c .before .break-falls .ensures, c .any-fits .ensures)
+
+pub pairs-fall-spec : {M : Type 1} → statement M
+pairs-fall-spec = tie.close (tie.spec break-falls-requires any-fits-requires returns)

@@ -1,0 +1,33 @@
+-- What a call is lent, as the code has it, as the record of crates/definitions over floats. Definitions only.
+use Prim.Native.Nat.{ℕ}
+use mathlib.Core.Path.{_≡_}
+use mathlib.Core.List.{List, map}
+use lib.ListN.{length, take}
+use lib.Ieee.{Float}
+use Rattle.definitions.specs.Sheet.{SheetOf}
+use Rattle.definitions.specs.Lent.{Lent}
+use Rattle.models.specs.declared.customer.Customer.{Customer}
+use Rattle.models.specs.Records.{customerOf, limitOf, restOf}
+use Rattle.checks.specs.declared.head.Head.{Head}
+
+abbrev pub sheetOf : Head → List Customer → List Float → List Float → SheetOf Float
+sheetOf head customers distances times =
+    record {
+      places = head .places;
+      capacity = head .capacity;
+      fixed = head .«fixed_cost»;
+      maxDistance = limitOf (head .limits .«max_distance»);
+      maxDuration = limitOf (head .limits .«max_duration»);
+      rest = restOf (head .limits .rest);
+      customers = map customerOf customers;
+      distances = distances;
+      times = times;
+    }
+
+abbrev pub lentOf : SheetOf Float → (tour calls ends breaks rooms : List ℕ) → Lent Float
+lentOf sheet tour calls ends breaks rooms = record { sheet = sheet; tour = tour; calls = calls; ends = ends; breaks = breaks; rooms = rooms }
+
+-- so many customers are lent, and the array of 64 begins with the first of them
+pub record Gathered (customers : List Customer) (count : ℕ) (array : List Customer) : Type 0 where
+  pub counted : length customers ≡ count
+  pub first : take 64 customers ≡ take count array

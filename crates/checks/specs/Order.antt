@@ -1,0 +1,68 @@
+-- The tests of a call in the groups in which the code makes them. Definitions only.
+use Prim.Native.Nat.{ℕ}
+use mathlib.Core.Path.{_≡_}
+use mathlib.Core.Bool.{Bool, _&&_, not}
+use mathlib.Core.List.{List, [], _∷_}
+use lib.ListN.{length}
+use lib.Dec.{ltb}
+use lib.Ieee.{Float}
+use Rattle.basics.specs.Tests.{either}
+use Rattle.basics.specs.Options.{valueOr}
+use Rattle.basics.specs.Lists.{any}
+use Rattle.definitions.specs.Domain.{isPlaces, isCapacity, isNumber, mostCalls}
+use Rattle.definitions.specs.Sheet.{SheetOf, records, own}
+use Rattle.definitions.specs.Lent.{Lent, Call, call}
+use Rattle.definitions.specs.Refusals.{unfit, badLimit, badBreak, badCustomer, badDepot, badTour, badRunList, endsFall, emptyRun, breakBeyond, refusalOf, wholeSheet}
+use Rattle.whole.specs.Value.{value}
+use Rattle.models.specs.Image.{flSheet}
+use Rattle.models.specs.declared.customer.Customer.{Customer}
+use Rattle.checks.specs.declared.head.Kind.{Kind}
+use Rattle.checks.specs.Lent.{Gathered}
+use Rattle.checks.specs.Rows.{rowsFind}
+
+-- the call that the flags and the lengths needed make
+abbrev pub callOf : Kind → List ℕ → Call
+callOf kind needs = call (kind .«takes_ends») (kind .marks) (kind .improves) (λ tour calls ends. needs)
+
+-- refusal 1 of what stands before the customers
+unfoldable pub badHead : SheetOf Float → Bool
+badHead s =
+    either
+    (not (isPlaces (s .places))
+    ∷ not (isCapacity (s .capacity))
+    ∷ unfit value isNumber (s .fixed)
+    ∷ badLimit value isNumber (s .maxDistance)
+    ∷ badLimit value isNumber (s .maxDuration)
+    ∷ badBreak value (s .rest)
+    ∷ [])
+
+-- refusal 1 with the tables looked at row by row
+unfoldable pub byRows : Lent Float → Bool
+byRows l =
+    let s = l .sheet in
+    either
+    (badHead s
+    ∷ badDepot value (records s)
+    ∷ any (badCustomer value) (records s)
+    ∷ rowsFind (unfit value isNumber) (s .places) (s .places) (s .distances) (s .times)
+    ∷ badTour (s .places) (l .tour)
+    ∷ badRunList (s .places) (l .calls)
+    ∷ [])
+
+-- refusal 5
+abbrev pub runsOddOf : Kind → Bool → ℕ → List ℕ → List ℕ → Bool
+runsOddOf kind rest calls ends breaks =
+    either
+    ((kind .«takes_ends» && ltb mostCalls (length ends))
+    ∷ (kind .«takes_ends» && endsFall 0 ends calls)
+    ∷ (kind .marks && emptyRun 0 ends)
+    ∷ (kind .marks && breakBeyond rest 0 ends breaks)
+    ∷ [])
+
+-- the number that the call gives, 0 where it accepts, whatever customers the array was gathered from
+abbrev pub Refuses : Call → (List Customer → Lent Float) → ℕ → List Customer → ℕ → Type 0
+Refuses k lent count array r = (customers : List Customer) → Gathered customers count array → r ≡ valueOr 0 (refusalOf value k (lent customers))
+
+-- where it accepts, the sheet is the image of the whole numbers that it means
+abbrev pub Images : (List Customer → SheetOf Float) → ℕ → List Customer → ℕ → Type 0
+Images sheet count array r = r ≡ 0 → (customers : List Customer) → Gathered customers count array → own (sheet customers) ≡ flSheet (wholeSheet value (sheet customers))

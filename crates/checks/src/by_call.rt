@@ -1,0 +1,235 @@
+// The refusal of each call. What a call does not take is empty, and a result list is given by its length.
+ghost use mathlib.Core.List.{[], _∷_};
+ghost use Rattle.definitions.specs.Lent.{cutting, evaluating, visiting, marking, reversing, eliminating};
+ghost use Rattle.checks.specs.Lent.{sheetOf, lentOf};
+ghost use Rattle.checks.specs.Order.{Refuses, Images};
+use crate::head::Head;
+use crate::head::Kind;
+use crate::order::refusal;
+use models::customer::Customer;
+
+// split, split_tw: served customers, run ends, dropped positions.
+pub fn refuse_cutting(
+    head: Head,
+    customers: [Customer; 64],
+    count: usize,
+    distances: &[f64],
+    times: &[f64],
+    tour: &[usize],
+    served: usize,
+    run_ends: usize,
+    dropped: usize,
+) -> u32
+    ensures refused { λ r. ⌜ Refuses cutting (λ cs. lentOf (sheetOf head cs (now (distances .entry)) (now (times .entry))) (now (tour .entry)) [] [] [] (served ∷ «run_ends» ∷ dropped ∷ [])) count customers r ⌝ }
+    ensures image { λ r. ⌜ Images (λ cs. sheetOf head cs (now (distances .entry)) (now (times .entry))) count customers r ⌝ }
+{
+    let none: [usize; 0] = [];
+    let n = tour.len();
+    let needs = [n, n, n];
+    let rooms = [served, run_ends, dropped];
+    let kind = Kind {
+        takes_ends: false,
+        marks: false,
+        improves: false,
+    };
+    refusal(
+        kind,
+        head,
+        customers,
+        count,
+        distances,
+        times,
+        tour,
+        &none,
+        &none,
+        &none,
+        &needs,
+        &rooms,
+    )
+}
+
+// route_feasible, route_eval, effective_cost.
+pub fn refuse_evaluating(
+    head: Head,
+    customers: [Customer; 64],
+    count: usize,
+    distances: &[f64],
+    times: &[f64],
+    run: &[usize],
+) -> u32
+    ensures refused { λ r. ⌜ Refuses evaluating (λ cs. lentOf (sheetOf head cs (now (distances .entry)) (now (times .entry))) [] (now (run .entry)) [] [] []) count customers r ⌝ }
+    ensures image { λ r. ⌜ Images (λ cs. sheetOf head cs (now (distances .entry)) (now (times .entry))) count customers r ⌝ }
+{
+    let none: [usize; 0] = [];
+    let kind = Kind {
+        takes_ends: false,
+        marks: false,
+        improves: false,
+    };
+    refusal(
+        kind,
+        head,
+        customers,
+        count,
+        distances,
+        times,
+        &none,
+        run,
+        &none,
+        &none,
+        &none,
+        &none,
+    )
+}
+
+// build_route: visits, violations.
+pub fn refuse_visiting(
+    head: Head,
+    customers: [Customer; 64],
+    count: usize,
+    distances: &[f64],
+    times: &[f64],
+    run: &[usize],
+    visits: usize,
+    violations: usize,
+) -> u32
+    ensures refused { λ r. ⌜ Refuses visiting (λ cs. lentOf (sheetOf head cs (now (distances .entry)) (now (times .entry))) [] (now (run .entry)) [] [] (visits ∷ violations ∷ [])) count customers r ⌝ }
+    ensures image { λ r. ⌜ Images (λ cs. sheetOf head cs (now (distances .entry)) (now (times .entry))) count customers r ⌝ }
+{
+    let none: [usize; 0] = [];
+    let n = run.len();
+    let needs = [n, n + 3];
+    let rooms = [visits, violations];
+    let kind = Kind {
+        takes_ends: false,
+        marks: false,
+        improves: false,
+    };
+    refusal(
+        kind,
+        head,
+        customers,
+        count,
+        distances,
+        times,
+        &none,
+        run,
+        &none,
+        &none,
+        &needs,
+        &rooms,
+    )
+}
+
+// The marker.
+pub fn refuse_marking(
+    head: Head,
+    customers: [Customer; 64],
+    count: usize,
+    distances: &[f64],
+    times: &[f64],
+    tour: &[usize],
+    calls: &[usize],
+    ends: &[usize],
+    breaks: &[usize],
+) -> u32
+    ensures refused { λ r. ⌜ Refuses marking (λ cs. lentOf (sheetOf head cs (now (distances .entry)) (now (times .entry))) (now (tour .entry)) (now (calls .entry)) (now (ends .entry)) (now (breaks .entry)) []) count customers r ⌝ }
+    ensures image { λ r. ⌜ Images (λ cs. sheetOf head cs (now (distances .entry)) (now (times .entry))) count customers r ⌝ }
+{
+    let none: [usize; 0] = [];
+    let kind = Kind {
+        takes_ends: true,
+        marks: true,
+        improves: false,
+    };
+    refusal(
+        kind,
+        head,
+        customers,
+        count,
+        distances,
+        times,
+        tour,
+        calls,
+        ends,
+        breaks,
+        &none,
+        &none,
+    )
+}
+
+// two_opt_improve: calls.
+pub fn refuse_reversing(
+    head: Head,
+    customers: [Customer; 64],
+    count: usize,
+    distances: &[f64],
+    times: &[f64],
+    run: &[usize],
+    result: usize,
+) -> u32
+    ensures refused { λ r. ⌜ Refuses reversing (λ cs. lentOf (sheetOf head cs (now (distances .entry)) (now (times .entry))) [] (now (run .entry)) [] [] (result ∷ [])) count customers r ⌝ }
+    ensures image { λ r. ⌜ Images (λ cs. sheetOf head cs (now (distances .entry)) (now (times .entry))) count customers r ⌝ }
+{
+    let none: [usize; 0] = [];
+    let needs = [run.len()];
+    let rooms = [result];
+    let kind = Kind {
+        takes_ends: false,
+        marks: false,
+        improves: true,
+    };
+    refusal(
+        kind,
+        head,
+        customers,
+        count,
+        distances,
+        times,
+        &none,
+        run,
+        &none,
+        &none,
+        &needs,
+        &rooms,
+    )
+}
+
+// eliminate_routes: calls, run ends.
+pub fn refuse_eliminating(
+    head: Head,
+    customers: [Customer; 64],
+    count: usize,
+    distances: &[f64],
+    times: &[f64],
+    calls: &[usize],
+    ends: &[usize],
+    result_calls: usize,
+    result_ends: usize,
+) -> u32
+    ensures refused { λ r. ⌜ Refuses eliminating (λ cs. lentOf (sheetOf head cs (now (distances .entry)) (now (times .entry))) [] (now (calls .entry)) (now (ends .entry)) [] («result_calls» ∷ «result_ends» ∷ [])) count customers r ⌝ }
+    ensures image { λ r. ⌜ Images (λ cs. sheetOf head cs (now (distances .entry)) (now (times .entry))) count customers r ⌝ }
+{
+    let none: [usize; 0] = [];
+    let needs = [calls.len(), ends.len()];
+    let rooms = [result_calls, result_ends];
+    let kind = Kind {
+        takes_ends: true,
+        marks: false,
+        improves: true,
+    };
+    refusal(
+        kind,
+        head,
+        customers,
+        count,
+        distances,
+        times,
+        &none,
+        calls,
+        ends,
+        &none,
+        &needs,
+        &rooms,
+    )
+}

@@ -1,0 +1,63 @@
+// Refusals 13 and 14: lists too short, and leg tables that are not places squared long. Here `places` may be any number.
+ghost use mathlib.Core.Path.{_≡_};
+ghost use mathlib.Core.Bool.{_&&_};
+ghost use mathlib.Core.List.{[], _∷_};
+ghost use Prim.Native.Nat.{_*_};
+ghost use lib.Dec.{eqb, ltb};
+ghost use lib.ListN.{length};
+ghost use Rattle.basics.specs.Tests.{either};
+ghost use Rattle.definitions.specs.Room as Room;
+ghost use Rattle.definitions.specs.Refusals.{tablesOdd};
+ghost use Rattle.checks.specs.Lent.{sheetOf};
+use crate::head::Head;
+
+// Some list is shorter than it has to be.
+pub fn short(needs: &[usize], rooms: &[usize]) -> bool
+    ensures { λ r. ⌜ r ≡ Room.short (now (needs .entry)) (now (rooms .entry)) ⌝ }
+{
+    let mut i = 0;
+    while i < needs.len() {
+        if rooms.len() <= i {
+            return true;
+        }
+        if rooms[i] < needs[i] {
+            return true;
+        }
+        i += 1;
+    }
+    false
+}
+
+// Fewer customers than places, a short result list, or for the marker fewer break places than runs.
+pub fn too_short(
+    places: usize,
+    customers: usize,
+    needs: &[usize],
+    rooms: &[usize],
+    marks: bool,
+    breaks: &[usize],
+    ends: &[usize],
+) -> bool
+    ensures { λ r. ⌜ r ≡ either (ltb customers places ∷ Room.short (now (needs .entry)) (now (rooms .entry)) ∷ (marks && ltb (length (now (breaks .entry))) (length (now (ends .entry)))) ∷ []) ⌝ }
+{
+    (customers < places) | short(needs, rooms) | (marks & (breaks.len() < ends.len()))
+}
+
+// From 2 ^ 32 places on the square is above every length.
+pub fn is_square(n: usize, places: usize) -> bool
+    ensures { λ r. ⌜ r ≡ eqb n (places * places) ⌝ }
+{
+    if 0xFFFF_FFFF < places {
+        return false;
+    }
+    n == places * places
+}
+
+// A leg table is not places squared long; an empty time table is none.
+pub fn tables_odd(head: Head, distances: &[f64], times: &[f64]) -> bool
+    ensures { λ r. ⌜ r ≡ tablesOdd (sheetOf head [] (now (distances .entry)) (now (times .entry))) ⌝ }
+{
+    let d = distances.len();
+    let t = times.len();
+    !is_square(d, head.places) | !((t == 0) | is_square(t, head.places))
+}

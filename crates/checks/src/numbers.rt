@@ -1,0 +1,62 @@
+// Refusal 1 of single numbers.
+ghost use mathlib.Core.Path.{_≡_};
+ghost use Prim.Native.Nat.{ℕ, min};
+ghost use lib.Dec.{eqb};
+ghost use Rattle.definitions.specs.Domain.{isPlaces, isCapacity, isDemand, isPenalty, isNumber, isCall};
+ghost use Rattle.definitions.specs.Refusals.{unfit};
+ghost use Rattle.whole.specs.Value.{value};
+use whole::is_whole;
+
+// From 1 to 64 places, the depot among them.
+pub fn is_places(n: usize) -> bool
+    ensures { λ r. ⌜ r ≡ isPlaces n ⌝ }
+{
+    1 <= n && n <= 64
+}
+
+pub fn is_capacity(n: u32) -> bool
+    ensures { λ r. ⌜ r ≡ isCapacity n ⌝ }
+{
+    n <= 1_000_000
+}
+
+pub fn is_demand(n: u32) -> bool
+    ensures { λ r. ⌜ r ≡ isDemand n ⌝ }
+{
+    n <= 32_767
+}
+
+// A call's customer, on a sheet with that many places.
+pub fn is_call(places: usize, c: usize) -> bool
+    ensures { λ r. ⌜ r ≡ isCall places c ⌝ }
+{
+    1 <= c && c < places
+}
+
+// Whether x is no distance, time, service, window end, break number, limit or fixed run cost.
+pub fn unfit_number(x: f64) -> bool
+    ensures { λ r. ⌜ r ≡ unfit value isNumber x ⌝ }
+{
+    !is_whole(x, 10_000_000)
+}
+
+// Whether x is no lateness penalty.
+pub fn unfit_penalty(x: f64) -> bool
+    ensures { λ r. ⌜ r ≡ unfit value isPenalty x ⌝ }
+{
+    !is_whole(x, 1_000)
+}
+
+// Whether x is not 0.
+pub fn unfit_zero(x: f64) -> bool
+    ensures { λ r. ⌜ r ≡ unfit value (λ (n : ℕ). eqb n 0) x ⌝ }
+{
+    !is_whole(x, 0)
+}
+
+// The smaller of two lengths.
+pub fn fewer(a: usize, b: usize) -> usize
+    ensures { λ r. ⌜ r ≡ min a b ⌝ }
+{
+    if a < b { a } else { b }
+}

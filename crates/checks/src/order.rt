@@ -1,0 +1,54 @@
+// The refusals in order: the number of the first that fits, and 0 where none does.
+ghost use Rattle.checks.specs.Lent.{sheetOf, lentOf};
+ghost use Rattle.checks.specs.Order.{callOf, Refuses, Images};
+use crate::head::Head;
+use crate::head::Kind;
+use crate::lengths::tables_odd;
+use crate::lengths::too_short;
+use crate::records::has_break;
+use crate::runs::runs_odd;
+use crate::sheet::lateness_pay;
+use crate::sheet::out_of_range;
+use crate::sheet::pairs_fall;
+use models::customer::Customer;
+
+// `count` customers are lent, and the array holds the first of them.
+pub fn refusal(
+    kind: Kind,
+    head: Head,
+    customers: [Customer; 64],
+    count: usize,
+    distances: &[f64],
+    times: &[f64],
+    tour: &[usize],
+    calls: &[usize],
+    ends: &[usize],
+    breaks: &[usize],
+    needs: &[usize],
+    rooms: &[usize],
+) -> u32
+    ensures refused { λ r. ⌜ Refuses (callOf kind (now (needs .entry))) (λ cs. lentOf (sheetOf head cs (now (distances .entry)) (now (times .entry))) (now (tour .entry)) (now (calls .entry)) (now (ends .entry)) (now (breaks .entry)) (now (rooms .entry))) count customers r ⌝ }
+    ensures image { λ r. ⌜ Images (λ cs. sheetOf head cs (now (distances .entry)) (now (times .entry))) count customers r ⌝ }
+{
+    if too_short(head.places, count, needs, rooms, kind.marks, breaks, ends) {
+        return 13;
+    }
+    if tables_odd(head, distances, times) {
+        return 14;
+    }
+    if out_of_range(head, customers, distances, times, tour, calls) {
+        return 1;
+    }
+    if pairs_fall(head, customers) {
+        return 2;
+    }
+    let limits = head.limits;
+    let rest = limits.rest;
+    if runs_odd(kind, has_break(rest), calls.len(), ends, breaks) {
+        return 5;
+    }
+    if lateness_pay(kind.improves, customers, head.places) {
+        return 4;
+    }
+    0
+}
