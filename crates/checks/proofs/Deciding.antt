@@ -22,8 +22,8 @@ use Rattle.models.specs.declared.customer.Customer.{Customer}
 use Rattle.models.specs.Records.{customerOf, restOf}
 use Rattle.models.specs.Image.{flSheet}
 use Rattle.whole.specs.Value.{value}
-use Rattle.checks.specs.declared.head.Head.{Head}
-use Rattle.checks.specs.declared.head.Kind.{Kind}
+use Rattle.models.specs.declared.head.Head.{Head}
+use Rattle.checks.specs.declared.kind.Kind.{Kind}
 use Rattle.checks.specs.Lent.{sheetOf, lentOf, Gathered}
 use Rattle.checks.specs.Falling.{pairsFallF}
 use Rattle.checks.specs.Order.{callOf, badHead, byRows, runsOddOf}

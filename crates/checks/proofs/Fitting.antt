@@ -32,8 +32,8 @@ use Rattle.models.proofs.customer.Customer as CustomerRow
 use Rattle.models.proofs.vehicle.VehicleBreak as VehicleBreakRow
 use Rattle.models.proofs.vehicle.Rest as RestRow
 use Rattle.models.proofs.limits.Limit as LimitRow
-use Rattle.checks.specs.declared.head.Head.{Head}
-use Rattle.checks.proofs.head.Head as HeadRow
+use Rattle.models.specs.declared.head.Head.{Head}
+use Rattle.models.proofs.head.Head as HeadRow
 use Rattle.checks.proofs.Image.{Fit, FitWindow, FitBreak, FitCustomer}
 
 -- ---- of a customer

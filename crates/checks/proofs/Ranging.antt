@@ -17,7 +17,7 @@ use Rattle.definitions.specs.Refusals.{unfit, badLimit, badBreak, badCustomer, 
 use Rattle.models.specs.declared.customer.Customer.{Customer}
 use Rattle.models.specs.Records.{customerOf}
 use Rattle.whole.specs.Value.{value}
-use Rattle.checks.specs.declared.head.Head.{Head}
+use Rattle.models.specs.declared.head.Head.{Head}
 use Rattle.checks.specs.Rows.{rowsFind}
 use Rattle.checks.specs.Lent.{sheetOf, lentOf}
 use Rattle.checks.specs.Order.{badHead, byRows}

@@ -8,7 +8,7 @@ use Rattle.definitions.specs.Sheet.{SheetOf}
 use Rattle.definitions.specs.Lent.{Lent}
 use Rattle.models.specs.declared.customer.Customer.{Customer}
 use Rattle.models.specs.Records.{customerOf, limitOf, restOf}
-use Rattle.checks.specs.declared.head.Head.{Head}
+use Rattle.models.specs.declared.head.Head.{Head}
 
 abbrev pub sheetOf : Head → List Customer → List Float → List Float → SheetOf Float
 sheetOf head customers distances times =

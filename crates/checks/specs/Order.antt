@@ -16,7 +16,7 @@ use Rattle.definitions.specs.Refusals.{unfit, badLimit, badBreak, badCustomer, 
 use Rattle.whole.specs.Value.{value}
 use Rattle.models.specs.Image.{flSheet}
 use Rattle.models.specs.declared.customer.Customer.{Customer}
-use Rattle.checks.specs.declared.head.Kind.{Kind}
+use Rattle.checks.specs.declared.kind.Kind.{Kind}
 use Rattle.checks.specs.Lent.{Gathered}
 use Rattle.checks.specs.Rows.{rowsFind}
 

@@ -3,8 +3,8 @@ ghost use mathlib.Core.List.{[], _∷_};
 ghost use Rattle.definitions.specs.Lent.{cutting, evaluating, visiting, marking, reversing, eliminating};
 ghost use Rattle.checks.specs.Lent.{sheetOf, lentOf};
 ghost use Rattle.checks.specs.Order.{Refuses, Images};
-use crate::head::Head;
-use crate::head::Kind;
+use models::head::Head;
+use crate::kind::Kind;
 use crate::order::refusal;
 use models::customer::Customer;
 

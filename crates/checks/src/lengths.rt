@@ -9,7 +9,7 @@ ghost use Rattle.basics.specs.Tests.{either};
 ghost use Rattle.definitions.specs.Room as Room;
 ghost use Rattle.definitions.specs.Refusals.{tablesOdd};
 ghost use Rattle.checks.specs.Lent.{sheetOf};
-use crate::head::Head;
+use models::head::Head;
 
 // Some list is shorter than it has to be.
 pub fn short(needs: &[usize], rooms: &[usize]) -> bool

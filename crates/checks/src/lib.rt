@@ -2,7 +2,7 @@
 pub mod by_call;
 pub mod calls;
 pub mod customers;
-pub mod head;
+pub mod kind;
 pub mod lengths;
 pub mod numbers;
 pub mod order;

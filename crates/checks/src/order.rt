@@ -1,8 +1,8 @@
 // The refusals in order: the number of the first that fits, and 0 where none does.
 ghost use Rattle.checks.specs.Lent.{sheetOf, lentOf};
 ghost use Rattle.checks.specs.Order.{callOf, Refuses, Images};
-use crate::head::Head;
-use crate::head::Kind;
+use models::head::Head;
+use crate::kind::Kind;
 use crate::lengths::tables_odd;
 use crate::lengths::too_short;
 use crate::records::has_break;

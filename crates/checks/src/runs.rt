@@ -4,7 +4,7 @@ ghost use mathlib.Core.Bool.{cond};
 ghost use Prim.Native.Nat.{_-_};
 ghost use Rattle.definitions.specs.Refusals.{endsFall, emptyRun, breakBeyond};
 ghost use Rattle.checks.specs.Order.{runsOddOf};
-use crate::head::Kind;
+use crate::kind::Kind;
 use crate::numbers::fewer;
 
 // An end below the one before it, or the last is not the number of calls.

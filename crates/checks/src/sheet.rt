@@ -12,7 +12,7 @@ use crate::calls::bad_run_list;
 use crate::calls::bad_tour;
 use crate::customers::Test;
 use crate::customers::any_fits;
-use crate::head::Head;
+use models::head::Head;
 use crate::numbers::is_capacity;
 use crate::numbers::is_places;
 use crate::numbers::unfit_number;

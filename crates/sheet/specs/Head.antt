@@ -5,7 +5,7 @@ use mathlib.Core.Option.{Option}
 use lib.Ieee.{Float}
 use Rattle.definitions.specs.Sheet.{BreakOf, CustomerOf, SheetOf}
 use Rattle.models.specs.Records.{limitOf, restOf}
-use Rattle.sheet.specs.declared.head.Head.{Head}
+use Rattle.models.specs.declared.head.Head.{Head}
 
 pub record HeadOf (F : Type 0) : Type 0 where
   pub places : ℕ

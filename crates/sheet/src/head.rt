@@ -13,18 +13,12 @@ use crate::values::find;
 use crate::values::first_value;
 use crate::values::number_at;
 use crate::values::or_zero;
+use models::head::Head;
 use models::limits::Limit;
 use models::limits::RouteLimits;
 use models::vehicle::Rest;
 use models::vehicle::VehicleBreak;
 use words::word_count;
-
-pub struct Head {
-    pub places: usize,
-    pub capacity: u32,
-    pub fixed_cost: f64,
-    pub limits: RouteLimits,
-}
 
 pub fn limit_of(v: Value) -> Limit
     ensures { λ r. ⌜ limitOf r ≡ Option·map fl (valueOf v) ⌝ }

@@ -2,7 +2,7 @@
 ghost use mathlib.Core.Path.{_≡_};
 ghost use Rattle.definitions.specs.Reader as Reader;
 ghost use Rattle.sheet.specs.Summary.{summaryOf, heldSummary};
-use crate::head::Head;
+use models::head::Head;
 use crate::head::head_of;
 use crate::values::count_values;
 use words::check::Checked;
