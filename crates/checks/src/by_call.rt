@@ -3,10 +3,10 @@ ghost use mathlib.Core.List.{[], _∷_};
 ghost use Rattle.definitions.specs.Lent.{cutting, evaluating, visiting, marking, reversing, eliminating};
 ghost use Rattle.checks.specs.Lent.{sheetOf, lentOf};
 ghost use Rattle.checks.specs.Order.{Refuses, Images};
-use models::head::Head;
 use crate::kind::Kind;
 use crate::order::refusal;
 use models::customer::Customer;
+use models::head::Head;
 
 // split, split_tw: served customers, run ends, dropped positions.
 pub fn refuse_cutting(

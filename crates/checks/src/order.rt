@@ -1,7 +1,6 @@
 // The refusals in order: the number of the first that fits, and 0 where none does.
 ghost use Rattle.checks.specs.Lent.{sheetOf, lentOf};
 ghost use Rattle.checks.specs.Order.{callOf, Refuses, Images};
-use models::head::Head;
 use crate::kind::Kind;
 use crate::lengths::tables_odd;
 use crate::lengths::too_short;
@@ -11,6 +10,7 @@ use crate::sheet::lateness_pay;
 use crate::sheet::out_of_range;
 use crate::sheet::pairs_fall;
 use models::customer::Customer;
+use models::head::Head;
 
 // `count` customers are lent, and the array holds the first of them.
 pub fn refusal(

@@ -12,7 +12,6 @@ use crate::calls::bad_run_list;
 use crate::calls::bad_tour;
 use crate::customers::Test;
 use crate::customers::any_fits;
-use models::head::Head;
 use crate::numbers::is_capacity;
 use crate::numbers::is_places;
 use crate::numbers::unfit_number;
@@ -22,6 +21,7 @@ use crate::records::bad_limit;
 use crate::records::break_falls;
 use crate::tables::bad_tables;
 use models::customer::Customer;
+use models::head::Head;
 
 pub fn bad_head(head: Head) -> bool
     ensures { λ r. ⌜ r ≡ badHead (sheetOf head [] [] []) ⌝ }

@@ -79,10 +79,10 @@ Done E i costs preds cost pred = (cost ≡ tab (rowCost E i costs) cells) × (pr
 -- ---- a row, cell by cell
 
 module _ (E : Legs) (i : ℕ) (costs : List Float) (preds : List ℕ) where
-  won-low : (k : ℕ) → k ≤ i → wins E i costs k ≡ false
+  pub won-low : (k : ℕ) → k ≤ i → wins E i costs k ≡ false
   won-low k h = rw (le-ltb i k h) refl
 
-  won-barred : (k : ℕ) → E .legal i k ≡ false → wins E i costs k ≡ false
+  pub won-barred : (k : ℕ) → E .legal i k ≡ false → wins E i costs k ≡ false
   won-barred k e = rw (e, lt-inf (getD costs k nan)) (and-false (ltb i k))
 
   -- before the first cell
@@ -120,7 +120,7 @@ module _ (E : Legs) (i : ℕ) (costs : List Float) (preds : List ℕ) where
           ∙ getD-tab (upTo (costFill E i costs) j) cells k nan b
           ∙ at-high (costFill E i costs) j k (omega arith)
 
-      test-is : wins E i costs k ≡ lt new (getD cost k nan)
+      pub test-is : wins E i costs k ≡ lt new (getD cost k nan)
       test-is = rw (lt-ltb i k low, old-here) (ap (λ (x : Float). lt x (getD costs k nan)) made-here ∙ guarded new (getD costs k nan))
 
       new-is : lt new (getD cost k nan) ≡ true → made E i costs k ≡ new
@@ -150,7 +150,7 @@ module _ (E : Legs) where
     made-none : (j : ℕ) → made E i cs j ≡ inf false
     made-none j = rw (strict (getD cs i nan) i j un, and-false (E .legal i j)) refl
 
-    unreached : (j : ℕ) → wins E i cs j ≡ false
+    pub unreached : (j : ℕ) → wins E i cs j ≡ false
     unreached j = rw (made-none j, lt-inf (getD cs j nan)) (and-false (ltb i j))
 
     pub skipped : length cs ≡ cells → length ps ≡ cells → Done E i cs ps cs ps

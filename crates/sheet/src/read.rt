@@ -2,9 +2,9 @@
 ghost use mathlib.Core.Path.{_≡_};
 ghost use Rattle.definitions.specs.Reader as Reader;
 ghost use Rattle.sheet.specs.Summary.{summaryOf, heldSummary};
-use models::head::Head;
 use crate::head::head_of;
 use crate::values::count_values;
+use models::head::Head;
 use words::check::Checked;
 use words::check::check;
 

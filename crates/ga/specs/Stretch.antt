@@ -1,0 +1,53 @@
+-- A stretch of calls, call by call: where the bus is after m of them, what they ask for, and how far it is. Definitions only, over what a call asks for and over the legs.
+use Prim.Native.Nat.{ℕ, zero, suc, _+_}
+use mathlib.Core.Bool.{Bool, cond, _&&_}
+use mathlib.Core.List.{List}
+use mathlib.Core.Option.{none}
+use lib.ListN.{length, getD}
+use lib.Dec.{ltb, leb, eqb}
+use lib.Ieee.{Float, binary64, add}
+use Rattle.definitions.specs.Sheet.{CustomerOf}
+use Rattle.whole.specs.Whole.{fl}
+
+-- which of 64 records a call has: its own, or the first for a call beyond them
+abbrev pub recordIndex : ℕ → ℕ
+recordIndex c = cond (ltb c 64) c 0
+
+-- what stands where there is no record
+abbrev pub blank : CustomerOf Float
+blank = record { demand = 0; service = fl 0; window = none; penalty = none }
+
+-- what a call asks for
+unfoldable pub demandF : List (CustomerOf Float) → ℕ → ℕ
+demandF customers c = getD customers (recordIndex c) blank .demand
+
+-- a leg after those that are gone; the first leg stands alone
+abbrev pub joinedF : Float → Float → Bool → Float
+joinedF gone leg first = cond first leg (add binary64 gone leg)
+
+-- where the bus is after the first m calls of st; the depot is 0
+unfoldable pub placeOf : List ℕ → ℕ → ℕ
+placeOf st zero = 0
+placeOf st (suc m) = getD st m 0
+
+-- a vehicle of this capacity holds the load
+abbrev pub fitsLoad : ℕ → ℕ → Bool
+fitsLoad load capacity = leb load capacity
+
+-- what the first m calls of st ask for
+unfoldable pub loadOf : (ℕ → ℕ) → List ℕ → ℕ → ℕ
+loadOf demand st zero = 0
+loadOf demand st (suc m) = loadOf demand st m + demand (getD st m 0)
+
+-- st has m calls, and a vehicle holds what they ask for
+unfoldable pub fitsOf : (ℕ → ℕ) → ℕ → List ℕ → ℕ → Bool
+fitsOf demand capacity st m = leb m (length st) && fitsLoad (loadOf demand st m) capacity
+
+-- the way from the depot through the first m calls of st, added leg by leg
+unfoldable pub goneOf : (ℕ → ℕ → Float) → List ℕ → ℕ → Float
+goneOf leg st zero = fl 0
+goneOf leg st (suc m) = joinedF (goneOf leg st m) (leg (placeOf st m) (getD st m 0)) (eqb m 0)
+
+-- and home
+unfoldable pub wayOf : (ℕ → ℕ → Float) → List ℕ → ℕ → Float
+wayOf leg st m = add binary64 (goneOf leg st m) (leg (placeOf st m) 0)

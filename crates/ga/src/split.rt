@@ -1,0 +1,276 @@
+// The cut of a tour by capacity alone (ga/split.rs): row i of the table tries the runs that start at call i.
+ghost use mathlib.Core.Path.{_≡_};
+ghost use mathlib.Core.Bool.{cond};
+ghost use mathlib.Core.List.{map};
+ghost use Prim.Native.Nat.{_+_, _-_, _<_, _≤_};
+ghost use lib.ListN.{length, set};
+ghost use Rattle.definitions.specs.Drop.{callsAt};
+ghost use Rattle.definitions.specs.Room.{written};
+ghost use Rattle.models.specs.Records.{customerOf};
+ghost use Rattle.ga.specs.Split.{lent, RowOf, TableOf, CutDone, Counted, removalsF, splitF};
+use crate::table::fits;
+use crate::table::joined;
+use crate::table::offer;
+use crate::table::read_back;
+use crate::table::record_index;
+use crate::table::wide;
+use crate::table::write_front;
+use distance::matrix::get;
+use models::customer::Customer;
+use whole::infinity;
+
+// Row i: the runs along the stretch that starts at call i, each after the best of the calls before it.
+pub fn row(
+    cost: &mut [f64; 129],
+    dist: &mut [f64; 129],
+    pred: &mut [usize; 129],
+    stretch: &[usize],
+    customers: [Customer; 64],
+    distances: &[f64],
+    size: usize,
+    capacity: u32,
+    fixed: f64,
+    i: usize,
+)
+    requires { ⌜ (length (now cost) ≡ 129) × (length (now dist) ≡ 129) × (length (now pred) ≡ 129) ⌝ }
+    requires { ⌜ i + length (now stretch) ≤ 128 ⌝ }
+    ensures { λ _. ⌜ RowOf (lent customers (now (distances .entry)) size capacity fixed) (now (stretch .entry)) i (now (cost .entry)) (now (dist .entry)) (now (pred .entry)) (now (cost .exit)) (now (dist .exit)) (now (pred .exit)) ⌝ }
+{
+    let base = cost[i] + fixed;
+    let before = dist[i];
+    let mut load: u64 = 0;
+    let mut gone = 0.0;
+    let mut prev = 0;
+    let mut m = 0;
+    while m < stretch.len() {
+        let cid = stretch[m];
+        let index = record_index(cid);
+        let customer = customers[index];
+        load += wide(customer.demand);
+        if !fits(load, capacity) {
+            return;
+        }
+        gone = joined(gone, get(distances, size, prev, cid), m == 0);
+        prev = cid;
+        let total = gone + get(distances, size, cid, 0);
+        m += 1;
+        let new = base + total;
+        let far = before + total;
+        offer(&mut *cost, &mut *dist, &mut *pred, i + m, i, new, far);
+    }
+}
+
+// Row i where the calls before i can be cut at all; else there is nothing to do.
+pub fn reached_row(
+    cost: &mut [f64; 129],
+    dist: &mut [f64; 129],
+    pred: &mut [usize; 129],
+    stretch: &[usize],
+    customers: [Customer; 64],
+    distances: &[f64],
+    size: usize,
+    capacity: u32,
+    fixed: f64,
+    i: usize,
+)
+    requires { ⌜ (length (now cost) ≡ 129) × (length (now dist) ≡ 129) × (length (now pred) ≡ 129) ⌝ }
+    requires { ⌜ i + length (now stretch) ≤ 128 ⌝ }
+    ensures { λ _. ⌜ RowOf (lent customers (now (distances .entry)) size capacity fixed) (now (stretch .entry)) i (now (cost .entry)) (now (dist .entry)) (now (pred .entry)) (now (cost .exit)) (now (dist .exit)) (now (pred .exit)) ⌝ }
+{
+    if cost[i] == infinity() {
+        return;
+    }
+    row(
+        &mut *cost,
+        &mut *dist,
+        &mut *pred,
+        stretch,
+        customers,
+        distances,
+        size,
+        capacity,
+        fixed,
+        i,
+    );
+}
+
+// Every row, in order.
+pub fn rows(
+    cost: &mut [f64; 129],
+    dist: &mut [f64; 129],
+    pred: &mut [usize; 129],
+    held: &[usize],
+    customers: [Customer; 64],
+    distances: &[f64],
+    size: usize,
+    capacity: u32,
+    fixed: f64,
+)
+    requires { ⌜ length (now held) ≤ 128 ⌝ }
+    requires { ⌜ TableOf (lent customers (now distances) size capacity fixed) (now held) 0 (now cost) (now dist) (now pred) ⌝ }
+    ensures { λ _. ⌜ TableOf (lent customers (now (distances .entry)) size capacity fixed) (now (held .entry)) (length (now (held .entry))) (now (cost .exit)) (now (dist .exit)) (now (pred .exit)) ⌝ }
+{
+    let mut i: usize = 0;
+    while i < held.len() {
+        reached_row(
+            &mut *cost,
+            &mut *dist,
+            &mut *pred,
+            &held[i..],
+            customers,
+            distances,
+            size,
+            capacity,
+            fixed,
+            i,
+        );
+        i += 1;
+    }
+}
+
+pub struct Cutting {
+    // what the calls cost, cut at the best; infinity where they cannot be cut
+    pub cost: f64,
+    pub distance: f64,
+    // where the ends of the runs start in `ends`
+    pub at: usize,
+}
+
+// The calls held, cut at least cost. The ends of the runs stand at the end of `ends`, from `at` on.
+pub fn cut(
+    held: &[usize],
+    customers: [Customer; 64],
+    distances: &[f64],
+    size: usize,
+    capacity: u32,
+    fixed: f64,
+    ends: &mut [usize; 129],
+) -> Cutting
+    requires { ⌜ (length (now held) ≤ 128) × (length (now ends) ≡ 129) ⌝ }
+    ensures { λ r. ⌜ CutDone (lent customers (now (distances .entry)) size capacity fixed) (now (held .entry)) (r .cost) (r .distance) (r .at) (now (ends .exit)) ⌝ }
+{
+    let n = held.len();
+    let top = infinity();
+    let mut cost = [top; 129];
+    let mut dist = [0.0; 129];
+    let mut pred = [0usize; 129];
+    cost[0] = 0.0;
+    rows(
+        &mut cost,
+        &mut dist,
+        &mut pred,
+        held,
+        customers,
+        distances,
+        size,
+        capacity,
+        fixed,
+    );
+    let at = read_back(&pred, n, &mut *ends);
+    let total = cost[n];
+    let far = dist[n];
+    Cutting {
+        cost: total,
+        distance: far,
+        at,
+    }
+}
+
+// A light call is put after the n that are held, and the position of another, which is k + 1, after those that are dropped. Gives the number held.
+pub fn sort_call(
+    served: &mut [usize],
+    dropped: &mut [usize],
+    n: usize,
+    k: usize,
+    cid: usize,
+    light: bool,
+) -> usize
+    requires { ⌜ (n ≤ k) × (k < length (now served)) × (k < length (now dropped)) ⌝ }
+    ensures { λ r. ⌜ r ≡ cond light (n + 1) n ⌝ }
+    ensures { λ _. ⌜ now (served .exit) ≡ cond light (set (now (served .entry)) n cid) (now (served .entry)) ⌝ }
+    ensures { λ _. ⌜ now (dropped .exit) ≡ cond light (now (dropped .entry)) (set (now (dropped .entry)) (k - n) (k + 1)) ⌝ }
+{
+    if light {
+        served[n] = cid;
+        n + 1
+    } else {
+        dropped[k - n] = k + 1;
+        n
+    }
+}
+
+// Calls whose demand exceeds capacity are dropped, and the others are held. Gives the number held.
+pub fn hold_light(
+    tour: &[usize],
+    customers: [Customer; 64],
+    capacity: u32,
+    served: &mut [usize],
+    dropped: &mut [usize],
+) -> usize
+    requires { ⌜ (length (now tour) ≤ length (now served)) × (length (now tour) ≤ length (now dropped)) ⌝ }
+    ensures { λ r. ⌜ r ≡ length (removalsF (map customerOf customers) capacity (now (tour .entry)) .held) ⌝ }
+    ensures { λ _. ⌜ now (served .exit) ≡ written (callsAt (now (tour .entry)) (removalsF (map customerOf customers) capacity (now (tour .entry)) .held)) (now (served .entry)) ⌝ }
+    ensures { λ _. ⌜ now (dropped .exit) ≡ written (removalsF (map customerOf customers) capacity (now (tour .entry)) .dropped) (now (dropped .entry)) ⌝ }
+{
+    let mut n = 0;
+    let mut k = 0;
+    while k < tour.len() {
+        let cid = tour[k];
+        let index = record_index(cid);
+        let customer = customers[index];
+        let light = fits(wide(customer.demand), capacity);
+        n = sort_call(&mut *served, &mut *dropped, n, k, cid, light);
+        k += 1;
+    }
+    n
+}
+
+// What the cut comes to: how many calls are served, runs made and calls dropped.
+pub struct SplitResult {
+    pub served: usize,
+    pub runs: usize,
+    pub dropped: usize,
+    pub cost: f64,
+    pub distance: f64,
+}
+
+// Calls that fit no vehicle are dropped, and the others are cut at least cost. The served customers, the run ends and the dropped positions are written at the front of the lent lists.
+pub fn split(
+    tour: &[usize],
+    customers: [Customer; 64],
+    distances: &[f64],
+    size: usize,
+    capacity: u32,
+    fixed: f64,
+    served: &mut [usize],
+    run_ends: &mut [usize],
+    dropped: &mut [usize],
+) -> SplitResult
+    requires { ⌜ length (now tour) ≤ 128 ⌝ }
+    requires { ⌜ (length (now tour) ≤ length (now served)) × (length (now tour) ≤ length (now «run_ends»)) × (length (now tour) ≤ length (now dropped)) ⌝ }
+    ensures { λ r. ⌜ Counted (splitF (lent customers (now (distances .entry)) size capacity fixed) (now (tour .entry))) (r .served) (r .runs) (r .dropped) (r .cost) (r .distance) ⌝ }
+    ensures { λ _. ⌜ now (served .exit) ≡ written (splitF (lent customers (now (distances .entry)) size capacity fixed) (now (tour .entry)) .served) (now (served .entry)) ⌝ }
+    ensures { λ _. ⌜ now («run_ends» .exit) ≡ written (splitF (lent customers (now (distances .entry)) size capacity fixed) (now (tour .entry)) .ends) (now («run_ends» .entry)) ⌝ }
+    ensures { λ _. ⌜ now (dropped .exit) ≡ written (splitF (lent customers (now (distances .entry)) size capacity fixed) (now (tour .entry)) .dropped) (now (dropped .entry)) ⌝ }
+{
+    let n = hold_light(tour, customers, capacity, &mut *served, &mut *dropped);
+    let mut ends = [0usize; 129];
+    let c = cut(
+        &served[..n],
+        customers,
+        distances,
+        size,
+        capacity,
+        fixed,
+        &mut ends,
+    );
+    let at = c.at;
+    write_front(&ends[at..], &mut *run_ends);
+    SplitResult {
+        served: n,
+        runs: 129 - at,
+        dropped: tour.len() - n,
+        cost: c.cost,
+        distance: c.distance,
+    }
+}

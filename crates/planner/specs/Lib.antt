@@ -1,0 +1,2 @@
+-- The answers of the evaluations of a run.
+pub mod Evaluating
