@@ -1,4 +1,4 @@
--- The listing of case m's words is 01's, byte for byte; so are those of a sheet with drops and of one that is refused. Each holds by computation. Assumes nothing.
+-- The listing of case m's words is the scope document's, byte for byte; so are those of a sheet with drops and of one that is refused. Each holds by computation. Assumes nothing.
 use Prim.Native.Nat.{ℕ}
 use mathlib.Core.Path.{_≡_, refl}
 use mathlib.Core.List.{List, [], _∷_, map}
@@ -17,7 +17,7 @@ opened : Unit {0}
 unfolding listing planText runLine digitsIn read readWords walk faultAt mayStand inRange pairFalls sheetOf tourOf splitTw drops dropFrom stuck cheapest pointsFrom arc clock clockFrom serveAt ready enter startOf serveAll runsFrom
 opened = tt
 
--- words as 01 writes them
+-- words as the scope document writes them
 abbrev file : List ℕ → List ℕ
 file numbers = bytesOf (map wordOf numbers)
 
@@ -31,3 +31,19 @@ caseM =
 pub listing-m : listing (file caseM) ≡ text "run 1 2 rest 2 20\ntotal 27 cost 27 served 2 dropped 0\n"
 unfolding opened
 listing-m = refl
+
+-- case c: both calls are dropped
+abbrev caseC : List ℕ
+caseC =
+    0x10000003 ∷ 0x20000001 ∷ 0x30000000 ∷ 0x70000002 ∷ 0x80000000 ∷ 0x70000002 ∷ 0x80000000
+    ∷ 0xC0000000 ∷ 0xC000000A ∷ 0xC000000C ∷ 0xC000000A ∷ 0xC0000000 ∷ 0xC0000005 ∷ 0xC000000C ∷ 0xC0000005 ∷ 0xC0000000
+    ∷ 0xE0000001 ∷ 0xE0000002 ∷ 0xF0000012 ∷ []
+
+pub listing-c : listing (file caseC) ≡ text "drop 1\ndrop 2\ntotal 0 cost 0 served 0 dropped 2\n"
+unfolding opened
+listing-c = refl
+
+-- no bytes: the words end before F
+pub listing-nothing : listing [] ≡ text "refused 12 at 0\n"
+unfolding opened
+listing-nothing = refl

@@ -1,4 +1,4 @@
--- The refusals of the other calls, on the base of 01's bench cases and small changes of it. Each holds by computation.
+-- The refusals of the other calls, on the base of the bench cases and small changes of it. Each holds by computation.
 use Prim.Native.Nat.{ℕ}
 use mathlib.Core.Path.{_≡_, refl}
 use mathlib.Core.List.{List, [], _∷_, _++_, map}

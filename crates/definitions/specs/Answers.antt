@@ -17,7 +17,7 @@ use Rattle.definitions.specs.Reader.{Reading, sheet, refusedAt}
 use Rattle.definitions.specs.Lent.{Lent, Call, cutting, evaluating, visiting, marking, reversing, eliminating}
 use Rattle.definitions.specs.Refusals.{refusalOf, wholeSheet}
 
--- a call is refused by a number of 01's list, or gives its result
+-- a call is refused by a number of the scope document's list, or gives its result
 pub data Answer (A : Type 0) : Type 0 where
   refused : (number : ℕ) → Answer A
   gives : A → Answer A

@@ -36,7 +36,7 @@ pub data Verdict : Type 0 where
   dearer : (by : ℕ) → Verdict
   cheaper : (by : ℕ) → Verdict
 
--- the verdicts in 01's order, numbered from 1, and the values of each
+-- the verdicts in the scope document's order, numbered from 1, and the values of each
 abbrev pub verdictNumber : Verdict → ℕ
 verdictNumber (otherCalls position) = 1
 verdictNumber (overload run load capacity) = 2

@@ -4,7 +4,7 @@ use mathlib.Core.Bool.{Bool, cond}
 use mathlib.Core.List.{List, [], _∷_}
 use mathlib.Core.Option.{Option, none, some}
 
--- a refusal: its number in 01, and whether it fits
+-- a refusal: its number in the scope document, and whether it fits
 pub record Refusal : Type 0 where
   pub number : ℕ
   pub fits : Bool

@@ -1,4 +1,4 @@
--- The refusals of every call but the reader's, over the data as lent: one list, in 01's order. Definitions only.
+-- The refusals of every call but the reader's, over the data as lent: one list, in the scope document's order. Definitions only.
 use Prim.Native.Nat.{ℕ, _-_, _*_}
 use mathlib.Core.Path.{_≡_}
 use mathlib.Core.Bool.{Bool, false, cond, _&&_, _||_, not}

@@ -29,7 +29,7 @@ pub data Violation : Type 0 where
   overDistance : (distance limit : ℕ) → Violation
   overDuration : (duration limit : ℕ) → Violation
 
--- the violations in 01's order, numbered from 1, and the figures of each
+-- the violations in the scope document's order, numbered from 1, and the figures of each
 abbrev pub violationNumber : Violation → ℕ
 violationNumber (windowShut customer readiness due) = 1
 violationNumber breakNotPlaceable = 2
