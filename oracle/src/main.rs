@@ -1,35 +1,57 @@
 //! Answers sheets in words by the Rust planner.
+mod compare;
 mod distance;
+mod edges;
 mod evaluation;
 mod ga;
 mod listing;
 mod local_search;
 mod models;
 mod random;
+mod reader;
+mod record;
 mod sheet;
+mod solomon;
+mod word;
 
 use std::io::Read;
+use std::process::exit;
 
 fn main() {
     let args: Vec<String> = std::env::args().skip(1).collect();
     match args.iter().map(String::as_str).collect::<Vec<_>>()[..] {
         ["list"] => list(),
-        ["random", n] => random(n.parse().expect("a number of sheets")),
-        _ => eprintln!("usage: oracle list < SHEET, or oracle random N"),
+        ["random", n] => random(number(n)),
+        ["record", n, ..] => record::write(number(n), &args[2..]),
+        ["compare", program, n, ..] => {
+            exit(i32::from(!compare::all(program, number(n), &args[3..])))
+        }
+        _ => {
+            eprintln!("usage: oracle list | random N | record N FILE.. | compare PROGRAM N FILE..");
+            exit(2)
+        }
     }
 }
 
-/// The listing of the accepted sheet on standard input.
+fn number(text: &str) -> usize {
+    text.parse().expect("a number of sheets")
+}
+
+/// What the listing program is to print for these bytes.
+fn answer(file: &[u8]) -> String {
+    match reader::words(file) {
+        Ok(words) => listing::of(&sheet::Sheet::from_words(&words)),
+        Err((number, word)) => format!("refused {number} at {word}\n"),
+    }
+}
+
+/// The listing of the sheet on standard input.
 fn list() {
-    let mut bytes = Vec::new();
+    let mut file = Vec::new();
     std::io::stdin()
-        .read_to_end(&mut bytes)
+        .read_to_end(&mut file)
         .expect("standard input");
-    let words: Vec<u32> = bytes
-        .chunks_exact(4)
-        .map(|b| u32::from_le_bytes([b[0], b[1], b[2], b[3]]))
-        .collect();
-    print!("{}", listing::of(&sheet::Sheet::from_words(&words)));
+    print!("{}", answer(&file));
 }
 
 /// Random sheets with their listings: `WORD,WORD,.. LISTING`, its line ends written `\n`.

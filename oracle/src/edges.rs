@@ -1,0 +1,108 @@
+//! Sheets on an edge, and damaged ones.
+use crate::random::Source;
+use crate::word::{bytes, kind, value, word};
+
+/// The sheet with one of its numbers moved to what a run of its first calls comes to, or to one below or above that: load, distance, duration, arrival.
+pub fn on_edge(source: &mut Source, words: &mut [u32]) {
+    let Some(run) = first_calls(source, words) else {
+        return;
+    };
+    let edges: Vec<usize> = (0..words.len())
+        .filter(|&at| [2, 4, 5, 6, 9, 0xA].contains(&kind(words[at])))
+        .collect();
+    let at = edges[source.below(edges.len() as u32) as usize];
+    let number = match kind(words[at]) {
+        2 => run.load,
+        4 => run.distance,
+        5 => run.duration,
+        _ => run.arrivals[source.below(run.arrivals.len() as u32) as usize],
+    };
+    words[at] = word(kind(words[at]), source.near(number).min(10_000_000));
+}
+
+/// What a run comes to that waits for nobody.
+struct Run {
+    load: u32,
+    distance: u32,
+    duration: u32,
+    arrivals: Vec<u32>,
+}
+
+fn first_calls(source: &mut Source, words: &[u32]) -> Option<Run> {
+    let all = |wanted: u32| -> Vec<u32> {
+        let these = words.iter().filter(|&&w| kind(w) == wanted);
+        these.map(|&w| value(w)).collect()
+    };
+    let (demands, services, legs, times, tour) = (all(7), all(8), all(0xC), all(0xD), all(0xE));
+    let times = if times.is_empty() { &legs } else { &times };
+    let places = value(words[0]);
+    if tour.is_empty() {
+        return None;
+    }
+    let calls = 1 + source.below(tour.len() as u32) as usize;
+    let mut run = Run {
+        load: 0,
+        distance: 0,
+        duration: 0,
+        arrivals: Vec::new(),
+    };
+    let mut at = 0;
+    for &customer in tour[..calls].iter().chain([&0]) {
+        let leg = (at * places + customer) as usize;
+        run.distance += legs[leg];
+        run.duration += times[leg];
+        run.arrivals.push(run.duration);
+        if customer > 0 {
+            run.load += demands[customer as usize - 1];
+            run.duration += services[customer as usize - 1];
+        }
+        at = customer;
+    }
+    Some(run)
+}
+
+/// The sheet's bytes with something wrong, or right after all.
+pub fn damaged(source: &mut Source, words: &[u32]) -> Vec<u8> {
+    let mut words = words.to_vec();
+    for _ in 0..1 + source.below(2) {
+        if words.is_empty() {
+            break;
+        }
+        let at = source.below(words.len() as u32) as usize;
+        match source.below(8) {
+            0 => words[at] ^= 1 << source.below(32),
+            1 => drop(words.remove(at)),
+            2 => words.insert(at, word(source.below(16), source.below(20))),
+            3 => words.truncate(at),
+            4 => words[at] = word(source.below(16), value(words[at])),
+            5 => words[at] = word(kind(words[at]), beyond(source, kind(words[at]))),
+            6 => words.push(word(source.below(16), source.below(3))),
+            _ => words.swap(at, 0),
+        }
+    }
+    let mut file = bytes(&words);
+    if source.one_in(3) {
+        file.truncate(file.len().saturating_sub(source.below(5) as usize));
+    }
+    if source.one_in(4) {
+        file.extend((0..source.below(4)).map(|_| 0));
+    }
+    file
+}
+
+/// A number at the end of the kind's range, or one past it.
+fn beyond(source: &mut Source, kind: u32) -> u32 {
+    let most = match kind {
+        1 => 64,
+        2 => 1_000_000,
+        7 => 32_767,
+        0xB => 1_000,
+        0xE => 63,
+        _ => 10_000_000,
+    };
+    if source.one_in(2) {
+        source.below(2)
+    } else {
+        most + source.below(2)
+    }
+}
