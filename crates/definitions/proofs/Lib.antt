@@ -36,9 +36,11 @@ pub mod Dropping
 pub mod Placement
 pub mod Ties
 pub mod Promised
+pub mod Sentences
 -- Without window, limit and break.
 pub mod Plain
 pub mod Agreement
+pub mod Bare
 -- Evaluation, visits and marker.
 pub mod EvaluationCases
 pub mod Visiting

@@ -16,6 +16,8 @@ pub mod Promise
 -- Visits and marker.
 pub mod Visits
 pub mod Marker
+-- Demand 3 over what a caller is given.
+pub mod Clauses
 -- The two improvers.
 pub mod Sort
 pub mod Improver
