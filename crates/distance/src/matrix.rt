@@ -44,15 +44,8 @@ fn lookup_wide(table: &[f64], size: usize, from: usize, to: usize) -> f64
     table[i]
 }
 
-// The distance from one place to another.
-pub fn get(distances: &[f64], size: usize, from: usize, to: usize) -> f64
-    ensures { λ r. ⌜ r ≡ lookupF (now (distances .entry)) size from to ⌝ }
-{
-    lookup(distances, size, from, to)
-}
-
-// The travel time from one place to another; without a time table it is the distance.
-pub fn travel_time(distances: &[f64], times: &[f64], size: usize, from: usize, to: usize) -> f64
+// The number in the time table, or without one in the distances.
+fn lookup_time(distances: &[f64], times: &[f64], size: usize, from: usize, to: usize) -> f64
     ensures { λ r. ⌜ r ≡ lookupF (timeTable (now (distances .entry)) (now (times .entry))) size from to ⌝ }
 {
     if times.len() == 0 {
@@ -60,4 +53,51 @@ pub fn travel_time(distances: &[f64], times: &[f64], size: usize, from: usize, t
     } else {
         lookup(times, size, from, to)
     }
+}
+
+// A view over the lent tables, each of its own lifetime; without a time table `times` is empty.
+pub struct DistanceMatrix<'a, 'b> {
+    distances: &'a [f64],
+    times: &'b [f64],
+    size: usize,
+}
+
+// The two lookups over it.
+impl<'a, 'b> DistanceMatrix<'a, 'b> {
+    pub fn get(self, from: usize, to: usize) -> f64
+        ensures { λ r. ⌜ r ≡ lookupF (now (self .entry .distances)) (self .entry .size) from to ⌝ }
+    {
+        lookup(self.distances, self.size, from, to)
+    }
+
+    pub fn travel_time(self, from: usize, to: usize) -> f64
+        ensures { λ r. ⌜ r ≡ lookupF (timeTable (now (self .entry .distances)) (now (self .entry .times))) (self .entry .size) from to ⌝ }
+    {
+        lookup_time(self.distances, self.times, self.size, from, to)
+    }
+}
+
+// The distance from one place to another.
+pub fn get(distances: &[f64], size: usize, from: usize, to: usize) -> f64
+    ensures { λ r. ⌜ r ≡ lookupF (now (distances .entry)) size from to ⌝ }
+{
+    // no time is asked, so the distances stand for the times
+    let matrix = DistanceMatrix {
+        distances,
+        times: distances,
+        size,
+    };
+    matrix.get(from, to)
+}
+
+// The travel time from one place to another; without a time table it is the distance.
+pub fn travel_time(distances: &[f64], times: &[f64], size: usize, from: usize, to: usize) -> f64
+    ensures { λ r. ⌜ r ≡ lookupF (timeTable (now (distances .entry)) (now (times .entry))) size from to ⌝ }
+{
+    let matrix = DistanceMatrix {
+        distances,
+        times,
+        size,
+    };
+    matrix.travel_time(from, to)
 }

@@ -33,8 +33,8 @@ use denote.Triple.Entry.{alive}
 use denote.Triple.Statement.{Triple}
 use Rattle.models.specs.declared.customer.Customer.{Customer}
 use Rattle.lending.specs.Padding.{padded}
-use Rattle.lending.proofs.Calling.{Met, asked-none}
-use Rattle.lending.proofs.Keeping.{Asks, Gives, calls-kept}
+use Rattle.walks.proofs.Calling.{Met, asked-none}
+use Rattle.walks.proofs.Keeping.{Asks, Gives, calls-kept}
 use Rattle.lending.proofs.Rows as rows
 use Rattle.lending.proofs.Rows.{R, Rs}
 use Rattle.lending.proofs.count as count′

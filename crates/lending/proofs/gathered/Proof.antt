@@ -45,7 +45,7 @@ use denote.Triple.Walked.{says, Stays, stay-none-slice, walkOf, goes-none-slice,
 use denote.Exit.{yes as kept}
 use Rattle.lending.specs.Padding.{blankOf, padded}
 use Rattle.models.specs.declared.customer.Customer.{Customer}
-use Rattle.lending.proofs.Calling.{Met, asked, asked-none, calls-said, calls-plain}
+use Rattle.walks.proofs.Calling.{Met, asked, asked-none, calls-said, calls-plain}
 use Rattle.lending.proofs.Lists.{padded-none, padded-more, padded-all}
 use Rattle.lending.proofs.Rows as rows
 use Rattle.lending.proofs.Rows.{R, Rs, tyAt}

@@ -48,7 +48,7 @@ use denote.Triple.Walked.{says, Stays, stay-none, stay-slice, walkOf, goes-none,
 use denote.Exit.{yes as kept}
 use Rattle.lending.specs.Padding.{blankOf}
 use Rattle.models.specs.declared.customer.Customer.{Customer}
-use Rattle.lending.proofs.Calling.{Met, asked, asked-none, calls-plain}
+use Rattle.walks.proofs.Calling.{Met, asked, asked-none, calls-plain}
 use Rattle.lending.proofs.Lists.{front, front-length, front-more, front-all}
 use Rattle.lending.proofs.Rows as rows
 use Rattle.lending.proofs.Rows.{R, Rs, place-fits, tyAt}

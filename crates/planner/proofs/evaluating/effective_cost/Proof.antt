@@ -36,10 +36,10 @@ use denote.Triple.Spec.{Meets, tripleOf}
 use denote.Triple.Table.{entered, cited}
 use denote.Triple.Walked.{Stays, walkOf, Walks, walked, walk-meets}
 use Rattle.lending.specs.Padding.{padded}
-use Rattle.lending.proofs.Calling.{Met, asked, asked-none, calls-said}
+use Rattle.walks.proofs.Calling.{Met, asked, asked-none, calls-said}
 use Rattle.lending.proofs.Gathering as lent
 use Rattle.lending.proofs.Gathering.{ref, Second, keeps-second, counts, gathers, hands-over}
-use Rattle.lending.proofs.Leaving.{all-left, all-go, leaves}
+use Rattle.walks.proofs.Leaving.{all-left, all-go, leaves}
 use Rattle.lending.proofs.Rows as rows
 use Rattle.lending.proofs.Rows.{R}
 use Rattle.lending.proofs.count as count′

@@ -1,4 +1,4 @@
--- A call in a walk by hand, as one step. It says nothing of the crate, and can be copied as it stands.
+-- A call in a walk by hand, as one step.
 --     calls-said       the callee's tokens and what its parameters own stand at the head. Once the call has returned u: the result's denotation r, what the `ensures` states of it (φ), its relation, and in the context
 --                      what the result owns, the tokens, and what says the parameters' last values
 --     calls-plain      the same of a callee with no lifetimes whose parameters own only facts: nothing is taken from the context and nothing is put into it

@@ -1,4 +1,4 @@
--- A call in a walk by hand whose context has one item F at its head, which is there again after the call: so no position of a local changes over a call. It says nothing of the crate, and can be copied as it stands.
+-- A call in a walk by hand whose context has one item F at its head, which is there again after the call: so no position of a local changes over a call.
 -- F is what a function with no `&mut` has of its parameters: its tokens and what they own. `out` takes of F what the callee asks (its tokens, and what its parameters own) and leaves Rest, and `back` makes F again of the callee's tokens and Rest.
 --     calls-kept, calls-kept-last      the call, and the call that is the last statement of its part, as of an arm of a branch
 --     plain-out, plain-back            `out` and `back` of a callee with no lifetimes whose parameters own only facts: Rest is F
@@ -24,7 +24,7 @@ use denote.Triple.Call.{calls-from, calls-from-last}
 use denote.Triple.Clauses.{Ended, Clauses, Lasts, AtExit, atExit, lasts, ensured}
 use denote.Triple.Entry.{Args, Vals, Res, alive}
 use denote.Triple.Statement.{Triple}
-use Rattle.lending.proofs.Calling.{Met}
+use Rattle.walks.proofs.Calling.{Met}
 
 module _ {M : Type 1} (𝓤 : URA M) (H : Heap 𝓤) (A : Atoms 𝓤) (T : Ended) (κs : Lfts (T .signature .lifetimes)) (qs : Shares (T .signature .lifetimes)) (a : Args (T .signature) κs) (vss : Vals (T .signature) κs) where
   -- what the callee asks, and the tokens that it gives back

@@ -1,0 +1,91 @@
+-- The loops over calls: what is left of them from call i on ends as all of them do. Assumes nothing.
+use Prim.Native.Nat.{ℕ, suc, _+_, _≤_, _<_, min}
+use native.Mathlib.Omega.{arith}
+use native.Mathlib.Numerals.{add-one}
+use mathlib.Core.Path.{_≡_, sym, ap, _∙_}
+use mathlib.Core.List.{List, [], map}
+use mathlib.Core.Option.{Option, none, some}
+use lib.ListN.{length, getD, drop, drop-of-length-le}
+use lib.Seq.{drop-cons}
+use lib.Dec.{leb}
+use lib.Ieee as Ieee
+use lib.Ieee.{Float, binary64}
+use borrow.Author.Tests.{leb-true, leb-false, eq-eqb, ne-eqb}
+use Rattle.basics.specs.Tests.{by-test}
+use Rattle.definitions.specs.Sheet.{BreakOf, CustomerOf}
+use Rattle.definitions.specs.Marker.{differ}
+use Rattle.models.specs.declared.customer.Customer.{Customer}
+use Rattle.models.specs.Records.{customerOf}
+use Rattle.evaluation.specs.declared.schedule.Label.{Label}
+use Rattle.evaluation.specs.Records.{Tables}
+use Rattle.evaluation.specs.Serving.{serveF}
+use Rattle.evaluation.specs.Clock.{homeF}
+use Rattle.evaluation.specs.Tables.{recordIndex, recordF, distanceF, timeF}
+use Rattle.evaluation.proofs.Reading.{read-record}
+use Rattle.marker.specs.declared.walk.Walked.the-variants.{Stopped, Home}
+use Rattle.marker.specs.Walking.{breakAtF, callFaultF, walkF}
+use Rattle.marker.specs.RunMark.{demandF, loadF}
+
+-- ---- two lists, up to where one ends
+
+module _ (xs ys : List ℕ) (i : ℕ) where
+  module _ (p : i < length xs) (q : i < length ys) where
+    pub differ-on : getD xs i 0 ≡ getD ys i 0 → differ (i + 1) (drop i xs) (drop i ys) ≡ differ (i + 1 + 1) (drop (i + 1) xs) (drop (i + 1) ys)
+    differ-on e = rw (add-one i, add-one (suc i), drop-cons xs i 0, drop-cons ys i 0, eq-eqb _ _ e)
+
+    pub differ-here : (getD xs i 0 ≡ getD ys i 0 → ⊥) → differ (i + 1) (drop i xs) (drop i ys) ≡ some (i + 1)
+    differ-here e = rw (drop-cons xs i 0, drop-cons ys i 0, ne-eqb _ _ e)
+
+  pub differ-none : length xs ≤ i → length ys ≤ i → differ (i + 1) (drop i xs) (drop i ys) ≡ none
+  differ-none p q = rw (drop-of-length-le xs p, drop-of-length-le ys q)
+
+  pub differ-ended : i ≤ min (length xs) (length ys) → min (length xs) (length ys) ≤ i → (length xs ≡ length ys → ⊥) → differ (i + 1) (drop i xs) (drop i ys) ≡ some (i + 1)
+  differ-ended p q e =
+      by-test (leb (length xs) i)
+      (λ t. let h = leb-true (length xs) i t in
+      let g : i < length ys = omega arith in
+      rw (drop-of-length-le xs h, drop-cons ys i 0))
+      (λ f. let h = leb-false (length xs) i f in
+      let g : length ys ≤ i = omega arith in
+      rw (drop-cons xs i 0, drop-of-length-le ys g))
+
+-- ---- the load
+
+pub read-demand : (customers : List Customer) (c i : ℕ) (d : Customer) → length customers ≡ 64 → (i ≡ recordIndex c) × (i < 64)
+    → getD customers i d .demand ≡ demandF (map customerOf customers) c
+unfolding recordF demandF
+read-demand customers c i d long e = ap (λ (x : CustomerOf Float). x .demand) (read-record customers [] [] 0 c i d long (e .0) (e .1))
+
+module _ (customers : List (CustomerOf Float)) (calls : List ℕ) (i : ℕ) where
+  load-turn : i < length calls → loadF customers (drop i calls) ≡ demandF customers (getD calls i 0) + loadF customers (drop (i + 1) calls)
+  unfolding loadF
+  load-turn h = rw (add-one, drop-cons calls i 0)
+
+  pub load-on : (load demand all : ℕ) → i < length calls → demand ≡ demandF customers (getD calls i 0)
+      → load + loadF customers (drop i calls) ≡ all → load + demand + loadF customers (drop (i + 1) calls) ≡ all
+  load-on load demand all h d e = omega (arith, load-turn h)
+
+  pub load-end : length calls ≤ i → loadF customers (drop i calls) ≡ 0
+  unfolding loadF
+  load-end h = rw (drop-of-length-le calls h)
+
+-- ---- the walk
+
+module _ (t : Tables) (rest : Option (BreakOf Float)) (n place : ℕ) (calls : List ℕ) (far : Float) (a : ℕ) (l : Label) (i : ℕ) where
+  module _ (c : CustomerOf Float) (travel : Float) (here : Option (BreakOf Float)) (o : Option Label) (h : i < length calls) (ew : travel ≡ timeF t a (getD calls i 0))
+      (ec : c ≡ recordF t (getD calls i 0)) (eh : here ≡ breakAtF rest place (i + 1)) (es : o ≡ serveF c here (i + 1) travel l) where
+    found : serveF (recordF t (getD calls i 0)) (breakAtF rest place (i + 1)) (i + 1) (timeF t a (getD calls i 0)) l ≡ o
+    found = rw (← ec, ← eh, ← ew) (sym es)
+
+    pub walk-on : (m : Label) (leg : Float) → leg ≡ distanceF t a (getD calls i 0) → o ≡ some m
+        → walkF t rest n place (i + 1) far a l (drop i calls) ≡ walkF t rest n place (i + 1 + 1) (Ieee.add binary64 far leg) (getD calls i 0) m (drop (i + 1) calls)
+    unfolding walkF
+    walk-on m leg el e = rw (el, drop-cons calls i 0, found ∙ e, walkF) (rw (add-one (i + 1), add-one i))
+
+    pub walk-stops : o ≡ none → walkF t rest n place (i + 1) far a l (drop i calls) ≡ Stopped (callFaultF n (i + 1) (getD calls i 0) c here (Ieee.add binary64 (l .time) travel))
+    unfolding walkF
+    walk-stops e = rw (drop-cons calls i 0, found ∙ e, walkF) (rw (ec, eh, ew))
+
+  pub walk-end : length calls ≤ i → walkF t rest n place (i + 1) far a l (drop i calls) ≡ Home (homeF (Ieee.add binary64 far (distanceF t a 0)) (timeF t a 0) l)
+  unfolding walkF
+  walk-end h = rw (drop-of-length-le calls h)

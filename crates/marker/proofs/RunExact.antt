@@ -1,0 +1,126 @@
+-- On a sheet within the limits, held in floats, the mark of a run is that of crates/definitions: its first fault, and else its cost. Assumes nothing.
+use Prim.Native.Nat.{ℕ, zero, suc, _+_, _≤_}
+use native.Mathlib.Omega.{arith}
+use native.Mathlib.Nat.{zero-add}
+use mathlib.Core.Path.{_≡_, refl, ap, ap₂}
+use mathlib.Core.List.{List, [], _∷_}
+use mathlib.Core.Option.{Option, none, some, Option·map}
+use lib.ListN.{length}
+use lib.Ieee.{Float}
+use Rattle.basics.specs.Tests.{by-test}
+use Rattle.basics.specs.Options.{_>>=_, Holds, valueOr, orElse}
+use Rattle.basics.specs.Lists.{All}
+use Rattle.definitions.specs.Domain.{mostCalls}
+use Rattle.definitions.specs.Sheet.{Break, CustomerOf, Sheet, customer, time}
+use Rattle.definitions.specs.Limits.{within}
+use Rattle.definitions.specs.Run as Whole
+use Rattle.definitions.specs.Run.{Run, start, serveAll, lastOf, distanceFrom, Totals, home, ride, load, fits, placed, price, runCost}
+use Rattle.definitions.specs.Marker.{walkFault, totalFault, runFault}
+use Rattle.bounds.specs.Inside as Inside
+use Rattle.bounds.specs.Inside.{SmallBreak, Sized, Place, depot-inside}
+use Rattle.bounds.specs.Bounds.{start-early, distance-most, ride-most, SmallTotals, TotalsFit, totals-fit}
+use Rattle.bounds.specs.CostBounds.{price-room}
+use Rattle.whole.specs.Whole.{fl, limit, fl-le, fl-sum}
+use Rattle.models.specs.Image.{flBreak}
+use Rattle.models.proofs.Exact.{Small, within-exact}
+use Rattle.evaluation.specs.Serving.{startLabel}
+use Rattle.evaluation.specs.Tables.{recordF}
+use Rattle.evaluation.specs.Image.{flTotals, flLimits}
+use Rattle.evaluation.proofs.ClockExact.{record-exact}
+use Rattle.marker.specs.declared.walk.Walked.{Walked}
+use Rattle.marker.specs.declared.run.Marked.{Marked}
+use Rattle.marker.specs.Walking.{walkF}
+use Rattle.marker.specs.RunMark.{Ground, demandF, loadF, placedF, limitF, totalsMarkF, walkMarkF, runMarkF}
+use Rattle.marker.specs.Image.{flMarked, Image}
+use Rattle.marker.proofs.WalkExact.{break-or-exact, Walks, stops, arrives, walk-exact}
+
+-- the calls as a run with this break place
+abbrev runOf : List ℕ → ℕ → Run
+runOf calls place = record { calls = calls; place = place }
+
+-- ---- load
+
+module _ (s : Sheet) (S : Sized s) (G : Ground) (I : Image s G) where
+  demand-exact : (c : ℕ) → Place s c → demandF (G .tables .customers) c ≡ customer s c .demand
+  unfolding recordF demandF
+  demand-exact c p = ap (λ (x : CustomerOf Float). x .demand) (record-exact s S (G .tables) (I .tables-hold) c p)
+
+  load-exact : (calls : List ℕ) → All (Place s) calls → loadF (G .tables .customers) calls ≡ load s calls
+  unfolding loadF
+  load-exact [] i = refl
+  load-exact (c ∷ cs) i = ap₂ _+_ (demand-exact c (i .0)) (load-exact cs (i .1))
+
+-- ---- totals
+
+placed-exact : (o : Option Break) → Holds SmallBreak o → (place n duration : ℕ) → duration ≤ limit → placedF (Option·map flBreak o) place n (fl duration) ≡ placed o place n duration
+unfolding placedF placed
+placed-exact none B place n duration h = refl
+placed-exact (some b) B zero n duration h = fl-le duration (b .earliest) h (omega arith)
+placed-exact (some b) B (suc k) n duration h = refl
+
+limit-exact : (o : Option ℕ) → limitF (Option·map fl o) ≡ fl (valueOr 0 o)
+limit-exact none = refl
+limit-exact (some n) = refl
+
+small-limit : (o : Option ℕ) → Holds Inside.Small o → Small o
+small-limit none h = tt
+small-limit (some n) h = omega arith
+
+module _ (s : Sheet) (S : Sized s) (n place : ℕ) (calls : List ℕ) (few : length calls ≤ mostCalls) (u : Totals) (T : SmallTotals (length calls) u) where
+  fit : TotalsFit u
+  fit = totals-fit (length calls) few u T
+
+  room : s .fixed + u .distance + u .pay ≤ limit
+  room = omega (arith, price-room s S 0 (length calls) 0 (u .distance) (u .pay) (omega arith) few (omega arith) (T .distance-most) (T .pay-most))
+
+  totals-mark-exact : totalsMarkF (flLimits s) (fl (s .fixed)) n place (length calls) (flTotals u) ≡ flMarked (totalFault s n (runOf calls place) u) (price s (u .distance) (u .pay))
+  unfolding totalsMarkF
+  totals-mark-exact =
+      rw (
+        placed-exact (s .rest) (S .rest-small) place (length calls) (u .duration) (fit .duration-fits),
+        within-exact (s .maxDistance) (u .distance) (small-limit (s .maxDistance) (S .far-small)) (fit .distance-fits),
+        within-exact (s .maxDuration) (u .duration) (small-limit (s .maxDuration) (S .long-small)) (fit .duration-fits),
+        fl-sum (s .fixed) (u .distance) (omega (arith, room)),
+        fl-sum (s .fixed + u .distance) (u .pay) room,
+        limit-exact (s .maxDistance),
+        limit-exact (s .maxDuration),
+        break-or-exact (s .rest),
+      )
+      (by-test (placed (s .rest) place (length calls) (u .duration))
+      (λ y. by-test (within (s .maxDistance) (u .distance))
+      (λ z. by-test (within (s .maxDuration) (u .duration)) (λ w. rw (y, z, w)) (λ w. rw (y, z, w)))
+      (λ z. rw (y, z)))
+      (λ y. rw y))
+
+-- ---- the run
+
+module _ (s : Sheet) (S : Sized s) (G : Ground) (I : Image s G) (n place : ℕ) (calls : List ℕ) (few : length calls ≤ mostCalls) (inside : All (Place s) calls) where
+  abbrev last : Option Whole.Label
+  last = serveAll s place 1 0 (some start) calls
+
+  rode : (l : Whole.Label) → last ≡ some l → ride s (runOf calls place) ≡ some (home s calls l)
+  unfolding ride
+  rode l e = rw e
+
+  -- by the walk, and then by the totals
+  abbrev marked : Marked
+  marked =
+      flMarked (orElse (walkFault s n place 1 0 start calls) (ride s (runOf calls place) >>= totalFault s n (runOf calls place))) (runCost s (runOf calls place))
+
+  walked-exact : (w : Walked) → Walks (walkFault s n place 1 0 start calls) last (0 + distanceFrom s 0 calls) (time s (lastOf 0 calls) 0) w
+      → walkMarkF (flLimits s) (fl (s .fixed)) n place (length calls) w ≡ marked
+  unfolding runCost
+  walked-exact w (stops v p q) = rw (q, p)
+  walked-exact w (arrives l p e q) =
+      rw (q, p, rode l e, zero-add (distanceFrom s 0 calls))
+      (totals-mark-exact s S n place calls few (home s calls l) (ride-most s S (runOf calls place) few (home s calls l) (rode l e)))
+
+  walk-mark-exact : walkMarkF (flLimits s) (fl (s .fixed)) n place (length calls) (walkF (G .tables) (flLimits s .rest) n place 1 (fl 0) 0 startLabel calls) ≡ marked
+  walk-mark-exact =
+      walked-exact _
+      (walk-exact s S (G .tables) (I .tables-hold) n place 0 1 0 0 start calls (omega arith) (depot-inside s S) inside start-early (omega (arith, distance-most s S 0 calls)))
+
+  pub run-exact : runMarkF G n calls place ≡ flMarked (runFault s n (runOf calls place)) (runCost s (runOf calls place))
+  unfolding runMarkF runFault
+  run-exact =
+      rw (load-exact s S G I calls inside, I .capacity-holds, I .limits-hold, I .fixed-holds) (by-test (fits s calls) (λ y. rw y walk-mark-exact) (λ y. rw y))

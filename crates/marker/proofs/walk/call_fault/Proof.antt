@@ -1,0 +1,58 @@
+-- `walk::call_fault` meets its contract. Assumes nothing.
+use mathlib.Core.Path.{_≡_, ap}
+use lib.Ieee.{Float}
+use Rattle.definitions.specs.Sheet.{BreakOf}
+use Rattle.evaluation.specs.declared.schedule.Ready.the-variants.{TooLate, From}
+use Rattle.evaluation.specs.Serving.{breakStartF, readyF}
+use Rattle.marker.specs.declared.verdict.Verdict.the-variants.{BreakTooLate}
+use Rattle.marker.specs.Walking.{callFaultF}
+use borrow.Author.Needs.{needs}
+use Rattle.marker.proofs.walk.call_fault.Statement.{statement}
+use Rattle.marker.proofs.walk.call_fault.Tie as tie
+
+ready-at-requires : tie.Need-ready-at-requires
+ready-at-requires c κs = search needs
+
+enum-told : tie.Need-enum-told
+enum-told c = search needs
+
+break-or-requires : tie.Need-break-or-requires
+break-or-requires c κs = search needs
+
+later-requires : tie.Need-later-requires
+later-requires c κs = search needs
+
+enum-known-readiness : tie.Need-enum-known-readiness
+enum-known-readiness c = search needs
+
+due-of-requires : tie.Need-due-of-requires
+due-of-requires c κs = search needs
+
+returns : tie.Need-returns
+unfolding callFaultF readyF
+returns c =
+    let ready = c .before .before .before .before in
+    let a = ready .before .args in
+    let e : ready .ready-at .result ≡ TooLate = search needs in
+    rw (← ready .ready-at .ensures, e, c .later .ensures)
+    (ap (λ (b : BreakOf Float). BreakTooLate (a .run) (a .k) (a .cid) (breakStartF b (a .arrival)) (b .latest)) (c .before .break-or .ensures))
+
+returns-2 : tie.Need-returns-2
+unfolding callFaultF readyF
+returns-2 c =
+    let ready = c .before .before .before .before in
+    let e : ready .ready-at .result ≡ From (c .before .before .readiness .given .0 .0) = search needs in
+    rw (← ready .ready-at .ensures, e, c .due-of .ensures)
+
+pub call-fault-spec : {M : Type 1} → statement M
+call-fault-spec =
+    tie.close
+    (tie.spec
+    ready-at-requires
+    enum-told
+    break-or-requires
+    later-requires
+    enum-known-readiness
+    due-of-requires
+    returns
+    returns-2)

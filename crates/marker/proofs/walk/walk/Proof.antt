@@ -1,0 +1,160 @@
+-- `walk::walk` meets its contract. The loop's invariant: the walk through the calls that are left, from here, ends as the whole walk does. Assumes nothing.
+use mathlib.Core.Path.{_≡_, refl, sym, ap, ap₂, _∙_}
+use Prim.Native.Nat.{_+_, _-_, _≤_}
+use native.Mathlib.Omega.{arith}
+use lib.ListN.{length, drop}
+use lib.Ieee.{Float}
+use Rattle.whole.specs.Bits.{fl-zero}
+use Rattle.models.specs.Records.{restOf}
+use Rattle.evaluation.specs.declared.schedule.Label.{Label}
+use Rattle.evaluation.specs.declared.schedule.Reached.the-variants.{Nowhere, At}
+use Rattle.evaluation.specs.Records.{reachedOf, lent}
+use Rattle.evaluation.proofs.Reading.{read-record}
+use Rattle.marker.specs.Walking.{walkF}
+use Rattle.marker.proofs.Calls.{walk-on, walk-stops, walk-end}
+use borrow.Author.Needs.{needs}
+use Rattle.marker.proofs.walk.walk.Statement.{statement}
+use Rattle.marker.proofs.walk.walk.Tie as tie
+
+abbrev Inv-loop : tie.InvT-loop
+Inv-loop run calls place distances times size rest customers distance₀ label₀ prev₀ i₀ distance label prev i =
+    (i ≤ length calls)
+    × (walkF (lent customers distances times size) (restOf rest) run place (i + 1) distance prev label (drop i calls)
+    ≡ walkF (lent customers distances times size) (restOf rest) run place 1 distance₀ prev₀ label₀ calls)
+
+abbrev μ-loop : tie.MeasureT-loop
+μ-loop run calls place distances times size rest customers distance₀ label₀ prev₀ i₀ distance label prev i = length calls - i
+
+start-requires : tie.Need-start-requires Inv-loop μ-loop
+start-requires c κs = search needs
+
+loop-holds : tie.Need-loop-holds Inv-loop μ-loop
+loop-holds c = (omega arith, refl)
+
+mul-cid : tie.Need-mul-cid Inv-loop μ-loop
+mul-cid c = search needs
+
+shared-slice-read-cid : tie.Need-shared-slice-read-cid Inv-loop μ-loop
+shared-slice-read-cid c = search needs
+
+get-requires : tie.Need-get-requires Inv-loop μ-loop
+get-requires c κs = search needs
+
+travel-time-requires : tie.Need-travel-time-requires Inv-loop μ-loop
+travel-time-requires c κs = search needs
+
+record-index-requires : tie.Need-record-index-requires Inv-loop μ-loop
+record-index-requires c κs = search needs
+
+mul-customer : tie.Need-mul-customer Inv-loop μ-loop
+mul-customer c = search needs
+
+array-copy-out-customer : tie.Need-array-copy-out-customer Inv-loop μ-loop
+array-copy-out-customer c = search needs
+
+add-i : tie.Need-add-i Inv-loop μ-loop
+add-i c = search needs
+
+break-at-requires : tie.Need-break-at-requires Inv-loop μ-loop
+break-at-requires c κs = search needs
+
+serve-requires : tie.Need-serve-requires Inv-loop μ-loop
+serve-requires c κs = search needs
+
+enum-known-l : tie.Need-enum-known-l Inv-loop μ-loop
+enum-known-l c = search needs
+
+enum-told : tie.Need-enum-told Inv-loop μ-loop
+enum-told c = search needs
+
+call-fault-requires : tie.Need-call-fault-requires Inv-loop μ-loop
+call-fault-requires c κs = search needs
+
+returns : tie.Need-returns Inv-loop μ-loop
+returns c =
+    let served = c .before .before .before .before in
+    let broke = served .before in
+    let indexed = broke .before .before in
+    let timed = indexed .before in
+    let in-loop = timed .before .before .before in
+    let x = in-loop .before .loop in
+    let began = in-loop .before .before in
+    let S = began .before .before .before .before in
+    let a = S .args in
+    let t = lent (a .t4) (a .distances .now) (a .times .now) (a .size) in
+    let set-out = ap₂ (λ (far : Float) (l : Label). walkF t (restOf (a .rest)) (a .run) (a .place) 1 far 0 l (a .calls .now)) (sym fl-zero) (began .start .ensures) in
+    let index = indexed .record-index .ensures in
+    let e : served .serve .result ≡ Nowhere = c .before .before .enum-told .given .1 in
+    let record-is = read-record (a .t4) (a .distances .now) (a .times .now) (a .size) _ _ _ (S .good .1 .1 .1 .0 .1 .0 .1) (index .0) (index .1) in
+    let stops = walk-stops t (restOf (a .rest)) (a .run) (a .place) (a .calls .now) (x .distance) (x .prev) (x .label) (x .i) _ _ _ _ (in-loop .loop-test .taken) (timed .travel-time .ensures) record-is (broke .break-at .ensures) (served .serve .ensures) (ap reachedOf e) in
+    rw (c .call-fault .ensures) (sym stops ∙ (x .inv .1 ∙ set-out))
+
+loop-less : tie.Need-loop-less Inv-loop μ-loop
+loop-less c = search needs
+
+loop-again : tie.Need-loop-again Inv-loop μ-loop
+loop-again c =
+    let served = c .before .before .before in
+    let broke = served .before in
+    let indexed = broke .before .before in
+    let timed = indexed .before in
+    let got = timed .before in
+    let in-loop = got .before .before in
+    let x = in-loop .before .loop in
+    let S = in-loop .before .before .before .before .before .before in
+    let a = S .args in
+    let t = lent (a .t4) (a .distances .now) (a .times .now) (a .size) in
+    let index = indexed .record-index .ensures in
+    let e : served .serve .result ≡ At (c .before .l .given .0 .0) = search needs in
+    let record-is = read-record (a .t4) (a .distances .now) (a .times .now) (a .size) _ _ _ (S .good .1 .1 .1 .0 .1 .0 .1) (index .0) (index .1) in
+    let turn = walk-on t (restOf (a .rest)) (a .run) (a .place) (a .calls .now) (x .distance) (x .prev) (x .label) (x .i) _ _ _ _ (in-loop .loop-test .taken) (timed .travel-time .ensures) record-is (broke .break-at .ensures) (served .serve .ensures) in
+    (omega arith, sym (turn _ _ (got .get .ensures) (ap reachedOf e)) ∙ x .inv .1)
+
+get-requires-2 : tie.Need-get-requires-2 Inv-loop μ-loop
+get-requires-2 c κs = search needs
+
+travel-time-requires-2 : tie.Need-travel-time-requires-2 Inv-loop μ-loop
+travel-time-requires-2 c κs = search needs
+
+home-requires : tie.Need-home-requires Inv-loop μ-loop
+home-requires c κs = search needs
+
+returns-2 : tie.Need-returns-2 Inv-loop μ-loop
+returns-2 c =
+    let ended = c .before .before .before in
+    let x = ended .before .loop in
+    let began = ended .before .before in
+    let a = began .before .before .before .before .args in
+    let t = lent (a .t4) (a .distances .now) (a .times .now) (a .size) in
+    let set-out = ap₂ (λ (far : Float) (l : Label). walkF t (restOf (a .rest)) (a .run) (a .place) 1 far 0 l (a .calls .now)) (sym fl-zero) (began .start .ensures) in
+    rw (c .home .ensures, c .before .travel-time2 .ensures, c .before .before .get2 .ensures)
+    (sym (walk-end t (restOf (a .rest)) (a .run) (a .place) (a .calls .now) (x .distance) (x .prev) (x .label) (x .i) (ended .loop-test .left)) ∙ (x .inv .1 ∙ set-out))
+
+pub walk-spec : {M : Type 1} → statement M
+walk-spec =
+    tie.close
+    (tie.spec
+    Inv-loop
+    μ-loop
+    start-requires
+    loop-holds
+    mul-cid
+    shared-slice-read-cid
+    get-requires
+    travel-time-requires
+    record-index-requires
+    mul-customer
+    array-copy-out-customer
+    add-i
+    break-at-requires
+    serve-requires
+    enum-known-l
+    enum-told
+    call-fault-requires
+    returns
+    loop-less
+    loop-again
+    get-requires-2
+    travel-time-requires-2
+    home-requires
+    returns-2)

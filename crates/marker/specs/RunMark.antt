@@ -1,0 +1,84 @@
+-- The mark of one run on floats, step by step as the code has it. Definitions only.
+use Prim.Native.Nat.{ℕ, zero, suc}
+use mathlib.Core.Bool.{Bool, cond}
+use mathlib.Core.List.{List}
+use mathlib.Core.Option.{Option, none, some}
+use lib.Dec.{leb, eqb}
+use lib.ListN.{length, getD}
+use lib.Ieee as Ieee
+use lib.Ieee.{Float, binary64}
+use Rattle.basics.specs.Options.{valueOr}
+use Rattle.basics.specs.Lists.{sum}
+use Rattle.definitions.specs.Sheet.{BreakOf, CustomerOf}
+use Rattle.whole.specs.Whole.{fl}
+use Rattle.models.specs.declared.customer.Customer.{Customer}
+use Rattle.models.specs.declared.head.Head.{Head}
+use Rattle.models.specs.Limits.{withinF}
+use Rattle.evaluation.specs.declared.schedule.Scheduled.{Scheduled}
+use Rattle.evaluation.specs.Records.{Tables, LimitsF, lent, limitsOf}
+use Rattle.evaluation.specs.Serving.{startLabel}
+use Rattle.evaluation.specs.Clock.{excusedF}
+use Rattle.evaluation.specs.Tables.{recordIndex, blank}
+use Rattle.marker.specs.declared.verdict.Verdict.the-variants.{Overload, BreakMissing, TooFar, TooLong}
+use Rattle.marker.specs.declared.walk.Walked.{Walked}
+use Rattle.marker.specs.declared.walk.Walked.the-variants.{Stopped, Home}
+use Rattle.marker.specs.declared.run.Marked.{Marked}
+use Rattle.marker.specs.declared.run.Marked.the-variants.{Faulty, Costs}
+use Rattle.marker.specs.Walking.{breakOrF, walkF}
+
+-- what runs are marked on
+pub record Ground : Type 0 where
+  pub tables : Tables
+  pub capacity : ℕ
+  -- the cost added for every run
+  pub fixed : Float
+  pub limits : LimitsF
+
+abbrev pub groundOf : List Customer → List Float → List Float → Head → Ground
+groundOf customers distances times head =
+    record {
+      tables = lent customers distances times (head .places);
+      capacity = head .capacity;
+      fixed = head .«fixed_cost»;
+      limits = limitsOf (head .limits);
+    }
+
+-- what a call asks for
+unfoldable pub demandF : List (CustomerOf Float) → ℕ → ℕ
+demandF customers c = getD customers (recordIndex c) blank .demand
+
+unfoldable pub loadF : List (CustomerOf Float) → List ℕ → ℕ
+loadF customers calls = sum (demandF customers) calls
+
+-- a place that the break may have in a run of n calls that is home at `duration`
+unfoldable pub placedF : Option (BreakOf Float) → ℕ → ℕ → Float → Bool
+placedF none place n duration = eqb place 0
+placedF (some b) zero n duration = excusedF b duration
+placedF (some b) (suc k) n duration = leb (suc k) n
+
+abbrev pub limitF : Option Float → Float
+limitF o = valueOr (fl 0) o
+
+-- run n of so many calls by its totals: a missing break with a return after earliest, distance, duration, and else its cost
+unfoldable pub totalsMarkF : LimitsF → Float → (n place calls : ℕ) → Scheduled → Marked
+totalsMarkF limits fixed n place calls t =
+    cond (placedF (limits .rest) place calls (t .duration))
+    (cond (withinF (limits .maxDistance) (t .distance))
+    (cond (withinF (limits .maxDuration) (t .duration))
+    (Costs (Ieee.add binary64 (Ieee.add binary64 fixed (t .distance)) (t .cost)))
+    (Faulty (TooLong n (t .duration) (limitF (limits .maxDuration)))))
+    (Faulty (TooFar n (t .distance) (limitF (limits .maxDistance)))))
+    (Faulty (BreakMissing n (t .duration) (breakOrF (limits .rest) .earliest)))
+
+-- the same after the walk
+abbrev pub walkMarkF : LimitsF → Float → (n place calls : ℕ) → Walked → Marked
+walkMarkF limits fixed n place calls (Stopped v) = Faulty v
+walkMarkF limits fixed n place calls (Home t) = totalsMarkF limits fixed n place calls t
+
+-- run n: load, the calls, the totals
+unfoldable pub runMarkF : Ground → ℕ → List ℕ → ℕ → Marked
+runMarkF G n calls place =
+    let load = loadF (G .tables .customers) calls in
+    cond (leb load (G .capacity))
+    (walkMarkF (G .limits) (G .fixed) n place (length calls) (walkF (G .tables) (G .limits .rest) n place 1 (fl 0) 0 startLabel calls))
+    (Faulty (Overload n load (G .capacity)))

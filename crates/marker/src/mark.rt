@@ -1,0 +1,111 @@
+// The mark of a cutting: its calls against those that the planner serves, its runs one by one, and its cost against the planner's.
+ghost use mathlib.Core.Path.{_≡_};
+ghost use mathlib.Core.Bool.{false};
+ghost use Prim.Native.Nat.{_≤_};
+ghost use lib.ListN.{length};
+ghost use Rattle.whole.specs.Whole.{fl};
+ghost use Rattle.definitions.specs.Marker.{differ, withPlaces};
+ghost use Rattle.definitions.specs.RunList.{runsOf};
+ghost use Rattle.definitions.specs.Refusals.{endsFall};
+ghost use Rattle.marker.specs.RunMark.{groundOf};
+ghost use Rattle.marker.specs.Marks.{differenceOf, againstF, runsMarkF, markF};
+use crate::run::Marked;
+use crate::run::mark_run;
+use crate::verdict::Verdict;
+use evaluation::route::fewer;
+use models::customer::Customer;
+use models::head::Head;
+
+// Two lists are the same, or differ first at this position, from 1.
+pub enum Difference {
+    Nowhere,
+    At(usize),
+}
+
+// Where the lists differ first, or one has ended.
+pub fn differ(calls: &[usize], served: &[usize]) -> Difference
+    ensures { λ r. ⌜ differenceOf r ≡ differ 1 (now (calls .entry)) (now (served .entry)) ⌝ }
+{
+    let n = fewer(calls.len(), served.len());
+    let mut i = 0;
+    while i < n {
+        if calls[i] != served[i] {
+            return Difference::At(i + 1);
+        }
+        i += 1;
+    }
+    if calls.len() == served.len() {
+        Difference::Nowhere
+    } else {
+        Difference::At(i + 1)
+    }
+}
+
+// The first fault of the runs, or the sum of their costs. The places beyond the runs are not read.
+pub fn mark_runs(
+    calls: &[usize],
+    ends: &[usize],
+    places: &[usize],
+    customers: [Customer; 64],
+    distances: &[f64],
+    times: &[f64],
+    head: Head,
+) -> Marked
+    requires { ⌜ (length (now calls) ≤ 128) × (length (now ends) ≤ length (now places)) ⌝ }
+    requires { ⌜ endsFall 0 (now ends) (length (now calls)) ≡ false ⌝ }
+    ensures { λ r. ⌜ r ≡ runsMarkF (groundOf customers (now (distances .entry)) (now (times .entry)) head) 1 (fl 0) (withPlaces (runsOf (now (calls .entry)) (now (ends .entry))) (now (places .entry))) ⌝ }
+{
+    let mut total = 0.0;
+    let mut p = 0;
+    let mut k = 0;
+    while k < ends.len() {
+        let e = ends[k];
+        let place = places[k];
+        k += 1;
+        let marked = mark_run(k, &calls[p..e], place, customers, distances, times, head);
+        let Marked::Costs(cost) = marked else {
+            return marked;
+        };
+        total = total + cost;
+        p = e;
+    }
+    Marked::Costs(total)
+}
+
+// The cost against the planner's.
+pub fn against(planner: f64, cost: f64) -> Verdict
+    ensures { λ r. ⌜ r ≡ againstF planner cost ⌝ }
+{
+    if planner < cost {
+        return Verdict::Dearer { by: cost - planner };
+    }
+    if cost < planner {
+        return Verdict::Cheaper { by: planner - cost };
+    }
+    Verdict::Best
+}
+
+// The mark of the runs, each with its break place, against the customers that the planner serves and its cost.
+pub fn mark(
+    served: &[usize],
+    cost: f64,
+    calls: &[usize],
+    ends: &[usize],
+    places: &[usize],
+    customers: [Customer; 64],
+    distances: &[f64],
+    times: &[f64],
+    head: Head,
+) -> Verdict
+    requires { ⌜ (length (now calls) ≤ 128) × (length (now ends) ≤ length (now places)) ⌝ }
+    requires { ⌜ endsFall 0 (now ends) (length (now calls)) ≡ false ⌝ }
+    ensures { λ r. ⌜ r ≡ markF (groundOf customers (now (distances .entry)) (now (times .entry)) head) (now (served .entry)) cost (now (calls .entry)) (now (ends .entry)) (now (places .entry)) ⌝ }
+{
+    if let Difference::At(position) = differ(calls, served) {
+        return Verdict::OtherCalls { position };
+    }
+    match mark_runs(calls, ends, places, customers, distances, times, head) {
+        Marked::Faulty(v) => v,
+        Marked::Costs(total) => against(cost, total),
+    }
+}

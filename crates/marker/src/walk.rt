@@ -1,0 +1,129 @@
+// The walk through the calls of a run with its break place: the first fault at a call, or the way home.
+ghost use mathlib.Core.Path.{_≡_};
+ghost use Rattle.whole.specs.Whole.{fl};
+ghost use Rattle.models.specs.Records.{openingOf, customerOf, breakOf, restOf};
+ghost use Rattle.evaluation.specs.Records.{lent};
+ghost use Rattle.evaluation.specs.Serving.{startLabel};
+ghost use Rattle.marker.specs.Walking.{breakAtF, breakOrF, dueF, callFaultF, walkF};
+use crate::verdict::Verdict;
+use distance::matrix::get;
+use distance::matrix::travel_time;
+use evaluation::schedule::Label;
+use evaluation::schedule::Reached;
+use evaluation::schedule::Ready;
+use evaluation::schedule::Scheduled;
+use evaluation::schedule::ready_at;
+use evaluation::schedule::record_index;
+use evaluation::schedule::serve;
+use models::customer::Customer;
+use models::customer::Opening;
+use models::vehicle::Rest;
+use models::vehicle::VehicleBreak;
+use whole::later;
+
+// Stopped by a fault at a call, or home with the run's totals.
+pub enum Walked {
+    Stopped(Verdict),
+    Home(Scheduled),
+}
+
+// The break, at the call that has it alone.
+pub fn break_at(rest: Rest, place: usize, k: usize) -> Rest
+    ensures { λ r. ⌜ restOf r ≡ breakAtF (restOf rest) place k ⌝ }
+{
+    if place == k { rest } else { Rest::Unbroken }
+}
+
+// The break's figures, 0 where there is none.
+pub fn break_or(rest: Rest) -> VehicleBreak
+    ensures { λ r. ⌜ breakOf r ≡ breakOrF (restOf rest) ⌝ }
+{
+    match rest {
+        Rest::Unbroken => VehicleBreak {
+            earliest: 0.0,
+            latest: 0.0,
+            duration: 0.0,
+        },
+        Rest::Break(b) => b,
+    }
+}
+
+// When the window shuts, 0 where there is none.
+pub fn due_of(opening: Opening) -> f64
+    ensures { λ r. ⌜ r ≡ dueF (openingOf opening) ⌝ }
+{
+    match opening {
+        Opening::Always => 0.0,
+        Opening::Window(w) => w.due,
+    }
+}
+
+// Why the run's call number k, at customer cid, fails: the break's start past latest before the window.
+pub fn call_fault(
+    run: usize,
+    k: usize,
+    cid: usize,
+    customer: Customer,
+    here: Rest,
+    arrival: f64,
+) -> Verdict
+    ensures { λ r. ⌜ r ≡ callFaultF run k cid (customerOf customer) (restOf here) arrival ⌝ }
+{
+    match ready_at(here, arrival) {
+        Ready::TooLate => {
+            let b = break_or(here);
+            Verdict::BreakTooLate {
+                run,
+                place: k,
+                customer: cid,
+                start: later(arrival, b.earliest),
+                latest: b.latest,
+            }
+        }
+        Ready::From(readiness) => {
+            let opening = customer.time_window;
+            Verdict::WindowMissed {
+                run,
+                place: k,
+                customer: cid,
+                readiness,
+                due: due_of(opening),
+            }
+        }
+    }
+}
+
+// The calls of run number `run` served in order from the depot, the break at its place alone, and the way home.
+pub fn walk(
+    run: usize,
+    calls: &[usize],
+    place: usize,
+    customers: [Customer; 64],
+    distances: &[f64],
+    times: &[f64],
+    size: usize,
+    rest: Rest,
+) -> Walked
+    ensures { λ r. ⌜ r ≡ walkF (lent customers (now (distances .entry)) (now (times .entry)) size) (restOf rest) run place 1 (fl 0) 0 startLabel (now (calls .entry)) ⌝ }
+{
+    let mut distance = 0.0;
+    let mut label = Label::start();
+    let mut prev = 0;
+    let mut i = 0;
+    while i < calls.len() {
+        let cid = calls[i];
+        distance = distance + get(distances, size, prev, cid);
+        let travel = travel_time(distances, times, size, prev, cid);
+        let index = record_index(cid);
+        let customer = customers[index];
+        i += 1;
+        let here = break_at(rest, place, i);
+        let Reached::At(l) = serve(label, travel, customer, i, here) else {
+            return Walked::Stopped(call_fault(run, i, cid, customer, here, label.time + travel));
+        };
+        label = l;
+        prev = cid;
+    }
+    let far = distance + get(distances, size, prev, 0);
+    Walked::Home(label.home(far, travel_time(distances, times, size, prev, 0)))
+}

@@ -1,0 +1,7 @@
+-- A call as one step.
+pub mod Calling
+pub mod Keeping
+-- The tokens of lifetimes, as a callee asks them.
+pub mod Tokens
+-- A walk's end.
+pub mod Leaving
