@@ -1,0 +1,79 @@
+-- A reversal inside the lent list: it makes a run that is allowed, or is turned back. Assumes nothing.
+use Prim.Native.Nat.{ℕ, suc, _+_, _-_, _<_}
+use native.Mathlib.Numerals.{add-one}
+use native.Mathlib.Omega.{arith}
+use mathlib.Core.Path.{_≡_, sym, ap, _∙_}
+use mathlib.Core.Bool.{Bool, true, false}
+use mathlib.Core.List.{List, _++_, reverse, reverse-reverse}
+use lib.ListN.{length, take, drop, length-append, length-drop, length-reverse, take-append-drop}
+use lib.Seq.{take-at, drop-at, length-take-le}
+use Rattle.basics.specs.Tests.{by-test}
+use Rattle.definitions.specs.TwoOpt.{turned}
+use Rattle.evaluation.specs.Records.{Tables}
+use Rattle.evaluation.specs.Route.{feasibleF}
+use Rattle.local_search.specs.Search.{SearchF}
+use Rattle.local_search.specs.TwoOpt.{state, allowedF, reversedF}
+
+-- ---- the stretch inside the lent list
+
+-- the run with `part` in the place of its calls from i up to and with j
+abbrev pub put : ℕ → ℕ → List ℕ → List ℕ → List ℕ
+put i j run part = take i run ++ (part ++ drop (j + 1 - i) (drop i run))
+
+-- and those calls, turned
+abbrev pub turnedPart : ℕ → ℕ → List ℕ → List ℕ
+turnedPart i j run = reverse (take (j + 1 - i) (drop i run))
+
+put-turned : (i j : ℕ) (run part : List ℕ) → part ≡ turnedPart i j run → put i j run part ≡ turned i j run
+put-turned i j run part e = rw (e, add-one j)
+
+module _ (i j : ℕ) (run : List ℕ) (h : i < j) (l : j < length run) where
+  before-long : length (take i run) ≡ i
+  before-long = length-take-le i run (omega arith)
+
+  stretch-long : length (reverse (take (suc j - i) (drop i run))) ≡ suc j - i
+  stretch-long = length-reverse (take (suc j - i) (drop i run)) ∙ length-take-le (suc j - i) (drop i run) (omega (arith, length-drop i run))
+
+  pub length-turned : length (turned i j run) ≡ length run
+  length-turned =
+      omega (
+        arith,
+        length-append (take i run) (reverse (take (suc j - i) (drop i run)) ++ drop (suc j - i) (drop i run)),
+        length-append (reverse (take (suc j - i) (drop i run))) (drop (suc j - i) (drop i run)),
+        length-drop (suc j - i) (drop i run),
+        length-drop i run,
+        before-long,
+        stretch-long,
+      )
+
+  -- turned and turned back
+  turned-back : turned i j (turned i j run) ≡ run
+  turned-back =
+      let m = take (suc j - i) (drop i run) in
+      let z = drop (suc j - i) (drop i run) in
+      let front : take i (turned i j run) ≡ take i run = take-at (take i run) (reverse m ++ z) i before-long in
+      let rest : drop i (turned i j run) ≡ reverse m ++ z = drop-at (take i run) (reverse m ++ z) i before-long in
+      rw (front, rest, take-at (reverse m) z (suc j - i) stretch-long, drop-at (reverse m) z (suc j - i) stretch-long, reverse-reverse m, take-append-drop (suc j - i) (drop i run))
+      (take-append-drop i run)
+
+-- ---- the ways
+
+module _ (t : Tables) (s : SearchF) (i j : ℕ) (run : List ℕ) (b : Bool) where
+  module _ (part : List ℕ) (e : part ≡ turnedPart i j run) where
+    -- a run that is not asked for, or is feasible
+    pub made : (s .constrained ≡ true → feasibleF t (s .limits) (put i j run part) ≡ true) → state (put i j run part) true ≡ reversedF t s i j (state run b)
+    unfolding reversedF
+    made f =
+        let allowed : allowedF t s (turned i j run) ≡ true =
+        by-test (s .constrained) (λ y. rw y (ap (feasibleF t (s .limits)) (sym (put-turned i j run part e)) ∙ f y)) (λ n. rw n) in
+        rw (allowed, put-turned i j run part e)
+
+    -- one that is not feasible is turned back
+    pub undone : i < j → j < length run → s .constrained ≡ true → feasibleF t (s .limits) (put i j run part) ≡ false → (again : List ℕ) → again ≡ turnedPart i j (put i j run part)
+        → state (put i j (put i j run part) again) b ≡ reversedF t s i j (state run b)
+    unfolding reversedF
+    undone h l y n again k =
+        let back : put i j (put i j run part) again ≡ run =
+        put-turned i j (put i j run part) again k ∙ ap (turned i j) (put-turned i j run part e) ∙ turned-back i j run h l in
+        let no : feasibleF t (s .limits) (turned i j run) ≡ false = ap (feasibleF t (s .limits)) (sym (put-turned i j run part e)) ∙ n in
+        ap (λ (r : List ℕ). state r b) back ∙ rw (y, no)

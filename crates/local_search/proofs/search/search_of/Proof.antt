@@ -1,0 +1,26 @@
+-- `search::search_of` meets its contract. Assumes nothing.
+use Rattle.local_search.specs.Search.{searchF}
+use borrow.Author.Needs.{needs}
+use Rattle.local_search.proofs.search.search_of.Statement.{statement}
+use Rattle.local_search.proofs.search.search_of.Tie as tie
+
+checks-needed-requires : tie.Need-checks-needed-requires
+checks-needed-requires c κs = search needs
+
+symmetric-requires : tie.Need-symmetric-requires
+symmetric-requires c κs = search needs
+
+scale-requires : tie.Need-scale-requires
+scale-requires c κs = search needs
+
+gain-floor-requires : tie.Need-gain-floor-requires
+gain-floor-requires c κs = search needs
+
+returns : tie.Need-returns
+unfolding searchF
+returns c = rw (c .gain-floor .ensures, c .before .scale .ensures, c .before .before .symmetric .ensures, c .before .before .before .checks-needed .ensures)
+
+pub search-of-spec : {M : Type 1} → statement M
+search-of-spec =
+    tie.close
+    (tie.spec checks-needed-requires symmetric-requires scale-requires gain-floor-requires returns)

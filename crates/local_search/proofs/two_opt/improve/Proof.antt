@@ -1,0 +1,34 @@
+-- `two_opt::improve` meets its contract. Assumes nothing.
+use mathlib.Core.Path.{ap, _∙_}
+use denote.Ref.{now}
+use Rattle.evaluation.specs.Records.{lent}
+use Rattle.evaluation.specs.Tables.{distanceF}
+use Rattle.local_search.specs.Search.{searchOf}
+use Rattle.local_search.specs.Delta.{routeDistanceF}
+use Rattle.local_search.specs.TwoOpt.{improvedF}
+use borrow.Author.Needs.{needs}
+use Rattle.local_search.proofs.two_opt.improve.Statement.{statement}
+use Rattle.local_search.proofs.two_opt.improve.Tie as tie
+
+copy-requires : tie.Need-copy-requires
+copy-requires c κs = search needs
+
+passes-requires : tie.Need-passes-requires
+passes-requires c κs = search needs
+
+route-distance-requires : tie.Need-route-distance-requires
+route-distance-requires c κs = search needs
+
+same-length : tie.Need-same-length
+same-length c = search needs
+
+returns : tie.Need-returns
+returns c =
+    let a = c .before .before .before .before .before .before .before .before .before .before .before .before .before .before .args in
+    let t = lent (a .customers) (now (a .distances)) (now (a .times)) (a .size) in
+    let done = c .before .before .before .before .passes .ensures ∙ ap (improvedF t (searchOf (a .search))) (c .before .before .before .before .before .before .before .before .copy .ensures) in
+    (c .route-distance .ensures ∙ ap (routeDistanceF (distanceF t)) done, done)
+
+pub improve-spec : {M : Type 1} → statement M
+improve-spec =
+    tie.close (tie.spec copy-requires passes-requires route-distance-requires same-length returns)

@@ -1,0 +1,37 @@
+-- `two_opt::two_opt_improve` meets its contract. Assumes nothing.
+use mathlib.Core.Path.{sym}
+use lib.Seq.{length-take-le}
+use denote.Ref.{now}
+use Rattle.local_search.proofs.Lending.{written-front}
+use borrow.Author.Needs.{needs}
+use Rattle.local_search.proofs.two_opt.two_opt_improve.Statement.{statement}
+use Rattle.local_search.proofs.two_opt.two_opt_improve.Tie as tie
+
+slice-relend-prefix-improve : tie.Need-slice-relend-prefix-improve
+slice-relend-prefix-improve c = search needs
+
+slice-aggregate-improve : tie.Need-slice-aggregate-improve
+slice-aggregate-improve c = let s = c .before .before .before .before .before in sym (length-take-le _ (now (s .args .current)) (s .pre))
+
+improve-requires : tie.Need-improve-requires
+improve-requires c κs = let s = c .before .before .before .before .before in length-take-le _ (now (s .args .current)) (s .pre)
+
+same-length : tie.Need-same-length
+same-length c = search needs
+
+returns : tie.Need-returns
+returns c =
+    let s = c .before .before .before .before .before .before .before .before in
+    let a = s .args in
+    let done = c .before .before .improve in
+    (done .ensures .0, written-front (now (a .route)) (now (a .current)) _ _ (s .pre) (done .kept .1 .1 .1 .1 .1 .1 .0) (done .ensures .1))
+
+pub two-opt-improve-spec : {M : Type 1} → statement M
+two-opt-improve-spec =
+    tie.close
+    (tie.spec
+    slice-relend-prefix-improve
+    slice-aggregate-improve
+    improve-requires
+    same-length
+    returns)

@@ -1,0 +1,276 @@
+// The reversal of stretches of a run (local_search/two_opt.rs): while one lowers the distance and makes a run that is allowed, it is taken. Only sheets without lateness pay come here.
+ghost use mathlib.Core.Path.{_≡_};
+ghost use Prim.Native.Nat.{_<_, _≤_};
+ghost use lib.ListN.{length};
+ghost use Rattle.definitions.specs.Room.{written};
+ghost use Rattle.distance.specs.Lookup.{lookupF};
+ghost use Rattle.evaluation.specs.Records.{lent};
+ghost use Rattle.local_search.specs.Search.{searchOf};
+ghost use Rattle.local_search.specs.Delta.{placeBefore, reversalDeltaF, deltaF, routeDistanceF};
+ghost use Rattle.local_search.specs.TwoOpt.{state, gainsF, reversedF, triedAllF, passF, improvedF, improvedDistanceF};
+use crate::reverse::reverse;
+use crate::search::Search;
+use distance::matrix::get;
+use evaluation::route::call_at;
+use evaluation::route::route_feasible;
+use models::customer::Customer;
+
+// What turning the segment changes in the length of its own legs: nothing where the distances are symmetric, else each leg back less the leg there.
+pub fn reversal_delta(segment: &[usize], distances: &[f64], size: usize, symmetric: bool) -> f64
+    ensures { λ r. ⌜ r ≡ reversalDeltaF (lookupF (now (distances .entry)) size) symmetric (now (segment .entry)) ⌝ }
+{
+    if symmetric {
+        return 0.0;
+    }
+    let mut sum = 0.0;
+    let mut prev = call_at(segment, 0);
+    let mut k = 1;
+    while k < segment.len() {
+        let next = segment[k];
+        let back = get(distances, size, next, prev);
+        sum = sum + (back - get(distances, size, prev, next));
+        prev = next;
+        k += 1;
+    }
+    sum
+}
+
+// The place before call number i, from 0: the call before it, or the depot.
+pub fn place_before(route: &[usize], i: usize) -> usize
+    requires { ⌜ i < length (now route) ⌝ }
+    ensures { λ r. ⌜ r ≡ placeBefore (now (route .entry)) i ⌝ }
+{
+    if i == 0 { 0 } else { route[i - 1] }
+}
+
+// What turning the calls from i up to and with j changes in the distance.
+pub fn two_opt_delta(
+    route: &[usize],
+    distances: &[f64],
+    size: usize,
+    symmetric: bool,
+    i: usize,
+    j: usize,
+) -> f64
+    requires { ⌜ (i < j) × (j < length (now route)) ⌝ }
+    ensures { λ r. ⌜ r ≡ deltaF (lookupF (now (distances .entry)) size) symmetric i j (now (route .entry)) ⌝ }
+{
+    let first = route[i];
+    let last = route[j];
+    let prev_i = place_before(route, i);
+    let end = j + 1;
+    let next_j = call_at(route, end);
+    let old_in = get(distances, size, prev_i, first);
+    let old_cost = old_in + get(distances, size, last, next_j);
+    let new_in = get(distances, size, prev_i, last);
+    let new_cost = new_in + get(distances, size, first, next_j);
+    new_cost - old_cost + reversal_delta(&route[i..end], distances, size, symmetric)
+}
+
+// The distance of a run, both depot legs too; a run without calls has none.
+pub fn route_distance(route: &[usize], distances: &[f64], size: usize) -> f64
+    ensures { λ r. ⌜ r ≡ routeDistanceF (lookupF (now (distances .entry)) size) (now (route .entry)) ⌝ }
+{
+    if route.len() == 0 {
+        return 0.0;
+    }
+    let mut prev = route[0];
+    let mut dist = get(distances, size, 0, prev);
+    let mut k = 1;
+    while k < route.len() {
+        let next = route[k];
+        dist = dist + get(distances, size, prev, next);
+        prev = next;
+        k += 1;
+    }
+    dist + get(distances, size, prev, 0)
+}
+
+// Whether turning the calls from i up to and with j gains enough to count.
+pub fn gains(
+    route: &[usize],
+    distances: &[f64],
+    size: usize,
+    search: Search,
+    i: usize,
+    j: usize,
+) -> bool
+    requires { ⌜ (i < j) × (j < length (now route)) ⌝ }
+    ensures { λ r. ⌜ r ≡ gainsF (lookupF (now (distances .entry)) size) (searchOf search) i j (now (route .entry)) ⌝ }
+{
+    let delta = two_opt_delta(route, distances, size, search.symmetric, i, j);
+    delta < -search.floor
+}
+
+// Turns the calls from i up to and with j, and turns them back where the run is not allowed. Gives whether a reversal is taken, here or before.
+pub fn reverse_if_allowed(
+    current: &mut [usize],
+    customers: [Customer; 64],
+    distances: &[f64],
+    times: &[f64],
+    size: usize,
+    search: Search,
+    i: usize,
+    j: usize,
+    improved: bool,
+) -> bool
+    requires { ⌜ (i < j) × (j < length (now current)) ⌝ }
+    ensures { λ r. ⌜ state (now (current .exit)) r ≡ reversedF (lent customers (now (distances .entry)) (now (times .entry)) size) (searchOf search) i j (state (now (current .entry)) improved) ⌝ }
+{
+    let end = j + 1;
+    reverse(&mut current[i..end]);
+    if search.constrained {
+        let limits = search.limits;
+        if !route_feasible(&current[..], customers, distances, times, size, limits) {
+            reverse(&mut current[i..end]);
+            return improved;
+        }
+    }
+    true
+}
+
+// For the first call i of the stretch, each last call in turn: a reversal that gains is made where it is allowed.
+pub fn try_all(
+    current: &mut [usize],
+    customers: [Customer; 64],
+    distances: &[f64],
+    times: &[f64],
+    size: usize,
+    search: Search,
+    i: usize,
+    improved: bool,
+) -> bool
+    requires { ⌜ i < length (now current) ⌝ }
+    ensures { λ r. ⌜ state (now (current .exit)) r ≡ triedAllF (lent customers (now (distances .entry)) (now (times .entry)) size) (searchOf search) (length (now (current .entry))) i (state (now (current .entry)) improved) ⌝ }
+{
+    let mut any = improved;
+    let mut next = i + 1;
+    while next < current.len() {
+        let j = next;
+        next += 1;
+        if !gains(&current[..], distances, size, search, i, j) {
+            continue;
+        }
+        any = reverse_if_allowed(
+            &mut *current,
+            customers,
+            distances,
+            times,
+            size,
+            search,
+            i,
+            j,
+            any,
+        );
+    }
+    any
+}
+
+// A pass: each first call in turn; a run of fewer than two calls has none. Gives whether a reversal is taken.
+pub fn pass(
+    current: &mut [usize],
+    customers: [Customer; 64],
+    distances: &[f64],
+    times: &[f64],
+    size: usize,
+    search: Search,
+) -> bool
+    ensures { λ r. ⌜ state (now (current .exit)) r ≡ passF (lent customers (now (distances .entry)) (now (times .entry)) size) (searchOf search) (now (current .entry)) ⌝ }
+{
+    let mut improved = false;
+    let mut i: usize = 0;
+    while i + 1 < current.len() {
+        improved = try_all(
+            &mut *current,
+            customers,
+            distances,
+            times,
+            size,
+            search,
+            i,
+            improved,
+        );
+        i += 1;
+    }
+    improved
+}
+
+// Enough passes for every sheet: a run is at most 129 legs of 10,000,000 long, and each pass that takes a reversal makes it shorter by 1 at the least. On other numbers the search ends here.
+pub const MOST_PASSES: u32 = 1_290_000_000;
+
+// Passes until one takes no reversal.
+pub fn passes(
+    current: &mut [usize],
+    customers: [Customer; 64],
+    distances: &[f64],
+    times: &[f64],
+    size: usize,
+    search: Search,
+)
+    ensures { λ _. ⌜ now (current .exit) ≡ improvedF (lent customers (now (distances .entry)) (now (times .entry)) size) (searchOf search) (now (current .entry)) ⌝ }
+{
+    let mut left = MOST_PASSES;
+    while 0 < left {
+        if !pass(&mut *current, customers, distances, times, size, search) {
+            return;
+        }
+        left -= 1;
+    }
+}
+
+// Copies a run into a list of its length.
+pub fn copy(from: &[usize], to: &mut [usize])
+    requires { ⌜ length (now to) ≡ length (now from) ⌝ }
+    ensures { λ _. ⌜ now (to .exit) ≡ now (from .entry) ⌝ }
+{
+    let mut k = 0;
+    while k < from.len() {
+        to[k] = from[k];
+        k += 1;
+    }
+}
+
+// The run, improved inside a list of its length. Gives its distance.
+pub fn improve(
+    route: &[usize],
+    customers: [Customer; 64],
+    distances: &[f64],
+    times: &[f64],
+    size: usize,
+    search: Search,
+    current: &mut [usize],
+) -> f64
+    requires { ⌜ length (now current) ≡ length (now route) ⌝ }
+    ensures { λ r. ⌜ r ≡ improvedDistanceF (lent customers (now (distances .entry)) (now (times .entry)) size) (searchOf search) (now (route .entry)) ⌝ }
+    ensures { λ _. ⌜ now (current .exit) ≡ improvedF (lent customers (now (distances .entry)) (now (times .entry)) size) (searchOf search) (now (route .entry)) ⌝ }
+{
+    copy(route, &mut *current);
+    passes(&mut *current, customers, distances, times, size, search);
+    route_distance(&current[..], distances, size)
+}
+
+// The same at the front of a longer list; what lies beyond the run stays.
+pub fn two_opt_improve(
+    route: &[usize],
+    customers: [Customer; 64],
+    distances: &[f64],
+    times: &[f64],
+    size: usize,
+    search: Search,
+    current: &mut [usize],
+) -> f64
+    requires { ⌜ length (now route) ≤ length (now current) ⌝ }
+    ensures { λ r. ⌜ r ≡ improvedDistanceF (lent customers (now (distances .entry)) (now (times .entry)) size) (searchOf search) (now (route .entry)) ⌝ }
+    ensures { λ _. ⌜ now (current .exit) ≡ written (improvedF (lent customers (now (distances .entry)) (now (times .entry)) size) (searchOf search) (now (route .entry))) (now (current .entry)) ⌝ }
+{
+    let n = route.len();
+    improve(
+        route,
+        customers,
+        distances,
+        times,
+        size,
+        search,
+        &mut current[..n],
+    )
+}

@@ -1,0 +1,196 @@
+-- On a sheet within the limits, held in floats, `build_route` answers as in crates/definitions. Assumes nothing.
+use Prim.Native.Nat.{ℕ, suc, _≤_}
+use native.Mathlib.Omega.{arith}
+use native.Mathlib.Nat.{zero-add}
+use mathlib.Core.Path.{_≡_, refl, sym, ap, _∙_}
+use mathlib.Core.Bool.{Bool, true, false, not, _&&_, Bool·not-not}
+use mathlib.Core.List.{List, [], _∷_, _++_, map, map-append}
+use mathlib.Core.Option.{Option, none, some, Option·map}
+use lib.Dec.{ltb, leb}
+use lib.ListN.{length}
+use lib.Ieee as Ieee
+use lib.Ieee.{binary64}
+use Rattle.basics.specs.Options.{Holds, present, valueOr}
+use Rattle.basics.specs.Lists.{All, isEmpty}
+use Rattle.definitions.specs.Domain.{mostCalls}
+use Rattle.definitions.specs.Sheet.{Break, Sheet, time}
+use Rattle.definitions.specs.Limits.{within}
+use Rattle.definitions.specs.Run as Whole
+use Rattle.definitions.specs.Run.{start, placeAfter, lastOf, distanceFrom, Totals, home, load}
+use Rattle.definitions.specs.Clock.{clock, startOf}
+use Rattle.definitions.specs.Visits.{Violation, breakNotPlaceable, overCapacity, overDistance, overDuration, visited, windowsFrom, lastLabel, unless, placeOr, buildRoute}
+use Rattle.definitions.specs.Refusals.{Within, WithinCalls}
+use Rattle.definitions.proofs.Visiting.{visits-clock}
+use Rattle.bounds.specs.Inside.{Small, Sized, sized, Place, few-calls, calls-inside, depot-inside, last-inside, time-small}
+use Rattle.bounds.specs.Bounds.{Early, start-early, distance-most, last-most, start-most}
+use Rattle.whole.specs.Whole.{fl, limit, fl-add, fl-lt}
+use Rattle.whole.specs.Numbers.{not-ltb}
+use Rattle.models.specs.Image.{flBreak}
+use Rattle.evaluation.specs.Records.{Tables}
+use Rattle.evaluation.specs.Tables.{timeF, legsF}
+use Rattle.evaluation.specs.Schedule.{distanceFromF}
+use Rattle.evaluation.specs.Image.{flTotals, flLimits, Image}
+use Rattle.evaluation.proofs.ClockExact.{distance-from-exact, time-exact, schedule-exact}
+use Rattle.evaluation.proofs.RouteExact.{start-exact}
+use Rattle.visits.specs.Visiting.{placedF, placeOf, durationF, missingF, restAtF, startTrip, tripF}
+use Rattle.visits.specs.Violations.{overF, limitF, when, checkedF}
+use Rattle.visits.specs.Building.{builtF, buildRouteF}
+use Rattle.visits.specs.Image.{flViolation, flRoute}
+use Rattle.visits.proofs.Resting.{lengthOf, nowhere, no-place, agrees}
+use Rattle.visits.proofs.VisitsExact.{tripOf, flRest, Onward, visits-exact, windows-exact, trip-exact}
+
+-- ---- the violations
+
+-- above is not at most
+above : (m n : ℕ) → ltb m n ≡ not (leb n m)
+above m n = rw (← not-ltb m n) (sym (Bool·not-not (ltb m n)))
+
+over-exact : (o : Option ℕ) (n : ℕ) → Holds Small o → n ≤ limit → overF (Option·map fl o) (fl n) ≡ not (within o n)
+over-exact none n h i = refl
+over-exact (some m) n h i = rw (fl-lt m n (omega arith) i) (above m n)
+
+limit-exact : (o : Option ℕ) → limitF (Option·map fl o) ≡ fl (valueOr 0 o)
+limit-exact none = refl
+limit-exact (some m) = refl
+
+-- a violation where a test holds is one where the opposite test fails
+when-exact : (b c : Bool) (v : Violation) → b ≡ not c → when b (flViolation v) ≡ map flViolation (unless c v)
+when-exact b true v e = rw e
+when-exact b false v e = rw e
+
+empty-map : (l : List Violation) → isEmpty (map flViolation l) ≡ isEmpty l
+empty-map [] = refl
+empty-map (v ∷ l) = refl
+
+module _ (s : Sheet) (S : Sized s) (windows : List Violation) (missing : Bool) (load distance duration : ℕ) (far : distance ≤ limit) (long : duration ≤ limit) where
+  checked-exact : checkedF (map flViolation windows) missing load (s .capacity) (flLimits s) (fl distance) (fl duration)
+      ≡ map flViolation (windows
+      ++ unless (not (missing && isEmpty windows)) breakNotPlaceable
+      ++ unless (leb load (s .capacity)) (overCapacity load (s .capacity))
+      ++ unless (within (s .maxDistance) distance) (overDistance distance (valueOr 0 (s .maxDistance)))
+      ++ unless (within (s .maxDuration) duration) (overDuration duration (valueOr 0 (s .maxDuration))))
+  unfolding checkedF
+  checked-exact =
+      rw (
+        empty-map windows,
+        limit-exact (s .maxDistance),
+        limit-exact (s .maxDuration),
+        when-exact (missing && isEmpty windows) (not (missing && isEmpty windows)) breakNotPlaceable (sym (Bool·not-not (missing && isEmpty windows))),
+        when-exact (ltb (s .capacity) load) (leb load (s .capacity)) (overCapacity load (s .capacity)) (above (s .capacity) load),
+        when-exact _ (within (s .maxDistance) distance) (overDistance distance (valueOr 0 (s .maxDistance))) (over-exact (s .maxDistance) distance (S .far-small) far),
+        when-exact _ (within (s .maxDuration) duration) (overDuration duration (valueOr 0 (s .maxDuration))) (over-exact (s .maxDuration) duration (S .long-small) long),
+      )
+      (sym (simp map-append))
+
+-- ---- the break
+
+module _ (s : Sheet) (S : Sized s) (t : Tables) (I : Image s t) (calls : List ℕ) (few : length calls ≤ mostCalls) (i : All (Place s) calls) where
+  abbrev place : ℕ
+  place = placeOr (clock s calls)
+
+  abbrev missing : Bool
+  missing = present (s .rest) && not (present (clock s calls))
+
+  abbrev began : Option ℕ
+  began = startOf s (record { calls = calls; place = place })
+
+  -- the place, and whether there is none
+  placed-exact : (r : Option Break) → s .rest ≡ r
+      → (placeOf (placedF t (Option·map flBreak r) calls) ≡ place) × (missingF (Option·map flBreak r) (placedF t (Option·map flBreak r) calls) ≡ present r && not (present (clock s calls)))
+  unfolding placedF
+  placed-exact none e = (go (clock s calls) refl, refl)
+    where
+      go : (o : Option Totals) → clock s calls ≡ o → 0 ≡ placeOr o
+      go none q = refl
+      go (some u) q = sym (no-place s calls e u q)
+  placed-exact (some b) e = rw (schedule-exact s S t I b e calls few i) (go (clock s calls))
+    where
+      go : (o : Option Totals) → (placeOf (Option·map flTotals o) ≡ placeOr o) × (not (present (Option·map flTotals o)) ≡ not (present o))
+      go none = (refl, refl)
+      go (some u) = (refl, refl)
+
+  length-exact : (o : Option Break) → durationF (Option·map flBreak o) ≡ fl (lengthOf o)
+  length-exact none = refl
+  length-exact (some b) = refl
+
+  rest-exact : restAtF t (Option·map flBreak (s .rest)) calls ≡ flRest s place began missing
+  unfolding restAtF
+  rest-exact = let p = placed-exact (s .rest) refl in rw (p .1, p .0, length-exact (s .rest), start-exact s S t I calls few i place)
+
+  -- ---- the totals
+
+  -- without a break place the label has none either
+  last-unplaced : (k a : ℕ) (l : Whole.Label) (cs : List ℕ) → lastLabel s 0 (suc k) a l cs .place ≡ l .place
+  unfolding lastLabel visited
+  last-unplaced k a l [] = refl
+  last-unplaced k a l (c ∷ cs) = last-unplaced (suc k) c _ cs ∙ ap (λ (x : Option Break). placeAfter x (suc k) (l .place)) (nowhere s (suc k) (omega arith))
+
+  last-place : lastLabel s place 1 0 start calls .place ≡ place
+  unfolding buildRoute
+  last-place = go (clock s calls) refl
+    where
+      go : (o : Option Totals) → clock s calls ≡ o → lastLabel s place 1 0 start calls .place ≡ place
+      go none q = rw q (last-unplaced 0 0 start calls)
+      go (some u) q = ap (λ (x : Totals). x .place) (visits-clock s calls u q .0) ∙ sym (ap placeOr q)
+
+  -- the last label of the visits
+  abbrev last : Whole.Label
+  last = lastLabel s place 1 0 start calls
+
+  abbrev totals : Totals
+  totals = home s calls last
+
+  distance-fits : totals .distance ≤ limit
+  distance-fits = omega (arith, distance-most s S 0 calls)
+
+  distance-exact : distanceFromF t (fl 0) 0 calls ≡ fl (totals .distance)
+  distance-exact = distance-from-exact s S t I 0 0 calls (depot-inside s S) i (omega (arith, distance-most s S 0 calls)) ∙ ap fl (zero-add (distanceFrom s 0 calls))
+
+  last-early : Early (length calls) last
+  last-early = last-most s S place calls few
+
+  duration-fits : totals .duration ≤ limit
+  duration-fits = omega (arith, last-early, time-small s S (lastOf 0 calls) 0)
+
+  duration-exact : Ieee.add binary64 (fl (last .time)) (timeF t (lastOf 0 calls) 0) ≡ fl (totals .duration)
+  duration-exact =
+      rw (time-exact s S t I (lastOf 0 calls) 0 (last-inside s 0 calls (depot-inside s S) i) (depot-inside s S))
+      (fl-add (last .time) (time s (lastOf 0 calls) 0) (omega (arith, last-early)) (omega (arith, time-small s S (lastOf 0 calls) 0)))
+
+  -- ---- the route
+
+  began-fits : Holds (λ (n : ℕ). n ≤ limit) began
+  began-fits = go began refl
+    where
+      go : (o : Option ℕ) → began ≡ o → Holds (λ (n : ℕ). n ≤ limit) o
+      go none q = tt
+      go (some n) q = omega (arith, start-most s S calls place few n q)
+
+  set-out : Onward s place began 0 1 0 start calls
+  set-out = record { few = omega arith; from-inside = depot-inside s S; calls-inside = i; early = start-early; agreed = agrees s calls }
+
+  trip-home : tripF t (flRest s place began missing) 1 startTrip calls ≡ tripOf (legsF t (fl 0) 0 calls) last (load s calls) (lastOf 0 calls)
+  trip-home =
+      trip-exact s S t I place began missing began-fits 0 1 0 (fl 0) start 0 calls set-out
+      ∙ ap (λ (n : ℕ). tripOf (legsF t (fl 0) 0 calls) last n (lastOf 0 calls)) (zero-add (load s calls))
+
+  pub build-exact : buildRouteF t (s .capacity) (flLimits s) calls ≡ flRoute (buildRoute s calls)
+  unfolding buildRouteF buildRoute
+  build-exact =
+      ap (builtF t (s .capacity) (flLimits s) calls) rest-exact
+      ∙ rw (
+        visits-exact s S t I place began missing began-fits 0 1 0 (fl 0) start 0 calls set-out,
+        windows-exact s S t I place began missing began-fits 0 1 0 (fl 0) start 0 calls set-out,
+        trip-home,
+        distance-exact,
+        duration-exact,
+        checked-exact s S (windowsFrom s place 1 0 start calls) missing (load s calls) (totals .distance) (totals .duration) distance-fits duration-fits,
+        last-place,
+      )
+
+-- ---- by the limits of the Domain
+
+-- the answer on floats is that of the definitions, each figure held in a float
+pub built-exact : (s : Sheet) → Within s → (t : Tables) → Image s t → (calls : List ℕ) → WithinCalls s calls
+    → buildRouteF t (s .capacity) (flLimits s) calls ≡ flRoute (buildRoute s calls)
+built-exact s W t I calls C = build-exact s (sized s W) t I calls (few-calls s calls C) (calls-inside s calls C)

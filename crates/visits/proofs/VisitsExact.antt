@@ -1,0 +1,171 @@
+-- On a sheet within the limits, held in floats, the calls of a run are visited as in crates/definitions. Assumes nothing.
+use Prim.Native.Nat.{ℕ, suc, _+_, _-_, _≤_, _<_, max}
+use native.Mathlib.Omega.{arith}
+use native.Mathlib.Nat.{add-assoc, add-zero}
+use mathlib.Core.Path.{_≡_, refl}
+use mathlib.Core.Bool.{Bool, not}
+use mathlib.Core.List.{List, [], _∷_, map}
+use mathlib.Core.Option.{Option, none, some, Option·map}
+use lib.Dec.{eqb}
+use lib.ListN.{length}
+use lib.Ieee as Ieee
+use lib.Ieee.{Float, binary64}
+use Rattle.basics.specs.Tests.{by-test}
+use Rattle.basics.specs.Options.{_>>=_, Holds, present, valueOr}
+use Rattle.basics.specs.Lists.{All}
+use Rattle.definitions.specs.Domain.{mostCalls}
+use Rattle.definitions.specs.Sheet.{Window, Break, Customer, Sheet, customer, distance, time}
+use Rattle.definitions.specs.Window.{begins, Entry, enter}
+use Rattle.definitions.specs.Run as Whole
+use Rattle.definitions.specs.Run.{breakAt, lastOf, load}
+use Rattle.definitions.specs.Visits.{windowShut, readyFor, entered, dueOf, visited, visitsFrom, windowsFrom, lastLabel}
+use Rattle.bounds.specs.Inside.{Small, SmallWindow, SmallBreak, SmallCustomer, Sized, Place, time-small, customer-small, break-small}
+use Rattle.bounds.specs.Bounds.{Early, readyBy, begins-most, enter-most, readiness-most, visited-early}
+use Rattle.whole.specs.Whole.{fl, limit, fl-add}
+use Rattle.models.specs.Image.{flWindow, flCustomer}
+use Rattle.models.proofs.Exact.{waiting-exact}
+use Rattle.evaluation.specs.Records.{Tables}
+use Rattle.evaluation.specs.Tables.{distanceF, legsF}
+use Rattle.evaluation.specs.Image.{flLabel, Image}
+use Rattle.evaluation.proofs.ServingExact.{enter-exact}
+use Rattle.evaluation.proofs.ClockExact.{record-exact, time-exact}
+use Rattle.visits.specs.declared.trip.Trip.{Trip}
+use Rattle.visits.specs.Visiting.{RestF, readyAtF, beginF, dueF, servedBy, servedF, stopF, stopAtF, visitsF, windowsF, tripF}
+use Rattle.visits.specs.Image.{flVisit, flViolation}
+use Rattle.visits.proofs.Resting.{lengthOf, readyAt, Agrees}
+
+-- the label without its break place, which the trip does not carry
+abbrev unplaced : Whole.Label → Whole.Label
+unplaced l = record { time = l .time; lateness = l .lateness; pay = l .pay; place = 0 }
+
+-- a trip so far, with the distance as travelled
+abbrev pub tripOf : Float → Whole.Label → ℕ → ℕ → Trip
+tripOf far l carried a = record { label = flLabel (unplaced l); distance = far; load = carried; prev = a }
+
+-- the break by its place and start
+abbrev pub flRest : Sheet → ℕ → Option ℕ → Bool → RestF
+flRest s place o missing = record { place = place; start = Option·map fl o; duration = fl (lengthOf (s .rest)); missing = missing }
+
+due-exact : (w : Option Window) → dueF (Option·map flWindow w) ≡ fl (dueOf w)
+due-exact none = refl
+due-exact (some w) = refl
+
+length-small : (o : Option Break) → Holds SmallBreak o → Small (lengthOf o)
+length-small none B = omega arith
+length-small (some b) B = B .duration-small
+
+ready-exact : (s : Sheet) → Sized s → (place : ℕ) (o : Option ℕ) (missing : Bool) → Holds (λ (n : ℕ). n ≤ limit) o → (k arrival : ℕ)
+    → readyAtF (flRest s place o missing) k (fl arrival) ≡ fl (readyAt s place o k arrival)
+unfolding readyAtF
+ready-exact s S place none missing O k arrival = refl
+ready-exact s S place (some from) missing O k arrival =
+    by-test (eqb place k) (λ y. rw (y, fl-add from (lengthOf (s .rest)) O (omega (arith, length-small (s .rest) (S .rest-small))))) (λ n. rw n)
+
+-- ---- a call after k others
+
+module _ (k : ℕ) (few : k < mostCalls) where
+  begin-exact : (w : Option Window) → Holds SmallWindow w → (r : ℕ) → r ≤ readyBy k → beginF (Option·map flWindow w) (fl r) ≡ fl (begins w r)
+  unfolding beginF
+  begin-exact none W r h = refl
+  begin-exact (some w) W r h =
+      let z : r + (w .ready - r) ≡ max r (w .ready) = omega arith in
+      rw (waiting-exact w r (omega arith) (omega arith) (omega arith), fl-add r (w .ready - r) (omega arith) (omega arith), z)
+
+  module _ (c : Customer) (C : SmallCustomer c) (l : Whole.Label) (E : Early k l) (r : ℕ) (h : r ≤ readyBy k) where
+    -- the label as the call is left
+    abbrev left : Option Entry → Whole.Label
+    left o =
+        let e = valueOr (record { start = begins (c .window) r; lateness = 0; pay = 0 }) o in
+        record { time = e .start + c .service; lateness = l .lateness + e .lateness; pay = l .pay + e .pay; place = 0 }
+
+    served-exact : servedF (flCustomer c) (fl r) (flLabel (unplaced l)) ≡ record { label = flLabel (left (enter (c .window) (c .penalty) r)); shut = not (present (enter (c .window) (c .penalty) r)) }
+    unfolding servedF
+    served-exact =
+        rw (enter-exact k few (unplaced l) (record { time-most = E .time-most; lateness-most = E .lateness-most; pay-most = E .pay-most }) r h (c .window) (C .window-small) (c .penalty) (C .penalty-small))
+        (go (enter (c .window) (c .penalty) r) refl)
+      where
+        go : (o : Option Entry) → enter (c .window) (c .penalty) r ≡ o
+            → servedBy (flCustomer c) (fl r) (flLabel (unplaced l)) (Option·map (λ (e : Entry). flLabel (record { time = e .start; lateness = l .lateness + e .lateness; pay = l .pay + e .pay; place = 0 })) o)
+            ≡ record { label = flLabel (left o); shut = not (present o) }
+        go none q =
+            let z = begins-most (c .window) (C .window-small) k r h in
+            rw (begin-exact (c .window) (C .window-small) r h, fl-add (begins (c .window) r) (c .service) (omega arith) (omega (arith, C .service-small)), add-zero (l .lateness), add-zero (l .pay))
+        go (some e) q =
+            let s = enter-most k few (c .window) (c .penalty) (C .window-small) (C .penalty-small) r h e q in
+            rw (fl-add (e .start) (c .service) (omega arith) (omega (arith, C .service-small)))
+
+-- ---- the walk
+
+-- the calls from number j on, k others visited, from place a with the label l
+pub record Onward (s : Sheet) (place : ℕ) (o : Option ℕ) (k j a : ℕ) (l : Whole.Label) (calls : List ℕ) : Type 0 where
+  pub few : k + length calls ≤ mostCalls
+  pub from-inside : Place s a
+  pub calls-inside : All (Place s) calls
+  pub early : Early k l
+  pub agreed : Agrees s place o j a l calls
+
+module _ (s : Sheet) (S : Sized s) (t : Tables) (I : Image s t) (place : ℕ) (o : Option ℕ) (missing : Bool) (O : Holds (λ (n : ℕ). n ≤ limit) o) where
+  abbrev R : RestF
+  R = flRest s place o missing
+
+  module _ (k j a : ℕ) (l : Whole.Label) (c : ℕ) (cs : List ℕ) (H : Onward s place o k j a l (c ∷ cs)) where
+    -- call number j
+    abbrev next : Whole.Label
+    next = visited s (breakAt s place j) j a c l
+
+    abbrev readiness : ℕ
+    readiness = readyFor s (breakAt s place j) a c l
+
+    onward : Onward s place o (suc k) (suc j) c next cs
+    onward =
+        record {
+          few = omega arith;
+          from-inside = H .calls-inside .0;
+          calls-inside = H .calls-inside .1;
+          early = visited-early s S k (omega arith) (breakAt s place j) (break-small s S place j) j a c l (H .early);
+          agreed = H .agreed .1;
+        }
+
+    stop-exact : (far : Float) (carried : ℕ)
+        → stopAtF t R j (tripOf far l carried a) c
+        ≡ record {
+          trip = tripOf (Ieee.add binary64 far (distanceF t a c)) next (carried + customer s c .demand) c;
+          visit = flVisit (record { customer = c; arrival = l .time + time s a c; departure = next .time; load = carried + customer s c .demand });
+          violation = flViolation (windowShut c readiness (dueOf (customer s c .window)));
+          shut = not (present (entered s c readiness));
+        }
+    unfolding stopF visited
+    stop-exact far carried =
+        let few : k < mostCalls = omega arith in
+        let E = H .early in
+        rw (
+          record-exact s S t I c (H .calls-inside .0),
+          time-exact s S t I a c (H .from-inside) (H .calls-inside .0),
+          fl-add (l .time) (time s a c) (omega arith) (omega (arith, time-small s S a c)),
+          ready-exact s S place o missing O j (l .time + time s a c),
+          H .agreed .0,
+        )
+        (rw (served-exact k few (customer s c) (customer-small s S c) l E readiness (readiness-most s S k few (breakAt s place j) (break-small s S place j) j a c l E), due-exact (customer s c .window)))
+
+  pub visits-exact : (k j a : ℕ) (far : Float) (l : Whole.Label) (carried : ℕ) (calls : List ℕ) → Onward s place o k j a l calls
+      → visitsF t R j (tripOf far l carried a) calls ≡ map flVisit (visitsFrom s place j a l carried calls)
+  unfolding visitsF visitsFrom
+  visits-exact k j a far l carried [] H = refl
+  visits-exact k j a far l carried (c ∷ cs) H =
+      rw (stop-exact k j a l c cs H far carried, visits-exact (suc k) (suc j) c (Ieee.add binary64 far (distanceF t a c)) (next k j a l c cs H) (carried + customer s c .demand) cs (onward k j a l c cs H))
+
+  pub windows-exact : (k j a : ℕ) (far : Float) (l : Whole.Label) (carried : ℕ) (calls : List ℕ) → Onward s place o k j a l calls
+      → windowsF t R j (tripOf far l carried a) calls ≡ map flViolation (windowsFrom s place j a l calls)
+  unfolding windowsF windowsFrom
+  windows-exact k j a far l carried [] H = refl
+  windows-exact k j a far l carried (c ∷ cs) H =
+      rw (stop-exact k j a l c cs H far carried, windows-exact (suc k) (suc j) c (Ieee.add binary64 far (distanceF t a c)) (next k j a l c cs H) (carried + customer s c .demand) cs (onward k j a l c cs H))
+      (by-test (present (entered s c (readiness k j a l c cs H))) (λ y. rw y) (λ n. rw n))
+
+  pub trip-exact : (k j a : ℕ) (far : Float) (l : Whole.Label) (carried : ℕ) (calls : List ℕ) → Onward s place o k j a l calls
+      → tripF t R j (tripOf far l carried a) calls ≡ tripOf (legsF t far a calls) (lastLabel s place j a l calls) (carried + load s calls) (lastOf a calls)
+  unfolding tripF lastLabel legsF
+  trip-exact k j a far l carried [] H = rw (add-zero carried)
+  trip-exact k j a far l carried (c ∷ cs) H =
+      rw (stop-exact k j a l c cs H far carried, ← add-assoc carried (customer s c .demand) (load s cs))
+      (trip-exact (suc k) (suc j) c (Ieee.add binary64 far (distanceF t a c)) (next k j a l c cs H) (carried + customer s c .demand) cs (onward k j a l c cs H))

@@ -1,0 +1,43 @@
+-- `evaluator::build_route` meets its contract. Assumes nothing.
+use Rattle.evaluation.specs.Records.{lent, limitsOf}
+use Rattle.visits.proofs.Assembling.{builds}
+use borrow.Author.Needs.{needs}
+use Rattle.visits.proofs.evaluator.build_route.Statement.{statement}
+use Rattle.visits.proofs.evaluator.build_route.Tie as tie
+
+rest-at-requires : tie.Need-rest-at-requires
+rest-at-requires c κs = search needs
+
+walk-requires : tie.Need-walk-requires
+walk-requires c κs = search needs
+
+get-requires : tie.Need-get-requires
+get-requires c κs = search needs
+
+travel-time-requires : tie.Need-travel-time-requires
+travel-time-requires c κs = search needs
+
+checked-requires : tie.Need-checked-requires
+checked-requires c κs = search needs
+
+returns : tie.Need-returns
+returns c =
+    let checked = c .before .before in
+    let timed = checked .before .before .before in
+    let got = timed .before .before in
+    let walked = got .before .before .before in
+    let placed = walked .before in
+    let a = placed .before .before .before .before .args in
+    builds (lent (a .customers) (a .distances .now) (a .times .now) (a .size)) (a .capacity) (limitsOf (a .limits)) (a .route .now) (placed .rest-at .result) (walked .walk .result) (checked .checked .result) _ _ (placed .rest-at .ensures) (walked .walk .ensures) (got .get .ensures) (timed .travel-time .ensures)
+    (checked .checked .ensures)
+
+pub build-route-spec : {M : Type 1} → statement M
+build-route-spec =
+    tie.close
+    (tie.spec
+    rest-at-requires
+    walk-requires
+    get-requires
+    travel-time-requires
+    checked-requires
+    returns)

@@ -1,0 +1,22 @@
+-- `trip::due_of` meets its contract. Assumes nothing.
+use mathlib.Core.Path.{_≡_}
+use Rattle.models.specs.declared.customer.Opening.the-variants.{Always}
+use Rattle.whole.specs.Bits.{fl-zero}
+use borrow.Author.Needs.{needs}
+use Rattle.visits.proofs.trip.due_of.Statement.{statement}
+use Rattle.visits.proofs.trip.due_of.Tie as tie
+
+enum-told : tie.Need-enum-told
+enum-told c = search needs
+
+enum-known-opening : tie.Need-enum-known-opening
+enum-known-opening c = search needs
+
+returns : tie.Need-returns
+returns c = let e : c .before .before .args .opening ≡ Always = search needs in rw (e, fl-zero)
+
+returns-2 : tie.Need-returns-2
+returns-2 c = search needs
+
+pub due-of-spec : {M : Type 1} → statement M
+due-of-spec = tie.close (tie.spec enum-told enum-known-opening returns returns-2)

@@ -1,0 +1,87 @@
+-- `Violations::checked` meets its contract. Assumes nothing.
+use Rattle.visits.proofs.Checking.{one-more, break-room, all-checked}
+use Rattle.evaluation.specs.Records.{limitsOf}
+use native.Mathlib.Omega.{arith}
+use borrow.Author.Needs.{needs}
+use Rattle.visits.proofs.violation.Violations.checked.Statement.{statement}
+use Rattle.visits.proofs.violation.Violations.checked.Tie as tie
+
+reported-requires : tie.Need-reported-requires
+reported-requires c κs = search needs
+
+pushed-requires : tie.Need-pushed-requires
+pushed-requires c κs = search needs
+
+overload-requires : tie.Need-overload-requires
+overload-requires c κs = search needs
+
+pushed-requires-2 : tie.Need-pushed-requires-2
+pushed-requires-2 c κs =
+    let placed = c .before in
+    let told = placed .before in
+    let S = told .before in
+    let a = S .args in
+    (placed .pushed .ensures .long, omega (arith, break-room (a .self .count) _ (a .missing) _ (told .reported .ensures) (placed .pushed .ensures .count-is) (S .pre .1)))
+
+exceeds-requires : tie.Need-exceeds-requires
+exceeds-requires c κs = search needs
+
+limit-of-requires : tie.Need-limit-of-requires
+limit-of-requires c κs = search needs
+
+pushed-requires-3 : tie.Need-pushed-requires-3
+pushed-requires-3 c κs =
+    let loaded = c .before .before in
+    let placed = loaded .before .before in
+    let told = placed .before in
+    let S = told .before in
+    let a = S .args in
+    (loaded .pushed2 .ensures .long, omega (arith, break-room (a .self .count) _ (a .missing) _ (told .reported .ensures) (placed .pushed .ensures .count-is) (S .pre .1), one-more _ _ _ _ (loaded .pushed2 .ensures)))
+
+exceeds-requires-2 : tie.Need-exceeds-requires-2
+exceeds-requires-2 c κs = search needs
+
+limit-of-requires-2 : tie.Need-limit-of-requires-2
+limit-of-requires-2 c κs = search needs
+
+pushed-requires-4 : tie.Need-pushed-requires-4
+pushed-requires-4 c κs =
+    let near = c .before .before in
+    let loaded = near .before .before .before in
+    let placed = loaded .before .before in
+    let told = placed .before in
+    let S = told .before in
+    let a = S .args in
+    (near .pushed3 .ensures .long, omega (arith, break-room (a .self .count) _ (a .missing) _ (told .reported .ensures) (placed .pushed .ensures .count-is) (S .pre .1), one-more _ _ _ _ (loaded .pushed2 .ensures), one-more _ _ _ _ (near .pushed3 .ensures)))
+
+returns : tie.Need-returns
+returns c =
+    let late = c .before in
+    let near = late .before .before in
+    let far = near .before in
+    let loaded = far .before .before in
+    let load = loaded .before in
+    let placed = load .before in
+    let told = placed .before in
+    let S = told .before in
+    let a = S .args in
+    all-checked (a .self) _ _ _ _ (a .missing) (a .load) (a .capacity) (limitsOf (a .limits)) (a .distance) (a .duration) (S .pre .0) (S .pre .1)
+    _ (told .reported .ensures) (placed .pushed .ensures) _ (load .overload .ensures) (loaded .pushed2 .ensures)
+    _ _ (far .before .exceeds .ensures) (far .limit-of .ensures) (near .pushed3 .ensures)
+    _ _ (late .before .exceeds2 .ensures) (late .limit-of2 .ensures) (c .pushed4 .ensures)
+
+pub checked-spec : {M : Type 1} → statement M
+checked-spec =
+    tie.close
+    (tie.spec
+    reported-requires
+    pushed-requires
+    overload-requires
+    pushed-requires-2
+    exceeds-requires
+    limit-of-requires
+    pushed-requires-3
+    exceeds-requires-2
+    limit-of-requires-2
+    pushed-requires-4
+    returns)

@@ -1,0 +1,35 @@
+-- A route of whole numbers, each figure held in a float. Definitions only.
+use mathlib.Core.List.{map}
+use mathlib.Core.Option.{Option·map}
+use Rattle.definitions.specs.Visits as Whole
+use Rattle.definitions.specs.Visits.{Route, windowShut, breakNotPlaceable, overCapacity, overDistance, overDuration}
+use Rattle.whole.specs.Whole.{fl}
+use Rattle.evaluation.specs.Image.{flTotals}
+use Rattle.visits.specs.declared.visit.Visit.{Visit}
+use Rattle.visits.specs.declared.visit.ViolationType.{ViolationType}
+use Rattle.visits.specs.declared.visit.ViolationType.the-variants.{TimeWindowViolated, BreakNotPlaceable, CapacityExceeded, MaxDistanceExceeded, MaxDurationExceeded}
+use Rattle.visits.specs.declared.visit.Violation.{Violation}
+use Rattle.visits.specs.Building.{RouteF}
+
+abbrev pub flVisit : Whole.Visit → Visit
+flVisit v = record { «customer_id» = v .customer; «arrival_time» = fl (v .arrival); «departure_time» = fl (v .departure); «load_after» = v .load }
+
+abbrev pub flKind : Whole.Violation → ViolationType
+flKind (windowShut customer readiness due) = TimeWindowViolated customer (fl readiness) (fl due)
+flKind breakNotPlaceable = BreakNotPlaceable
+flKind (overCapacity load capacity) = CapacityExceeded load capacity
+flKind (overDistance distance limit) = MaxDistanceExceeded (fl distance) (fl limit)
+flKind (overDuration duration limit) = MaxDurationExceeded (fl duration) (fl limit)
+
+abbrev pub flViolation : Whole.Violation → Violation
+flViolation v = record { kind = flKind v }
+
+abbrev pub flRoute : Route → RouteF
+flRoute r =
+    record {
+      visits = map flVisit (r .visits);
+      totals = flTotals (r .totals);
+      load = r .load;
+      start = Option·map fl (r .start);
+      violations = map flViolation (r .violations);
+    }

@@ -1,0 +1,153 @@
+// The visits of a run with their times and loads, its totals, and what it violates (evaluation/evaluator.rs).
+ghost use mathlib.Core.Path.{_≡_};
+ghost use mathlib.Core.Bool.{cond};
+ghost use Prim.Native.Nat.{_+_, _≤_};
+ghost use lib.ListN.{length, replicate};
+ghost use Rattle.evaluation.specs.Records.{lent, limitsOf};
+ghost use Rattle.visits.specs.Visiting.{restAtOf, Walks, blankVisit, blankViolation};
+ghost use Rattle.visits.specs.Building.{Builds};
+use crate::rest::RestAt;
+use crate::rest::rest_at;
+use crate::trip::Trip;
+use crate::violation::Violations;
+use crate::visit::Violation;
+use crate::visit::ViolationType;
+use crate::visit::Visit;
+use distance::matrix::get;
+use distance::matrix::travel_time;
+use evaluation::route::Start;
+use evaluation::schedule::record_index;
+use models::customer::Customer;
+use models::limits::RouteLimits;
+
+// All calls visited: the visits stand first in their array.
+pub struct Walked {
+    pub visits: [Visit; 128],
+    pub windows: Violations,
+    pub trip: Trip,
+}
+
+// A run with its visits and violations, which stand first in their arrays. The place is that of the break, from 1, or 0.
+pub struct Built {
+    pub visits: [Visit; 128],
+    pub count: usize,
+    pub violations: [Violation; 131],
+    pub found: usize,
+    pub distance: f64,
+    pub duration: f64,
+    pub lateness: f64,
+    pub lateness_cost: f64,
+    pub load: u64,
+    pub place: usize,
+    pub start: Start,
+}
+
+// What stands in the arrays where nothing is written.
+pub fn blank_visits() -> [Visit; 128]
+    ensures { λ r. ⌜ r ≡ replicate 128 blankVisit ⌝ }
+{
+    let visit = Visit {
+        customer_id: 0,
+        arrival_time: 0.0,
+        departure_time: 0.0,
+        load_after: 0,
+    };
+    [visit; 128]
+}
+
+pub fn blank_violations() -> [Violation; 131]
+    ensures { λ r. ⌜ r ≡ replicate 131 blankViolation ⌝ }
+{
+    let violation = Violation {
+        kind: ViolationType::BreakNotPlaceable,
+    };
+    [violation; 131]
+}
+
+// One more, where the test holds.
+pub fn counted(count: usize, test: bool) -> usize
+    requires { ⌜ count ≤ 128 ⌝ }
+    ensures { λ r. ⌜ r ≡ count + cond test 1 0 ⌝ }
+{
+    if test { count + 1 } else { count }
+}
+
+// Every call visited in turn. The violation of its window is written at each, and counted where the window is shut.
+pub fn walk(
+    route: &[usize],
+    customers: [Customer; 64],
+    distances: &[f64],
+    times: &[f64],
+    size: usize,
+    rest: RestAt,
+) -> Walked
+    requires { ⌜ length (now route) ≤ 128 ⌝ }
+    ensures { λ r. ⌜ Walks (lent customers (now (distances .entry)) (now (times .entry)) size) (restAtOf rest) (now (route .entry)) r ⌝ }
+{
+    let mut visits = blank_visits();
+    let mut list = blank_violations();
+    let mut count = 0;
+    let mut trip = Trip::start();
+    let mut i = 0;
+    while i < route.len() {
+        let cid = route[i];
+        let prev = trip.prev;
+        let leg = get(distances, size, prev, cid);
+        let travel = travel_time(distances, times, size, prev, cid);
+        let index = record_index(cid);
+        let stop = trip.visit(rest, i + 1, cid, customers[index], leg, travel);
+        let visit = stop.visit;
+        visits[i] = visit;
+        let violation = stop.violation;
+        list[count] = violation;
+        count = counted(count, stop.shut);
+        trip = stop.trip;
+        i += 1;
+    }
+    Walked {
+        visits,
+        windows: Violations { list, count },
+        trip,
+    }
+}
+
+// The run with its visits, totals and violations.
+pub fn build_route(
+    route: &[usize],
+    customers: [Customer; 64],
+    distances: &[f64],
+    times: &[f64],
+    size: usize,
+    capacity: u32,
+    limits: RouteLimits,
+) -> Built
+    requires { ⌜ length (now route) ≤ 128 ⌝ }
+    ensures { λ r. ⌜ Builds (lent customers (now (distances .entry)) (now (times .entry)) size) capacity (limitsOf limits) (now (route .entry)) r ⌝ }
+{
+    let rest = limits.rest;
+    let at = rest_at(route, customers, distances, times, size, rest);
+    let calls = walk(route, customers, distances, times, size, at);
+    let trip = calls.trip;
+    let label = trip.label;
+    let prev = trip.prev;
+    let distance = trip.distance + get(distances, size, prev, 0);
+    let duration = label.time + travel_time(distances, times, size, prev, 0);
+    let windows = calls.windows;
+    let found = windows.checked(at.missing, trip.load, capacity, limits, distance, duration);
+    let visits = calls.visits;
+    let violations = found.list;
+    let start = at.start;
+    Built {
+        visits,
+        count: route.len(),
+        violations,
+        found: found.count,
+        distance,
+        duration,
+        lateness: label.lateness,
+        lateness_cost: label.cost,
+        load: trip.load,
+        place: at.place,
+        start,
+    }
+}

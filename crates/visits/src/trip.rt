@@ -1,0 +1,142 @@
+// One call of a run visited, also where it is reached too late.
+ghost use mathlib.Core.Path.{_≡_};
+ghost use Prim.Native.Nat.{_+_, _≤_};
+ghost use Rattle.models.specs.Records.{openingOf, customerOf};
+ghost use Rattle.visits.specs.Visiting.{restAtOf, beginF, dueF, servedF, startTrip, stopF};
+use crate::rest::RestAt;
+use crate::violation::wide;
+use crate::visit::Violation;
+use crate::visit::ViolationType;
+use crate::visit::Visit;
+use evaluation::schedule::Label;
+use evaluation::schedule::Reached;
+use evaluation::schedule::enter;
+use models::customer::Customer;
+use models::customer::Opening;
+
+// A call as it is left, and whether it was reached after due without a penalty.
+pub struct Served {
+    pub label: Label,
+    pub shut: bool,
+}
+
+// Some way through the calls: the label, the distance travelled, the load, and the last place.
+pub struct Trip {
+    pub label: Label,
+    pub distance: f64,
+    pub load: u64,
+    pub prev: usize,
+}
+
+// A call visited: the trip with it, the visit, and the violation of its window, which counts where that is shut.
+pub struct Stop {
+    pub trip: Trip,
+    pub visit: Visit,
+    pub violation: Violation,
+    pub shut: bool,
+}
+
+// When service starts, from readiness on.
+pub fn service_start(opening: Opening, ready: f64) -> f64
+    ensures { λ r. ⌜ r ≡ beginF (openingOf opening) ready ⌝ }
+{
+    match opening {
+        Opening::Always => ready,
+        Opening::Window(window) => ready + window.waiting_time(ready),
+    }
+}
+
+// When a window closes, and 0 where there is none.
+pub fn due_of(opening: Opening) -> f64
+    ensures { λ r. ⌜ r ≡ dueF (openingOf opening) ⌝ }
+{
+    match opening {
+        Opening::Always => 0.0,
+        Opening::Window(window) => window.due,
+    }
+}
+
+// A call from readiness on, also where its window is shut: then nothing is charged.
+pub fn attend(customer: Customer, ready: f64, label: Label) -> Served
+    ensures { λ r. ⌜ r ≡ servedF (customerOf customer) ready label ⌝ }
+{
+    let service = customer.service_duration;
+    let Reached::At(l) = enter(customer, ready, label) else {
+        let opening = customer.time_window;
+        return Served {
+            label: Label {
+                time: service_start(opening, ready) + service,
+                lateness: label.lateness,
+                cost: label.cost,
+                place: label.place,
+            },
+            shut: true,
+        };
+    };
+    Served {
+        label: Label {
+            time: l.time + service,
+            lateness: l.lateness,
+            cost: l.cost,
+            place: l.place,
+        },
+        shut: false,
+    }
+}
+
+impl Trip {
+    pub fn start() -> Trip
+        ensures { λ r. ⌜ r ≡ startTrip ⌝ }
+    {
+        Trip {
+            label: Label::start(),
+            distance: 0.0,
+            load: 0,
+            prev: 0,
+        }
+    }
+
+    // Call number `index`, `leg` and `travel` away.
+    pub fn visit(
+        self,
+        rest: RestAt,
+        index: usize,
+        cid: usize,
+        customer: Customer,
+        leg: f64,
+        travel: f64,
+    ) -> Stop
+        requires { ⌜ self .load ≤ 0xFFFF_FFFF_0000_0000 ⌝ }
+        ensures { λ r. ⌜ (r ≡ stopF self (restAtOf rest) index cid (customerOf customer) leg travel) × (r .trip .load ≤ self .load + 0xFFFF_FFFF) ⌝ }
+    {
+        let before = self.label;
+        let opening = customer.time_window;
+        let arrival = before.time + travel;
+        let ready = rest.ready_at(index, arrival);
+        let call = attend(customer, ready, before);
+        let label = call.label;
+        let load = self.load + wide(customer.demand);
+        Stop {
+            trip: Trip {
+                label,
+                distance: self.distance + leg,
+                load,
+                prev: cid,
+            },
+            visit: Visit {
+                customer_id: cid,
+                arrival_time: arrival,
+                departure_time: label.time,
+                load_after: load,
+            },
+            violation: Violation {
+                kind: ViolationType::TimeWindowViolated {
+                    customer_id: cid,
+                    arrival: ready,
+                    due: due_of(opening),
+                },
+            },
+            shut: call.shut,
+        }
+    }
+}

@@ -1,0 +1,124 @@
+// The violations of a run, in their order: windows by visit, the break, capacity, distance, duration.
+ghost use mathlib.Core.Path.{_≡_};
+ghost use mathlib.Core.Bool.{_&&_};
+ghost use Prim.Native.Nat.{_<_, _≤_};
+ghost use lib.Dec.{eqb};
+ghost use lib.ListN.{length};
+ghost use Rattle.models.specs.Records.{limitOf};
+ghost use Rattle.evaluation.specs.Records.{limitsOf};
+ghost use Rattle.visits.specs.Violations.{Pushed, Checked, overF, limitF, overloaded};
+use crate::visit::Violation;
+use crate::visit::ViolationType;
+use models::limits::Limit;
+use models::limits::RouteLimits;
+
+// The first `count` of the list.
+pub struct Violations {
+    pub list: [Violation; 131],
+    pub count: usize,
+}
+
+pub fn wide(x: u32) -> u64
+    ensures { λ r. ⌜ (r ≡ x) × (r < 4294967296) ⌝ }
+{
+    x as u64
+}
+
+pub fn overload(load: u64, capacity: u32) -> bool
+    ensures { λ r. ⌜ r ≡ overloaded load capacity ⌝ }
+{
+    load > wide(capacity)
+}
+
+// Above the limit, if there is one.
+pub fn exceeds(limit: Limit, x: f64) -> bool
+    ensures { λ r. ⌜ r ≡ overF (limitOf limit) x ⌝ }
+{
+    match limit {
+        Limit::Unlimited => false,
+        Limit::At(max) => x > max,
+    }
+}
+
+// The limit, and 0 where there is none.
+pub fn limit_of(limit: Limit) -> f64
+    ensures { λ r. ⌜ r ≡ limitF (limitOf limit) ⌝ }
+{
+    match limit {
+        Limit::Unlimited => 0.0,
+        Limit::At(max) => max,
+    }
+}
+
+// The break is reported only where no window is.
+pub fn reported(missing: bool, windows: usize) -> bool
+    ensures { λ r. ⌜ r ≡ (missing && eqb windows 0) ⌝ }
+{
+    if missing { windows == 0 } else { false }
+}
+
+impl Violations {
+    // One more, where the test holds.
+    pub fn pushed(self, test: bool, violation: Violation) -> Violations
+        requires { ⌜ (length (self .list) ≡ 131) × (self .count < 131) ⌝ }
+        ensures { λ r. ⌜ Pushed self test violation r ⌝ }
+    {
+        if !test {
+            return self;
+        }
+        let mut list = self.list;
+        let count = self.count;
+        list[count] = violation;
+        Violations {
+            list,
+            count: count + 1,
+        }
+    }
+
+    // The windows violated, and after them what else the run violates.
+    pub fn checked(
+        self,
+        missing: bool,
+        load: u64,
+        capacity: u32,
+        limits: RouteLimits,
+        distance: f64,
+        duration: f64,
+    ) -> Violations
+        requires { ⌜ (length (self .list) ≡ 131) × (self .count ≤ 128) ⌝ }
+        ensures { λ r. ⌜ Checked self missing load capacity (limitsOf limits) distance duration r ⌝ }
+    {
+        let max_distance = limits.max_distance;
+        let max_duration = limits.max_duration;
+        let placed = self.pushed(
+            reported(missing, self.count),
+            Violation {
+                kind: ViolationType::BreakNotPlaceable,
+            },
+        );
+        let loaded = placed.pushed(
+            overload(load, capacity),
+            Violation {
+                kind: ViolationType::CapacityExceeded { load, capacity },
+            },
+        );
+        let near = loaded.pushed(
+            exceeds(max_distance, distance),
+            Violation {
+                kind: ViolationType::MaxDistanceExceeded {
+                    distance,
+                    max_distance: limit_of(max_distance),
+                },
+            },
+        );
+        near.pushed(
+            exceeds(max_duration, duration),
+            Violation {
+                kind: ViolationType::MaxDurationExceeded {
+                    duration,
+                    max_duration: limit_of(max_duration),
+                },
+            },
+        )
+    }
+}
