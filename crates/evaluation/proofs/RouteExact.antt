@@ -49,7 +49,7 @@ joined (some a) f g = refl
 abbrev evaluated : Sheet → List ℕ → Totals → Evaluation
 evaluated s calls u = record { totals = u; start = startOf s (record { calls = calls; place = u .place }) }
 
-small-limit : (o : Option ℕ) → Holds Inside.Small o → Small o
+pub small-limit : (o : Option ℕ) → Holds Inside.Small o → Small o
 small-limit none h = tt
 small-limit (some n) h = omega arith
 
@@ -92,7 +92,7 @@ module _ (s : Sheet) (S : Sized s) (t : Tables) (I : Image s t) where
 
   module _ (calls : List ℕ) (few : length calls ≤ mostCalls) (i : All (Place s) calls) where
     -- with no break on the sheet the clock has the one label
-    plain-clock : s .rest ≡ none → clock s calls ≡ (last calls few i >>= λ l. some (home s calls l))
+    pub plain-clock : s .rest ≡ none → clock s calls ≡ (last calls few i >>= λ l. some (home s calls l))
     unfolding clock
     plain-clock rest-is =
         ap (λ (o : Option Break). counts o (time s (lastOf 0 calls) 0) (clockFrom s 1 0 begun calls) >>= λ l. some (home s calls l)) rest-is

@@ -1,41 +1,43 @@
--- Row i by capacity alone, call by call: what the loop keeps after m calls of the stretch that starts at call i. Assumes nothing.
+-- Row i, call by call: what the loop keeps after m calls of the stretch that starts at call i. Assumes nothing.
 use Prim.Native.Nat.{ℕ, suc, _+_, _-_, _<_, _≤_}
 use native.Mathlib.Nat.{add-zero, le-refl}
 use native.Mathlib.Numerals.{add-one}
 use native.Mathlib.Omega.{arith}
 use mathlib.Core.Path.{_≡_, refl, sym, ap, subst, _∙_}
-use mathlib.Core.Bool.{true, false}
-use mathlib.Core.List.{List}
+use mathlib.Core.Bool.{Bool, true, false, _&&_, and-false, false≢true}
+use mathlib.Core.List.{List, _∷_}
 use lib.ListN.{length, getD, take, drop, length-drop}
 use lib.Seq.{take-all}
 use lib.Dec.{eqb}
 use borrow.Author.Tests.{leb-true, leb-false}
-use lib.Ieee.{Float, nan, binary64, add}
+use lib.Ieee.{Float, nan, inf, fin, binary64, add, eq, lt}
+use Rattle.basics.specs.Tests.{and-true}
 use Rattle.cutting.specs.Tab.{cells}
-use Rattle.cutting.specs.Carried.{Filling, RowDone, outset, finished, offered}
+use Rattle.cutting.specs.Priced.{added, strict}
+use Rattle.cutting.specs.Carried.{Filling, RowDone, outset, finished, passed, offered, skipped}
 use Rattle.whole.specs.Whole.{fl}
-use Rattle.ga.specs.Table.{Offered}
-use Rattle.ga.specs.Stretch.{demandF, fitsLoad, joinedF, placeOf, loadOf, goneOf, wayOf}
-use Rattle.ga.specs.Split.{Instance, legF, farF, fitsF, runsF, farsF, RowOf, stretches}
+use Rattle.table.specs.Table.{Offered}
+use Rattle.ga.specs.Stretch.{fitsLoad, fitsOf, joinedF, placeOf, loadOf, goneOf, wayOf}
+use Rattle.ga.specs.Tariff.{Tariff, legalOf, farOf, priceOf, runsOf, farsOf, RowOf, stretches}
 use Rattle.ga.proofs.Fitting.{none-over, none-past, fits-here}
 
 -- After m calls of st. `costs`, `fars` and `preds` are the tables as row i finds them.
-pub record Along (I : Instance) (st : List ℕ) (i : ℕ) (costs fars : List Float) (preds : List ℕ) (base before : Float)
+pub record Along (T : Tariff) (st : List ℕ) (i : ℕ) (costs fars : List Float) (preds : List ℕ) (base before : Float)
     (cost far : List Float) (pred : List ℕ) (load : ℕ) (gone : Float) (prev m : ℕ) : Type 0 where
-  pub is-base : base ≡ add binary64 (getD costs i nan) (I .fixed)
+  pub is-base : base ≡ add binary64 (getD costs i nan) (T .fixed)
   pub is-before : before ≡ getD fars i nan
   pub within : m ≤ length st
-  pub is-load : load ≡ loadOf (demandF (I .customers)) st m
-  pub fits : load ≤ I .capacity
-  pub is-gone : gone ≡ goneOf (legF I) st m
+  pub is-load : load ≡ loadOf (T .demand) st m
+  pub fits : load ≤ T .capacity
+  pub is-gone : gone ≡ goneOf (T .leg) st m
   pub is-prev : prev ≡ placeOf st m
-  pub filling : Filling (runsF I (λ _. st)) (farsF I (λ _. st)) i costs fars preds (i + m) cost far pred
+  pub filling : Filling (runsOf T (λ _. st)) (farsOf T (λ _. st)) i costs fars preds (i + m) cost far pred
 
-module _ (I : Instance) (st : List ℕ) (i : ℕ) (costs fars : List Float) (preds : List ℕ) (base before : Float) where
+module _ (T : Tariff) (st : List ℕ) (i : ℕ) (costs fars : List Float) (preds : List ℕ) (base before : Float) where
   -- before the first call
   pub setout : (gone : Float) → gone ≡ fl 0 → length costs ≡ cells → length fars ≡ cells → length preds ≡ cells
-      → base ≡ add binary64 (getD costs i nan) (I .fixed) → before ≡ getD fars i nan
-      → Along I st i costs fars preds base before costs fars preds 0 gone 0 0
+      → base ≡ add binary64 (getD costs i nan) (T .fixed) → before ≡ getD fars i nan
+      → Along T st i costs fars preds base before costs fars preds 0 gone 0 0
   unfolding loadOf placeOf goneOf
   setout gone g lc lf lp b w =
       record {
@@ -46,78 +48,127 @@ module _ (I : Instance) (st : List ℕ) (i : ℕ) (costs fars : List Float) (pre
         fits = omega arith;
         is-gone = g;
         is-prev = refl;
-        filling = rw add-zero (outset (runsF I (λ _. st)) (farsF I (λ _. st)) i costs fars preds lc lf lp);
+        filling = rw add-zero (outset (runsOf T (λ _. st)) (farsOf T (λ _. st)) i costs fars preds lc lf lp);
       }
 
   module _ (cost far : List Float) (pred : List ℕ) (load : ℕ) (gone : Float) (prev m : ℕ)
-      (A : Along I st i costs fars preds base before cost far pred load gone prev m) where
+      (A : Along T st i costs fars preds base before cost far pred load gone prev m) where
     abbrev Done : Type 0
-    Done = RowOf I st i costs fars preds cost far pred
+    Done = RowOf T st i costs fars preds cost far pred
 
-    ended : ((k : ℕ) → m < k → fitsF I st k ≡ false) → Done
-    ended z = finished (runsF I (λ _. st)) (farsF I (λ _. st)) i costs fars preds (i + m) cost far pred (A .filling) (λ k h. z (k - i) (omega arith))
+    ended : ((k : ℕ) → m < k → legalOf T st k ≡ false) → Done
+    ended z = finished (runsOf T (λ _. st)) (farsOf T (λ _. st)) i costs fars preds (i + m) cost far pred (A .filling) (λ k h. z (k - i) (omega arith))
+
+    no-load : ((k : ℕ) → m < k → fitsOf (T .demand) (T .capacity) st k ≡ false) → Done
+    unfolding legalOf
+    no-load z = ended (λ k h. ap (λ (t : Bool). T .allowed st k && t) (z k h) ∙ and-false (T .allowed st k))
 
     -- a call that is too much: the row is done
-    pub overfull : (d : ℕ) → d ≡ demandF (I .customers) (getD st m 0) → fitsLoad (load + d) (I .capacity) ≡ false → Done
-    unfolding loadOf fitsF
-    overfull d e o = ended (none-over (demandF (I .customers)) (I .capacity) st m (leb-false _ (I .capacity) (rw (A .is-load, e) at o)))
+    pub overfull : (d : ℕ) → d ≡ T .demand (getD st m 0) → fitsLoad (load + d) (T .capacity) ≡ false → Done
+    unfolding loadOf
+    overfull d e o = no-load (none-over (T .demand) (T .capacity) st m (leb-false _ (T .capacity) (rw (A .is-load, e) at o)))
 
     -- no call is left
     pub at-end : length st ≤ m → Done
-    unfolding fitsF
-    at-end o = ended (none-past (demandF (I .customers)) (I .capacity) st m o)
+    at-end o = no-load (none-past (T .demand) (T .capacity) st m o)
+
+    -- no longer run is allowed
+    pub barred : ((k : ℕ) → m < k → T .allowed st k ≡ false) → Done
+    unfolding legalOf
+    barred z = ended (λ k h. ap (λ (t : Bool). t && fitsOf (T .demand) (T .capacity) st k) (z k h))
 
     -- a call that fits: one cell more
-    module _ (d : ℕ) (leg gone' home : Float) (cost' far' : List Float) (pred' : List ℕ)
+    module _ (d : ℕ) (leg gone' : Float)
         (b : m < length st) (short : i + length st ≤ 128)
-        (ed : d ≡ demandF (I .customers) (getD st m 0))
-        (ef : fitsLoad (load + d) (I .capacity) ≡ true)
-        (el : leg ≡ legF I prev (getD st m 0))
-        (eg : gone' ≡ joinedF gone leg (eqb m 0))
-        (eh : home ≡ legF I (getD st m 0) 0)
-        (O : Offered (i + (m + 1)) i (add binary64 base (add binary64 gone' home)) (add binary64 before (add binary64 gone' home)) cost far pred cost' far' pred') where
-      load-is : load + d ≡ loadOf (demandF (I .customers)) st (suc m)
+        (ed : d ≡ T .demand (getD st m 0))
+        (ef : fitsLoad (load + d) (T .capacity) ≡ true)
+        (el : leg ≡ T .leg prev (getD st m 0))
+        (eg : gone' ≡ joinedF gone leg (eqb m 0)) where
+      load-is : load + d ≡ loadOf (T .demand) st (suc m)
       unfolding loadOf
       load-is = rw (A .is-load, ed) refl
 
-      gone-is : gone' ≡ goneOf (legF I) st (suc m)
+      gone-is : gone' ≡ goneOf (T .leg) st (suc m)
       unfolding goneOf
       gone-is = rw (eg, el, A .is-gone, A .is-prev) refl
 
-      far-is : add binary64 gone' home ≡ farF I st (suc m)
-      unfolding farF wayOf placeOf
-      far-is = rw (gone-is, eh) refl
+      pub far-is : (home : Float) → home ≡ T .leg (getD st m 0) 0 → add binary64 gone' home ≡ wayOf (T .leg) st (suc m)
+      unfolding wayOf placeOf
+      far-is home eh = rw (gone-is, eh) refl
 
-      fits-next : fitsF I st (suc m) ≡ true
-      unfolding fitsF
-      fits-next = fits-here (demandF (I .customers)) (I .capacity) st (suc m) b (leb-true _ (I .capacity) (rw load-is at ef))
+      fits-next : fitsOf (T .demand) (T .capacity) st (suc m) ≡ true
+      fits-next = fits-here (T .demand) (T .capacity) st (suc m) b (leb-true _ (T .capacity) (rw load-is at ef))
 
-      pub onward : Along I st i costs fars preds base before cost' far' pred' (load + d) gone' (getD st m 0) (m + 1)
+      abbrev Next : List Float → List Float → List ℕ → Type 0
+      Next cost' far' pred' = Along T st i costs fars preds base before cost' far' pred' (load + d) gone' (getD st m 0) (m + 1)
+
+      next : (cost' far' : List Float) (pred' : List ℕ) → Filling (runsOf T (λ _. st)) (farsOf T (λ _. st)) i costs fars preds (i + (m + 1)) cost' far' pred' → Next cost' far' pred'
       unfolding placeOf
-      onward =
-          let k = i + (m + 1) in
-          let is-m : k - i ≡ suc m = omega arith in
+      next cost' far' pred' F =
           record {
             is-base = A .is-base;
             is-before = A .is-before;
             within = omega arith;
-            is-load = load-is ∙ ap (loadOf (demandF (I .customers)) st) (sym (add-one m));
-            fits = leb-true (load + d) (I .capacity) ef;
-            is-gone = gone-is ∙ ap (goneOf (legF I) st) (sym (add-one m));
+            is-load = load-is ∙ ap (loadOf (T .demand) st) (sym (add-one m));
+            fits = leb-true (load + d) (T .capacity) ef;
+            is-gone = gone-is ∙ ap (goneOf (T .leg) st) (sym (add-one m));
             is-prev = ap (placeOf st) (sym (add-one m));
-            filling =
-                offered (runsF I (λ _. st)) (farsF I (λ _. st)) i costs fars preds (i + m) cost far pred (A .filling) k _ _ (omega arith)
-                (omega arith) (omega arith) (rw is-m fits-next)
-                (rw (A .is-base, far-is, is-m) refl) (rw (A .is-before, far-is, is-m) refl) cost' far' pred' (O .cost-put) (O .far-put) (O .pred-put);
+            filling = F;
           }
+
+      is-m : i + (m + 1) - i ≡ suc m
+      is-m = omega arith
+
+      -- the run is not allowed
+      pub over : T .allowed st (suc m) ≡ false → Next cost far pred
+      unfolding legalOf
+      over z =
+          next cost far pred
+          (passed (runsOf T (λ _. st)) (farsOf T (λ _. st)) i costs fars preds (i + m) cost far pred (A .filling) (i + (m + 1)) (omega arith) (omega arith) (rw is-m (rw z refl)))
+
+      -- it is
+      pub onward : (home new : Float) (cost' far' : List Float) (pred' : List ℕ) → home ≡ T .leg (getD st m 0) 0
+          → T .allowed st (suc m) ≡ true
+          → new ≡ added base (add binary64 gone' home ∷ T .pays st (suc m))
+          → Offered (i + (m + 1)) i new (add binary64 before (add binary64 gone' home)) cost far pred cost' far' pred'
+          → Next cost' far' pred'
+      unfolding legalOf farOf
+      onward home new cost' far' pred' eh z en O =
+          next cost' far' pred'
+          (offered (runsOf T (λ _. st)) (farsOf T (λ _. st)) i costs fars preds (i + m) cost far pred (A .filling) (i + (m + 1)) _ _ (omega arith)
+          (omega arith) (omega arith) (rw is-m (and-true _ _ z fits-next))
+          (en ∙ rw (A .is-base, far-is home eh, is-m) refl) (rw (A .is-before, far-is home eh, is-m) refl) cost' far' pred' (O .cost-put) (O .far-put) (O .pred-put))
+
+-- ---- a row whose start is not reached
+
+-- what equals infinity is not below it
+not-reached : (x : Float) → eq x (inf false) ≡ true → lt x (inf false) ≡ false
+unfolding eq lt
+not-reached nan e = refl
+not-reached (inf false) e = refl
+not-reached (inf true) e = absurd (false≢true e)
+not-reached (fin s m k) e = absurd (false≢true e)
+
+-- it wins no cell
+pub unreached : (T : Tariff) (st : List ℕ) (i : ℕ) (costs fars : List Float) (preds : List ℕ) (top : Float) → top ≡ inf false → eq (getD costs i nan) top ≡ true
+    → length costs ≡ cells → length fars ≡ cells → length preds ≡ cells → RowOf T st i costs fars preds costs fars preds
+unreached T st i costs fars preds top t e lc lf lp =
+    skipped (runsOf T (λ _. st)) (farsOf T (λ _. st)) i costs fars preds (strict (priceOf T (λ _. st))) (not-reached (getD costs i nan) (rw t at e)) lc lf lp
+
+-- ---- the rows of the calls held
+
+-- tariffs that are the same have the same rows
+pub same-tariff : (T U : Tariff) → T ≡ U → (st : List ℕ) (i : ℕ) (costs fars : List Float) (preds : List ℕ) (cost far : List Float) (pred : List ℕ)
+    → RowOf T st i costs fars preds cost far pred → RowOf U st i costs fars preds cost far pred
+same-tariff T U e st i costs fars preds cost far pred R = subst (λ (X : Tariff). RowOf X st i costs fars preds cost far pred) e R
 
 -- the part that is lent to row i
 pub lent-part : (held : List ℕ) (i : ℕ) → take (length held - i) (drop i held) ≡ drop i held
 lent-part held i = take-all (length held - i) (drop i held) (simp length-drop (le-refl _))
 
 -- a row along the stretch from i on is the row i of the calls held
-pub held-row : (I : Instance) (held st : List ℕ) (i : ℕ) (costs fars : List Float) (preds : List ℕ) (cost far : List Float) (pred : List ℕ) → st ≡ drop i held
-    → RowOf I st i costs fars preds cost far pred → RowDone (runsF I (stretches held)) (farsF I (stretches held)) i costs fars preds cost far pred
-held-row I held st i costs fars preds cost far pred e D =
-    let R : RowOf I (drop i held) i costs fars preds cost far pred = subst (λ (l : List ℕ). RowOf I l i costs fars preds cost far pred) e D in
+pub held-row : (T : Tariff) (held st : List ℕ) (i : ℕ) (costs fars : List Float) (preds : List ℕ) (cost far : List Float) (pred : List ℕ) → st ≡ drop i held
+    → RowOf T st i costs fars preds cost far pred → RowDone (runsOf T (stretches held)) (farsOf T (stretches held)) i costs fars preds cost far pred
+held-row T held st i costs fars preds cost far pred e D =
+    let R : RowOf T (drop i held) i costs fars preds cost far pred = subst (λ (l : List ℕ). RowOf T l i costs fars preds cost far pred) e D in
     record { cost-is = R .cost-is; far-is = R .far-is; pred-is = R .pred-is }

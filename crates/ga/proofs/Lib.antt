@@ -1,15 +1,17 @@
--- Lists written at the front of lent ones, and the calls held with their positions.
-pub mod Writing
-pub mod Holding
+-- Branches on what a call answers.
+pub mod Branches
 -- Along a stretch of calls: their records, which of its beginnings fit, and what a row of the table keeps.
 pub mod Reading
 pub mod Fitting
 pub mod Along
--- The calls that are too heavy, removed; and the answer.
-pub mod Sorting
+-- From the table to the cut, and to the answer.
+pub mod Cutting
 pub mod Answering
--- On a sheet of whole numbers within the limits the cut is that of crates/definitions.
-pub mod StretchExact
-pub mod SameTable
-pub mod SplitExact
-pub mod Exact
+-- The calls that are too heavy, removed.
+pub mod Sorting
+-- The clocks along a stretch, and what a row keeps without a break and with one.
+pub mod Clocks
+pub mod PlainAlong
+pub mod RestAlong
+-- The calls that cannot be cut, dropped.
+pub mod Settling

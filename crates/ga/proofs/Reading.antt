@@ -1,19 +1,15 @@
 -- Reading a call's record in the array of 64. Assumes nothing.
-use Prim.Native.Nat.{ℕ, zero, suc, _<_}
-use native.Mathlib.Nat.{not-suc-le-zero, le-of-suc-le-suc}
-use mathlib.Core.Path.{_≡_, refl, sym, ap, subst, _∙_}
-use mathlib.Core.List.{List, [], _∷_, map}
+use Prim.Native.Nat.{ℕ, _<_}
+use mathlib.Core.Path.{_≡_, sym, ap, subst, _∙_}
+use mathlib.Core.List.{List, map}
 use lib.ListN.{length, getD}
 use lib.Ieee.{Float}
 use Rattle.definitions.specs.Sheet.{CustomerOf}
 use Rattle.models.specs.declared.customer.Customer.{Customer}
 use Rattle.models.specs.Records.{customerOf}
-use Rattle.ga.specs.Stretch.{recordIndex, blank, demandF}
-
-pub getD-of : {A B : Type 0} (f : A → B) (l : List A) (i : ℕ) (d : A) (e : B) → i < length l → f (getD l i d) ≡ getD (map f l) i e
-getD-of f [] i d e h = absurd (not-suc-le-zero h)
-getD-of f (x ∷ l) zero d e h = refl
-getD-of f (x ∷ l) (suc i) d e h = getD-of f l i d e (le-of-suc-le-suc h)
+use Rattle.evaluation.specs.Tables.{recordIndex, blank}
+use Rattle.evaluation.proofs.Reading.{getD-of}
+use Rattle.ga.specs.Stretch.{demandF}
 
 pub read-demand : (customers : List Customer) (c i : ℕ) (d : Customer) → length customers ≡ 64 → (i ≡ recordIndex c) × (i < 64)
     → getD customers i d .demand ≡ demandF (map customerOf customers) c

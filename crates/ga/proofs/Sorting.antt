@@ -11,7 +11,7 @@ use Rattle.basics.specs.Lists.{only, count, length-count}
 use Rattle.definitions.specs.Drop.{callAt, callsAt}
 use Rattle.definitions.specs.Room.{written}
 use Rattle.ga.specs.Split.{sorted}
-use Rattle.ga.proofs.Writing.{written-more, count-snoc}
+use Rattle.table.proofs.Writing.{written-more, count-snoc}
 
 only-snoc : {A : Type 0} (p : A → Bool) (l : List A) (x : A) → only p (l ++ (x ∷ [])) ≡ only p l ++ only p (x ∷ [])
 only-snoc p [] x = refl

@@ -1,7 +1,6 @@
--- What the functions on the table and on the calls held do.
-pub mod Table
--- A stretch of calls, and the cut by capacity alone, on floats.
+-- A stretch of calls, and the runs along it, on floats.
 pub mod Stretch
+pub mod Tariff
+-- The cut by capacity alone, and the cut by capacity, windows, limits and break.
 pub mod Split
--- A sheet of whole numbers, held in floats.
-pub mod Image
+pub mod SplitTw

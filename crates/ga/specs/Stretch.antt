@@ -2,20 +2,12 @@
 use Prim.Native.Nat.{ℕ, zero, suc, _+_}
 use mathlib.Core.Bool.{Bool, cond, _&&_}
 use mathlib.Core.List.{List}
-use mathlib.Core.Option.{none}
 use lib.ListN.{length, getD}
-use lib.Dec.{ltb, leb, eqb}
+use lib.Dec.{leb, eqb}
 use lib.Ieee.{Float, binary64, add}
 use Rattle.definitions.specs.Sheet.{CustomerOf}
+use Rattle.evaluation.specs.Tables.{recordIndex, blank}
 use Rattle.whole.specs.Whole.{fl}
-
--- which of 64 records a call has: its own, or the first for a call beyond them
-abbrev pub recordIndex : ℕ → ℕ
-recordIndex c = cond (ltb c 64) c 0
-
--- what stands where there is no record
-abbrev pub blank : CustomerOf Float
-blank = record { demand = 0; service = fl 0; window = none; penalty = none }
 
 -- what a call asks for
 unfoldable pub demandF : List (CustomerOf Float) → ℕ → ℕ

@@ -1,3 +1,4 @@
 // The cut of a giant tour into runs.
 pub mod split;
-pub mod table;
+pub mod split_tw;
+pub mod stretch;

@@ -7,16 +7,17 @@ ghost use lib.ListN.{length, set};
 ghost use Rattle.definitions.specs.Drop.{callsAt};
 ghost use Rattle.definitions.specs.Room.{written};
 ghost use Rattle.models.specs.Records.{customerOf};
-ghost use Rattle.ga.specs.Split.{lent, RowOf, TableOf, CutDone, Counted, removalsF, splitF};
-use crate::table::fits;
-use crate::table::joined;
-use crate::table::offer;
-use crate::table::read_back;
-use crate::table::record_index;
-use crate::table::wide;
-use crate::table::write_front;
+ghost use Rattle.ga.specs.Tariff.{RowOf, TableOf, CutDone, Counted};
+ghost use Rattle.ga.specs.Split.{lent, tariff, removalsF, splitF};
+use crate::stretch::fits;
+use crate::stretch::joined;
+use crate::stretch::wide;
 use distance::matrix::get;
+use evaluation::schedule::record_index;
 use models::customer::Customer;
+use table::cells::offer;
+use table::cells::read_back;
+use table::held::write_front;
 use whole::infinity;
 
 // Row i: the runs along the stretch that starts at call i, each after the best of the calls before it.
@@ -34,7 +35,7 @@ pub fn row(
 )
     requires { ⌜ (length (now cost) ≡ 129) × (length (now dist) ≡ 129) × (length (now pred) ≡ 129) ⌝ }
     requires { ⌜ i + length (now stretch) ≤ 128 ⌝ }
-    ensures { λ _. ⌜ RowOf (lent customers (now (distances .entry)) size capacity fixed) (now (stretch .entry)) i (now (cost .entry)) (now (dist .entry)) (now (pred .entry)) (now (cost .exit)) (now (dist .exit)) (now (pred .exit)) ⌝ }
+    ensures { λ _. ⌜ RowOf (tariff (lent customers (now (distances .entry)) size capacity fixed)) (now (stretch .entry)) i (now (cost .entry)) (now (dist .entry)) (now (pred .entry)) (now (cost .exit)) (now (dist .exit)) (now (pred .exit)) ⌝ }
 {
     let base = cost[i] + fixed;
     let before = dist[i];
@@ -75,7 +76,7 @@ pub fn reached_row(
 )
     requires { ⌜ (length (now cost) ≡ 129) × (length (now dist) ≡ 129) × (length (now pred) ≡ 129) ⌝ }
     requires { ⌜ i + length (now stretch) ≤ 128 ⌝ }
-    ensures { λ _. ⌜ RowOf (lent customers (now (distances .entry)) size capacity fixed) (now (stretch .entry)) i (now (cost .entry)) (now (dist .entry)) (now (pred .entry)) (now (cost .exit)) (now (dist .exit)) (now (pred .exit)) ⌝ }
+    ensures { λ _. ⌜ RowOf (tariff (lent customers (now (distances .entry)) size capacity fixed)) (now (stretch .entry)) i (now (cost .entry)) (now (dist .entry)) (now (pred .entry)) (now (cost .exit)) (now (dist .exit)) (now (pred .exit)) ⌝ }
 {
     if cost[i] == infinity() {
         return;
@@ -107,8 +108,8 @@ pub fn rows(
     fixed: f64,
 )
     requires { ⌜ length (now held) ≤ 128 ⌝ }
-    requires { ⌜ TableOf (lent customers (now distances) size capacity fixed) (now held) 0 (now cost) (now dist) (now pred) ⌝ }
-    ensures { λ _. ⌜ TableOf (lent customers (now (distances .entry)) size capacity fixed) (now (held .entry)) (length (now (held .entry))) (now (cost .exit)) (now (dist .exit)) (now (pred .exit)) ⌝ }
+    requires { ⌜ TableOf (tariff (lent customers (now distances) size capacity fixed)) (now held) 0 (now cost) (now dist) (now pred) ⌝ }
+    ensures { λ _. ⌜ TableOf (tariff (lent customers (now (distances .entry)) size capacity fixed)) (now (held .entry)) (length (now (held .entry))) (now (cost .exit)) (now (dist .exit)) (now (pred .exit)) ⌝ }
 {
     let mut i: usize = 0;
     while i < held.len() {
@@ -147,7 +148,7 @@ pub fn cut(
     ends: &mut [usize; 129],
 ) -> Cutting
     requires { ⌜ (length (now held) ≤ 128) × (length (now ends) ≡ 129) ⌝ }
-    ensures { λ r. ⌜ CutDone (lent customers (now (distances .entry)) size capacity fixed) (now (held .entry)) (r .cost) (r .distance) (r .at) (now (ends .exit)) ⌝ }
+    ensures { λ r. ⌜ CutDone (tariff (lent customers (now (distances .entry)) size capacity fixed)) (now (held .entry)) (r .cost) (r .distance) (r .at) (now (ends .exit)) ⌝ }
 {
     let n = held.len();
     let top = infinity();

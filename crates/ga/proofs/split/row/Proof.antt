@@ -4,10 +4,10 @@ use Prim.Native.Nat.{_-_}
 use mathlib.Core.Path.{refl, sym, _∙_}
 use lib.ListN.{length}
 use denote.Ref.{now}
+use Rattle.ga.proofs.Branches.{fails, holds}
 use borrow.Author.Needs.{needs}
-use Rattle.basics.specs.Tests.{not-true, not-false}
 use Rattle.whole.specs.Bits.{fl-zero}
-use Rattle.ga.specs.Split.{lent}
+use Rattle.ga.specs.Split.{lent, tariff}
 use Rattle.ga.proofs.Reading.{read-demand}
 use Rattle.ga.proofs.Along.{Along, setout, overfull, at-end, onward}
 use Rattle.ga.proofs.split.row.Statement.{statement}
@@ -15,7 +15,7 @@ use Rattle.ga.proofs.split.row.Tie as tie
 
 abbrev Inv-loop : tie.InvT-loop
 Inv-loop cost₀ dist₀ pred₀ stretch distances size capacity fixed i customers base before load₀ gone₀ prev₀ m₀ cost dist pred load gone prev m =
-    Along (lent customers distances size capacity fixed) stretch i cost₀ dist₀ pred₀ base before cost dist pred load gone prev m
+    Along (tariff (lent customers distances size capacity fixed)) stretch i cost₀ dist₀ pred₀ base before cost dist pred load gone prev m
 
 abbrev μ-loop : tie.MeasureT-loop
 μ-loop cost₀ dist₀ pred₀ stretch distances size capacity fixed i customers base before load₀ gone₀ prev₀ m₀ cost dist pred load gone prev m =
@@ -37,8 +37,8 @@ loop-holds : tie.Need-loop-holds Inv-loop μ-loop
 loop-holds c =
     let s = c .before .before .before .before in
     let a = s .args in
-    let I = lent (a .t5) (now (a .distances)) (a .size) (a .capacity) (a .fixed) in
-    setout I (now (a .stretch)) (a .i) (now (a .cost)) (now (a .dist)) (now (a .pred)) _ _ _ (sym fl-zero) (s .pre .0 .0) (s .pre .0 .1) (s .pre .0 .2) refl refl
+    let T = tariff (lent (a .t5) (now (a .distances)) (a .size) (a .capacity) (a .fixed)) in
+    setout T (now (a .stretch)) (a .i) (now (a .cost)) (now (a .dist)) (now (a .pred)) _ _ _ (sym fl-zero) (s .pre .0 .0) (s .pre .0 .1) (s .pre .0 .2) refl refl
 
 mul-cid : tie.Need-mul-cid Inv-loop μ-loop
 mul-cid c = search needs
@@ -68,10 +68,10 @@ returns : tie.Need-returns Inv-loop μ-loop
 returns c =
     let s = c .before .before .before .before .before .before .before .before .before .before .before .before in
     let a = s .args in
-    let I = lent (a .t5) (now (a .distances)) (a .size) (a .capacity) (a .fixed) in
+    let T = tariff (lent (a .t5) (now (a .distances)) (a .size) (a .capacity) (a .fixed)) in
     let d = read-demand (a .t5) _ _ _ (s .good .1 .1 .1 .1 .0 .1 .0 .1) (c .before .before .before .before .record-index .ensures) in
-    overfull I (now (a .stretch)) (a .i) (now (a .cost)) (now (a .dist)) (now (a .pred)) _ _
-    _ _ _ _ _ _ _ (c .before .before .before .before .before .before .before .loop .inv) _ (c .before .before .wide .ensures .0 ∙ d) (sym (c .before .fits2 .ensures) ∙ not-true (c .before .fits2 .result) (c .if1 .taken))
+    overfull T (now (a .stretch)) (a .i) (now (a .cost)) (now (a .dist)) (now (a .pred)) _ _
+    _ _ _ _ _ _ _ (c .before .before .before .before .before .before .before .loop .inv) _ (c .before .before .wide .ensures .0 ∙ d) (fails _ _ (c .before .fits2 .ensures) (c .if1 .taken))
 
 get-requires : tie.Need-get-requires Inv-loop μ-loop
 get-requires c κs = search needs
@@ -98,18 +98,18 @@ loop-again : tie.Need-loop-again Inv-loop μ-loop
 loop-again c =
     let s = c .before .before .before .before .before .before .before .before .before .before .before .before .before .before .before .before .before .before .before in
     let a = s .args in
-    let I = lent (a .t5) (now (a .distances)) (a .size) (a .capacity) (a .fixed) in
+    let T = tariff (lent (a .t5) (now (a .distances)) (a .size) (a .capacity) (a .fixed)) in
     let d = read-demand (a .t5) _ _ _ (s .good .1 .1 .1 .1 .0 .1 .0 .1) (c .before .before .before .before .before .before .before .before .before .before .before .record-index .ensures) in
-    onward I (now (a .stretch)) (a .i) (now (a .cost)) (now (a .dist)) (now (a .pred)) _ _
-    _ _ _ _ _ _ _ (c .before .before .before .before .before .before .before .before .before .before .before .before .before .before .loop .inv) _ _ _ _ _ _ _ (c .before .before .before .before .before .before .before .before .before .before .before .before .before .loop-test .taken) (s .pre .1) (c .before .before .before .before .before .before .before .before .before .wide .ensures .0 ∙ d) (sym (c .before .before .before .before .before .before .before .before .fits2 .ensures) ∙ not-false (c .before .before .before .before .before .before .before .before .fits2 .result) (c .before .before .before .before .before .before .before .if1 .left))
-    (c .before .before .before .before .before .before .get .ensures) (c .before .before .before .before .before .joined .ensures) (c .before .before .before .before .get2 .ensures) (c .offer .ensures)
+    onward T (now (a .stretch)) (a .i) (now (a .cost)) (now (a .dist)) (now (a .pred)) _ _
+    _ _ _ _ _ _ _ (c .before .before .before .before .before .before .before .before .before .before .before .before .before .before .loop .inv) _ _ _ (c .before .before .before .before .before .before .before .before .before .before .before .before .before .loop-test .taken) (s .pre .1) (c .before .before .before .before .before .before .before .before .before .wide .ensures .0 ∙ d) (holds _ _ (c .before .before .before .before .before .before .before .before .fits2 .ensures) (c .before .before .before .before .before .before .before .if1 .left))
+    (c .before .before .before .before .before .before .get .ensures) (c .before .before .before .before .before .joined .ensures) _ _ _ _ _ (c .before .before .before .before .get2 .ensures) refl refl (c .offer .ensures)
 
 returns-2 : tie.Need-returns-2 Inv-loop μ-loop
 returns-2 c =
     let s = c .before .before .before .before .before .before in
     let a = s .args in
-    let I = lent (a .t5) (now (a .distances)) (a .size) (a .capacity) (a .fixed) in
-    at-end I (now (a .stretch)) (a .i) (now (a .cost)) (now (a .dist)) (now (a .pred)) _ _ _ _ _ _ _ _ _ (c .before .loop .inv) (c .loop-test .left)
+    let T = tariff (lent (a .t5) (now (a .distances)) (a .size) (a .capacity) (a .fixed)) in
+    at-end T (now (a .stretch)) (a .i) (now (a .cost)) (now (a .dist)) (now (a .pred)) _ _ _ _ _ _ _ _ _ (c .before .loop .inv) (c .loop-test .left)
 
 pub row-spec : {M : Type 1} → statement M
 row-spec =

@@ -7,14 +7,15 @@ use denote.Ref.{now}
 use borrow.Author.Needs.{needs}
 use Rattle.cutting.specs.Tab.{cells, length-tab}
 use Rattle.cutting.specs.Carried.{next}
-use Rattle.ga.specs.Split.{lent, stretches, runsF, farsF, TableOf}
+use Rattle.ga.specs.Tariff.{stretches, runsOf, farsOf, TableOf}
+use Rattle.ga.specs.Split.{lent, tariff}
 use Rattle.ga.proofs.Along.{lent-part, held-row}
 use Rattle.ga.proofs.split.rows.Statement.{statement}
 use Rattle.ga.proofs.split.rows.Tie as tie
 
 abbrev Inv-loop : tie.InvT-loop
 Inv-loop cost₀ dist₀ pred₀ held customers distances size capacity fixed i₀ cost dist pred i =
-    (i ≤ length held) × TableOf (lent customers distances size capacity fixed) held i cost dist pred
+    (i ≤ length held) × TableOf (tariff (lent customers distances size capacity fixed)) held i cost dist pred
 
 abbrev μ-loop : tie.MeasureT-loop
 μ-loop cost₀ dist₀ pred₀ held customers distances size capacity fixed i₀ cost dist pred i = length held - i
@@ -50,11 +51,11 @@ loop-again : tie.Need-loop-again Inv-loop μ-loop
 loop-again c =
     let l = c .before .before .before .before .before .before .loop in
     let a = c .before .before .before .before .before .before .before .before .before .args in
-    let I = lent (a .customers) (now (a .distances)) (a .size) (a .capacity) (a .fixed) in
+    let T = tariff (lent (a .customers) (now (a .distances)) (a .size) (a .capacity) (a .fixed)) in
     let held = now (a .held) in (
       omega arith,
-      next (runsF I (stretches held)) (farsF I (stretches held)) (l .i) (omega arith) (l .cost) (l .dist) (l .pred) (l .inv .1) _ _ _
-          (held-row I held _ (l .i) (l .cost) (l .dist) (l .pred) _ _ _ (lent-part held (l .i)) (c .reached-row .ensures)),
+      next (runsOf T (stretches held)) (farsOf T (stretches held)) (l .i) (omega arith) (l .cost) (l .dist) (l .pred) (l .inv .1) _ _ _
+          (held-row T held _ (l .i) (l .cost) (l .dist) (l .pred) _ _ _ (lent-part held (l .i)) (c .reached-row .ensures)),
     )
 
 returns : tie.Need-returns Inv-loop μ-loop
@@ -62,7 +63,7 @@ returns c =
     let l = c .before .loop in
     let a = c .before .before .before .before .args in
     let e : l .i ≡ length (now (a .held)) = omega arith in
-    subst (λ (k : ℕ). TableOf (lent (a .customers) (now (a .distances)) (a .size) (a .capacity) (a .fixed)) (now (a .held)) k (l .cost) (l .dist) (l .pred)) e (l .inv .1)
+    subst (λ (k : ℕ). TableOf (tariff (lent (a .customers) (now (a .distances)) (a .size) (a .capacity) (a .fixed))) (now (a .held)) k (l .cost) (l .dist) (l .pred)) e (l .inv .1)
 
 pub rows-spec : {M : Type 1} → statement M
 rows-spec =

@@ -1,10 +1,11 @@
 -- `split::split` meets its contract. Assumes nothing.
-use Prim.Native.Nat.{_-_}
 use native.Mathlib.Omega.{arith}
 use mathlib.Core.Path.{refl, sym, _∙_}
+use lib.ListN.{length}
 use lib.Seq.{length-take-le}
 use denote.Ref.{now}
-use Rattle.ga.specs.Split.{lent, splitF}
+use Rattle.ga.specs.Split.{lent, tariff, lightF, removalsF, splitF}
+use Rattle.ga.proofs.Sorting.{sorted-long}
 use Rattle.ga.proofs.Answering.{few-served, cut-lent, lent-few, few-ends, ends-written, answered}
 use borrow.Author.Needs.{needs}
 use Rattle.ga.proofs.split.split.Statement.{statement}
@@ -17,21 +18,27 @@ slice-reshare-prefix-cut : tie.Need-slice-reshare-prefix-cut
 slice-reshare-prefix-cut c =
     let a = c .before .before .before .before .before .before .before .before .before .before .before .before .args in
     let I = lent (a .customers) (now (a .distances)) (a .size) (a .capacity) (a .fixed) in
-    omega (arith, few-served I (now (a .tour)) _ (c .before .before .before .before .hold-light .ensures .0), c .before .before .before .before .hold-light .kept)
+    let h = removalsF (I .customers) (I .capacity) (now (a .tour)) in
+    let each = sorted-long (lightF (I .customers) (I .capacity)) (now (a .tour)) (length (now (a .tour))) in
+    omega (arith, few-served (now (a .tour)) h each _ (c .before .before .before .before .hold-light .ensures .0), c .before .before .before .before .hold-light .kept)
 
 slice-aggregate-cut : tie.Need-slice-aggregate-cut
 slice-aggregate-cut c =
     let a = c .before .before .before .before .before .before .before .before .before .before .before .before .before .args in
     let I = lent (a .customers) (now (a .distances)) (a .size) (a .capacity) (a .fixed) in
-    sym (length-take-le _ _ (omega (arith, few-served I (now (a .tour)) _ (c .before .before .before .before .before .hold-light .ensures .0), c .before .before .before .before .before .hold-light .kept)))
+    let h = removalsF (I .customers) (I .capacity) (now (a .tour)) in
+    let each = sorted-long (lightF (I .customers) (I .capacity)) (now (a .tour)) (length (now (a .tour))) in
+    sym (length-take-le _ _ (omega (arith, few-served (now (a .tour)) h each _ (c .before .before .before .before .before .hold-light .ensures .0), c .before .before .before .before .before .hold-light .kept)))
 
 cut-requires : tie.Need-cut-requires
 cut-requires c κs =
     let s = c .before .before .before .before .before .before .before .before .before .before .before .before .before .before in
     let a = s .args in
     let I = lent (a .customers) (now (a .distances)) (a .size) (a .capacity) (a .fixed) in
-    let h = c .before .before .before .before .before .before .hold-light in
-    let few = lent-few I (now (a .tour)) (h .result) (h .ensures .0) _ (cut-lent I (now (a .tour)) (h .result) (h .ensures .0) (now (a .served)) _ (h .ensures .1 .0)) in
+    let h = removalsF (I .customers) (I .capacity) (now (a .tour)) in
+    let each = sorted-long (lightF (I .customers) (I .capacity)) (now (a .tour)) (length (now (a .tour))) in
+    let k = c .before .before .before .before .before .before .hold-light in
+    let few = lent-few (now (a .tour)) h each (k .result) (k .ensures .0) _ (cut-lent (now (a .tour)) h each (k .result) (k .ensures .0) (now (a .served)) _ (k .ensures .1 .0)) in
     (omega (arith, few, s .pre .0), refl)
 
 mul-write-front : tie.Need-mul-write-front
@@ -51,8 +58,10 @@ write-front-requires c κs =
     let s = c .before .before .before .before .before .before .before .before .before .before .before .before .before .before .before .before .before .before in
     let a = s .args in
     let I = lent (a .customers) (now (a .distances)) (a .size) (a .capacity) (a .fixed) in
-    let h = c .before .before .before .before .before .before .before .before .before .before .hold-light in
-    let few = few-ends I (now (a .tour)) (h .result) (h .ensures .0) _ (cut-lent I (now (a .tour)) (h .result) (h .ensures .0) (now (a .served)) _ (h .ensures .1 .0)) _ _ _ _ (c .before .before .before .cut .ensures) in
+    let h = removalsF (I .customers) (I .capacity) (now (a .tour)) in
+    let each = sorted-long (lightF (I .customers) (I .capacity)) (now (a .tour)) (length (now (a .tour))) in
+    let k = c .before .before .before .before .before .before .before .before .before .before .hold-light in
+    let few = few-ends (now (a .tour)) h each (k .result) (k .ensures .0) (tariff I) _ (cut-lent (now (a .tour)) h each (k .result) (k .ensures .0) (now (a .served)) _ (k .ensures .1 .0)) _ _ _ _ (c .before .before .before .cut .ensures) in
     omega (arith, few, s .pre)
 
 sub-t22 : tie.Need-sub-t22
@@ -63,7 +72,9 @@ sub-t30 c =
     let s = c .before .before .before .before .before .before .before .before .before .before .before .before .before .before .before .before .before .before .before .before .before in
     let a = s .args in
     let I = lent (a .customers) (now (a .distances)) (a .size) (a .capacity) (a .fixed) in
-    few-served I (now (a .tour)) _ (c .before .before .before .before .before .before .before .before .before .before .before .before .before .hold-light .ensures .0)
+    let h = removalsF (I .customers) (I .capacity) (now (a .tour)) in
+    let each = sorted-long (lightF (I .customers) (I .capacity)) (now (a .tour)) (length (now (a .tour))) in
+    few-served (now (a .tour)) h each _ (c .before .before .before .before .before .before .before .before .before .before .before .before .before .hold-light .ensures .0)
 
 same-length : tie.Need-same-length
 same-length c = search needs
@@ -80,15 +91,17 @@ returns c =
     let s = c .before .before .before .before .before .before .before .before .before .before .before .before .before .before .before .before .before .before .before .before .before in
     let a = s .args in
     let I = lent (a .customers) (now (a .distances)) (a .size) (a .capacity) (a .fixed) in
-    let h = c .before .before .before .before .before .before .before .before .before .before .before .before .before .hold-light in
-    let l = cut-lent I (now (a .tour)) (h .result) (h .ensures .0) (now (a .served)) _ (h .ensures .1 .0) in
-    let k = c .before .before .before .before .before .before .cut .ensures in (
-      answered I (now (a .tour)) (h .result) (h .ensures .0) _ l _ _ _ _ k,
+    let h = removalsF (I .customers) (I .capacity) (now (a .tour)) in
+    let each = sorted-long (lightF (I .customers) (I .capacity)) (now (a .tour)) (length (now (a .tour))) in
+    let k = c .before .before .before .before .before .before .before .before .before .before .before .before .before .hold-light in
+    let l = cut-lent (now (a .tour)) h each (k .result) (k .ensures .0) (now (a .served)) _ (k .ensures .1 .0) in
+    let m = c .before .before .before .before .before .before .cut .ensures in (
+      answered (now (a .tour)) h each (k .result) (k .ensures .0) (tariff I) _ l _ _ _ _ m,
       (
-        h .ensures .1 .0,
+        k .ensures .1 .0,
         (
-          c .before .before .write-front .ensures ∙ ends-written I (now (a .tour)) (h .result) (h .ensures .0) _ l _ _ _ _ k (now (a .run-ends)),
-          h .ensures .1 .1,
+          c .before .before .write-front .ensures ∙ ends-written (now (a .tour)) h each (k .result) (k .ensures .0) (tariff I) _ l _ _ _ _ m (now (a .run-ends)),
+          k .ensures .1 .1,
         ),
       ),
     )

@@ -1,0 +1,165 @@
+-- On a sheet within the limits, lent in floats, the answers of `split` and of `split_tw` are those of crates/definitions. Assumes nothing.
+use Prim.Native.Nat.{ℕ, _≤_, _<_}
+use native.Mathlib.Nat.{add-zero}
+use native.Mathlib.Omega.{arith}
+use mathlib.Core.Path.{_≡_, refl, sym, ap, ap₂, _∙_}
+use mathlib.Core.Bool.{Bool, true, cond, not}
+use mathlib.Core.List.{List, [], _∷_, map}
+use mathlib.Core.Option.{Option, none, some}
+use lib.ListN.{length, getD, take, length-map}
+use lib.Seq.{getD-take}
+use lib.Dec.{leb}
+use lib.Ieee.{Float}
+use borrow.Author.Tests.{lt-ltb}
+use Rattle.basics.specs.Tests.{by-test}
+use Rattle.basics.specs.Options.{valueOr}
+use Rattle.basics.specs.Lists.{All, only, count, all-map, length-count}
+use Rattle.bounds.specs.Inside.{Sized, sized, Place, few-calls, calls-inside, call-inside, held-inside, record-inside, distance-inside}
+use Rattle.bounds.specs.CostBounds.{arc-priced, held-few}
+use Rattle.definitions.specs.Domain.{mostCalls}
+use Rattle.definitions.specs.Sheet.{CustomerOf, Sheet, depot, customer, distance}
+use Rattle.definitions.specs.Run.{distanceFrom, fits, price}
+use Rattle.definitions.specs.Clock.{arc}
+use Rattle.definitions.specs.Cutting.{Best, nothing, runEnds, cheapest}
+use Rattle.definitions.specs.Drop.{callAt, callsAt, Held, allHeld, result, light, removals, plainArc, split, drops, splitTw}
+use Rattle.definitions.specs.Refusals.{Within, WithinCalls}
+use Rattle.definitions.proofs.Placement.{cut}
+use Rattle.definitions.proofs.Promised.{by-clock}
+use Rattle.definitions.proofs.Least.{Reach, start, more, reach-append, best-of}
+use Rattle.distance.proofs.Exact.{lookup-exact}
+use Rattle.distance.specs.Lookup.{lookupF}
+use Rattle.models.specs.Image.{flCustomer}
+use Rattle.whole.specs.Whole.{fl}
+use Rattle.evaluation.specs.Tables.{blank}
+use Rattle.ga.specs.Stretch.{demandF}
+use Rattle.ga.specs.Tariff.{ResultF, planF, endsF, costF, distanceF}
+use Rattle.ga.specs.Split as Split
+use Rattle.ga.specs.Split.{lightF, sorted, removalsF, splitF}
+use Rattle.ga.specs.SplitTw as SplitTw
+use Rattle.ga.specs.SplitTw.{splitTwF}
+use Rattle.exact.specs.Image.{Image, flResult}
+use Rattle.evaluation.proofs.Reading.{getD-of}
+use Rattle.ga.proofs.Sorting.{sorted-long}
+use Rattle.exact.specs.TableExact.{costFl, farFl, Setting, RunIs, cost-exact, distance-exact, ends-exact}
+use Rattle.exact.specs.SplitExact as SplitExact
+use Rattle.exact.specs.SplitTwExact as SplitTwExact
+use Rattle.exact.specs.SplitTwExact.{ImageTw}
+use Rattle.exact.specs.DropsExact.{drops-exact}
+
+-- ---- what is looked up
+
+module _ (s : Sheet) (S : Sized s) where
+  -- customers beyond the places are not read
+  demand-exact : (customers : List (CustomerOf Float)) → take (s .places) customers ≡ map flCustomer (s .customers) → (c : ℕ) → Place s c → demandF customers c ≡ customer s c .demand
+  unfolding demandF
+  demand-exact customers hold c h =
+      ap (λ (t : Bool). getD customers (cond t c 0) blank .demand) (lt-ltb c 64 (omega (arith, S .few-places)))
+      ∙ ap (λ (x : CustomerOf Float). x .demand)
+      (sym (getD-take (s .places) customers c blank h)
+      ∙ ap (λ (l : List (CustomerOf Float)). getD l c blank) hold
+      ∙ sym (getD-of flCustomer (s .customers) c depot blank (record-inside s S c h)))
+
+  leg-exact : (I : Split.Instance) → Image s I → (a b : ℕ) → Place s a → Place s b → Split.tariff I .leg a b ≡ fl (distance s a b)
+  leg-exact I M a b p q =
+      ap₂ (λ (l : List Float) (n : ℕ). lookupF l n a b) (M .distances-hold) (M .size-holds)
+      ∙ lookup-exact (s .distances) (s .places) a b p q (distance-inside s S a b p q)
+
+-- ---- the removals
+
+only-same : (p q : ℕ → Bool) (l : List ℕ) → ((x : ℕ) → p x ≡ q x) → only p l ≡ only q l
+only-same p q [] e = refl
+only-same p q (x ∷ l) e = rw (e x, only-same p q l e)
+
+module _ (s : Sheet) (S : Sized s) (I : Split.Instance) (M : Image s I) (tour : List ℕ) (inside : All (Place s) tour) where
+  light-exact : (p : ℕ) → lightF (I .customers) (I .capacity) (callAt tour p) ≡ light s tour p
+  light-exact p =
+      ap₂ (λ (x y : ℕ). leb x y) (demand-exact s S (I .customers) (M .customers-hold) (callAt tour p) (call-inside s S tour _ inside) ∙ sym (add-zero (customer s (callAt tour p) .demand))) (M .capacity-holds)
+
+  removals-exact : removalsF (I .customers) (I .capacity) tour ≡ removals s tour
+  unfolding sorted removals
+  removals-exact =
+      ap₂ (λ (h d : List ℕ). record { held = h; dropped = d })
+      (only-same (λ p. lightF (I .customers) (I .capacity) (callAt tour p)) (light s tour) (count 1 (length tour)) light-exact)
+      (only-same (λ p. not (lightF (I .customers) (I .capacity) (callAt tour p))) (λ p. not (light s tour p)) (count 1 (length tour)) (λ p. ap not (light-exact p)))
+
+-- ---- light calls can be cut
+
+only-passes : (p : ℕ → Bool) (l : List ℕ) → All (λ (x : ℕ). p x ≡ true) (only p l)
+only-passes p [] = tt
+only-passes p (x ∷ l) = by-test (p x) (λ t. rw t (t, only-passes p l)) (λ f. rw f (only-passes p l))
+
+module _ (s : Sheet) where
+  abbrev Light : ℕ → Type 0
+  Light c = fits s (c ∷ []) ≡ true
+
+  alone : (c : ℕ) → Light c → plainArc s (c ∷ []) ≡ some (record { place = 0; cost = price s (distanceFrom s 0 (c ∷ [])) 0 })
+  unfolding plainArc
+  alone c h = rw h
+
+  -- each in a run of its own
+  reached : (calls : List ℕ) → All Light calls → (n : ℕ) × Reach (plainArc s) calls n
+  reached [] a = (0, start refl refl)
+  reached (c ∷ cs) a =
+      let r = reached cs (a .1) in
+      (_, reach-append (plainArc s) {u = c ∷ []} {v = cs} (more [] (c ∷ []) 0 _ (start refl refl) (alone c (a .0)) refl refl) (r .1))
+
+  no-run : plainArc s [] ≡ none
+  unfolding plainArc
+  no-run = refl
+
+  some-best : (calls : List ℕ) → All Light calls → (b : Best) × (cheapest (plainArc s) calls ≡ some b)
+  some-best calls a = let r = reached calls a in let m = best-of (plainArc s) no-run calls .below (r .0) (r .1) in (m .0, m .1)
+
+  held-light : (tour : List ℕ) → All Light (callsAt tour (removals s tour .held))
+  unfolding removals
+  held-light tour = all-map Light (callAt tour) (only (light s tour) (count 1 (length tour))) (only-passes (light s tour) (count 1 (length tour)))
+
+-- ---- the answer
+
+-- what the cut of the calls held gives, as it is written down
+abbrev cutAs : List ℕ → List ℕ → List ℕ → Float → Float → ResultF
+cutAs held dropped ends cost distance = record { served = held; ends = ends; dropped = dropped; cost = cost; distance = distance }
+
+-- of calls that have a cutting, where the runs are arcs
+cut-exact : (X : Setting) → ((i j : ℕ) → i < j → j ≤ length (X .held) → RunIs X i j) → (dropped : List ℕ) (b : Best) → cheapest (X .arc) (X .held) ≡ some b
+    → let T = X .tariff in let held = X .held in
+    cutAs held dropped (endsF T held) (costF T held) (distanceF T held) ≡ cutAs held dropped (runEnds (b .runs)) (fl (b .cost)) (farFl (X .sheet) (some b))
+cut-exact X runs-are dropped b e =
+    let T = X .tariff in
+    let held = X .held in
+    ap (λ (x : List ℕ). cutAs held dropped x (costF T held) (distanceF T held)) (ends-exact X runs-are b e)
+    ∙ ap (λ (x : Float). cutAs held dropped (runEnds (b .runs)) x (distanceF T held)) (cost-exact X runs-are ∙ ap costFl e)
+    ∙ ap (λ (x : Float). cutAs held dropped (runEnds (b .runs)) (fl (b .cost)) x) (distance-exact X runs-are ∙ ap (farFl (X .sheet)) e)
+
+pub split-exact : (s : Sheet) → Within s → (tour : List ℕ) → WithinCalls s tour → (I : Split.Instance) → Image s I → splitF I tour ≡ flResult (split s tour)
+unfolding splitF split
+split-exact s W tour T I M =
+    let S = sized s W in
+    let inside = calls-inside s tour T in
+    let h = removals s tour in
+    let held = callsAt tour (h .held) in
+    let m = some-best s held (held-light s tour) in
+    let few : length held ≤ mostCalls = omega (arith, few-calls s tour T, length-map (h .held) (callAt tour), ap (λ (k : Held). length (k .held)) (removals-exact s S I M tour inside), sorted-long (lightF (I .customers) (I .capacity)) tour (length tour)) in
+    let ins = held-inside s S tour (h .held) inside in
+    let D = demand-exact s S (I .customers) (M .customers-hold) in
+    let L = leg-exact s S I M in
+    ap (planF (Split.tariff I) tour) (removals-exact s S I M tour inside)
+    ∙ cut-exact (SplitExact.X s S I held ins few L D (M .capacity-holds) (M .fixed-holds)) (SplitExact.run-is s S I held ins few L D (M .capacity-holds) (M .fixed-holds)) (h .dropped) (m .0) (m .1)
+    ∙ sym (ap (λ (o : Option Best). flResult (result s tour h (valueOr nothing o))) (m .1))
+
+pub split-tw-exact : (s : Sheet) → Within s → (tour : List ℕ) → WithinCalls s tour → (I : SplitTw.Instance) → ImageTw s I → splitTwF I tour ≡ flResult (splitTw s tour)
+unfolding splitTwF splitTw
+split-tw-exact s W tour T I M =
+    let S = sized s W in
+    let inside = calls-inside s tour T in
+    let C = by-clock s in
+    let h = drops (arc s) tour in
+    let held = callsAt tour (h .held) in
+    let m = cut s (arc s) C tour in
+    let few = held-few (arc s) (arc-priced s S) tour (few-calls s tour T) in
+    let ins = held-inside s S tour (h .held) inside in
+    let D = demand-exact s S (I .tables .customers) (M .tables-hold .records-are) in
+    let all : length (allHeld tour .held) ≤ mostCalls = omega (arith, length-count 1 (length tour), few-calls s tour T) in
+    ap (planF (SplitTw.tariff I) tour) (drops-exact s S I M D tour inside all)
+    ∙ cut-exact (SplitTwExact.X s S I M held ins few D) (SplitTwExact.run-is s S I M held ins few D) (h .dropped) (m .0) (m .1)
+    ∙ sym (ap (λ (o : Option Best). flResult (result s tour h (valueOr nothing o))) (m .1))

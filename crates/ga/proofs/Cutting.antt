@@ -1,0 +1,71 @@
+-- From the table of the calls held to their cut. Assumes nothing.
+use Prim.Native.Nat.{ℕ, zero, suc, _+_, _-_, _<_, _≤_}
+use native.Mathlib.Nat.{le-refl, add-zero}
+use native.Mathlib.Omega.{arith}
+use mathlib.Core.Path.{_≡_, sym, ap, subst, _∙_}
+use mathlib.Core.Bool.{false}
+use mathlib.Core.List.{List, [], _∷_}
+use lib.ListN.{length, getD, take, drop, length-drop}
+use lib.Seq.{take-all}
+use lib.Ieee.{Float, nan, inf, lt}
+use Rattle.cutting.specs.Cut.{Rule, best, pred, backOf, ends}
+use Rattle.cutting.specs.Best.{pred-lt}
+use Rattle.cutting.specs.Back.{Falls}
+use Rattle.cutting.specs.First.{FirstOf, first-cong}
+use Rattle.cutting.specs.Tab.{cells}
+use Rattle.cutting.specs.Rows.{Legs, rule64, last-cost, last-falls, last-ends, last-has}
+use Rattle.cutting.specs.Carried.{last-far}
+use Rattle.ga.specs.Tariff.{Tariff, stretches, runsOf, farsOf, TableOf, endsF, CutDone}
+
+-- ---- what is read from the table
+
+module _ (T : Tariff) (held : List ℕ) (few : length held ≤ 128) (cost far : List Float) (pred : List ℕ) (R : TableOf T held (length held) cost far pred) where
+  abbrev runs : Legs
+  runs = runsOf T (stretches held)
+
+  inside : length held < cells
+  inside = omega arith
+
+  pub table-falls : Falls (λ j. getD pred j 0) (length held)
+  table-falls = subst (λ (l : List ℕ). Falls (λ j. getD l j 0) (length held)) (sym (R .preds-are)) (last-falls runs (length held) inside)
+
+  pub table-cut : (at : ℕ) (es : List ℕ) → (at ≤ cells) × (length es ≡ cells) → drop at es ≡ backOf (λ j. getD pred j 0) (length held) (length held) []
+      → CutDone T held (getD cost (length held) nan) (getD far (length held) nan) at es
+  table-cut at es l e =
+      record {
+        cost-is = ap (λ (x : List Float). getD x (length held) nan) (R .costs-are) ∙ last-cost runs (length held) inside;
+        distance-is = ap (λ (x : List Float). getD x (length held) nan) (R .fars-are) ∙ last-far runs (farsOf T (stretches held)) (length held) inside;
+        ends-are = e ∙ ap (λ (x : List ℕ). backOf (λ j. getD x j 0) (length held) (length held) []) (R .preds-are) ∙ last-ends runs (length held) inside;
+        inside = l .0;
+        long = l .1;
+      }
+
+  pub table-stuck : (r : ℕ) → FirstOf (λ k. lt (getD cost (k + 1) nan) (inf false)) (length held) r → FirstOf (λ k. lt (best (rule64 runs) (suc k)) (inf false)) (length held) r
+  table-stuck r F =
+      first-cong _ _ (length held) r
+      (λ k h. ap (λ (x : List Float). lt (getD x (k + 1) nan) (inf false)) (R .costs-are) ∙ last-has runs (length held) k inside h) F
+
+-- ---- there are no more runs than calls
+
+back-few : (p : ℕ → ℕ) (n f j : ℕ) (js : List ℕ) → Falls p n → j ≤ n → length (backOf p f j js) ≤ j + length js
+unfolding backOf
+back-few p n zero j js w h = omega arith
+back-few p n (suc f) zero js w h = omega arith
+back-few p n (suc f) (suc j) js w h =
+    let l = w (suc j) (omega arith) h in
+    omega (arith, back-few p n f (p (suc j)) (suc j ∷ js) w (omega (arith, l)), l)
+
+ends-few : {C : Type 0} (S : Rule C) (n : ℕ) → length (ends S n) ≤ n
+ends-few S n = rw add-zero at (back-few (λ j. pred S j) n n n [] (λ j h _. pred-lt S j h) (le-refl n))
+
+-- ---- the ends, as they are lent to be written
+
+module _ (T : Tariff) (held : List ℕ) (cost distance : Float) (at : ℕ) (es : List ℕ) (D : CutDone T held cost distance at es) where
+  pub part-is : take (cells - at) (drop at es) ≡ endsF T held
+  part-is = take-all (cells - at) (drop at es) (simp length-drop (omega (arith, D .long))) ∙ D .ends-are
+
+  pub few-runs : length (take (cells - at) (drop at es)) ≤ length held
+  few-runs = omega (arith, ap length part-is, ends-few (rule64 (runsOf T (stretches held))) (length held))
+
+  pub runs-are : cells - at ≡ length (endsF T held)
+  runs-are = omega (arith, ap length (D .ends-are), length-drop at es, D .long)

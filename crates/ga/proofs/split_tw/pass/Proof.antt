@@ -1,0 +1,73 @@
+-- `split_tw::pass` meets its contract: the arrays start as the table does before the first row, and what is read at the end is the table's. Assumes nothing.
+use mathlib.Core.Path.{refl, sym}
+use lib.Ieee.{ofBits}
+use denote.Ref.{now}
+use Rattle.whole.specs.Bits.{fl-zero}
+use Rattle.cutting.specs.Carried.{none-done}
+use Rattle.ga.specs.Tariff.{stretches, runsOf, farsOf}
+use Rattle.ga.specs.SplitTw.{lent, tariff}
+use Rattle.ga.proofs.Cutting.{table-falls, table-cut, table-stuck}
+use borrow.Author.Needs.{needs}
+use Rattle.ga.proofs.split_tw.pass.Statement.{statement}
+use Rattle.ga.proofs.split_tw.pass.Tie as tie
+
+infinity-requires : tie.Need-infinity-requires
+infinity-requires c κs = search needs
+
+array-write-cost : tie.Need-array-write-cost
+array-write-cost c = search needs
+
+rows-requires : tie.Need-rows-requires
+rows-requires c κs =
+    let s = c .before .before .before .before .before .before .before in
+    let a = s .args in
+    let T = tariff (lent (a .customers) (now (a .distances)) (now (a .times)) (a .size) (a .capacity) (a .fixed) (a .limits)) in
+    let held = now (a .held) in
+    (s .pre .0, none-done (runsOf T (stretches held)) (farsOf T (stretches held)) _ _ _ (c .before .before .before .infinity .ensures) (unfold ofBits in refl) (sym fl-zero))
+
+first-stuck-requires : tie.Need-first-stuck-requires
+first-stuck-requires c κs = search needs
+
+read-back-requires : tie.Need-read-back-requires
+read-back-requires c κs =
+    let s = c .before .before .before .before .before .before .before .before .before .before .before .before in
+    let a = s .args in
+    (s .pre, table-falls (tariff (lent (a .customers) (now (a .distances)) (now (a .times)) (a .size) (a .capacity) (a .fixed) (a .limits))) (now (a .held)) (s .pre .0) _ _ _ (c .before .before .before .before .rows .ensures))
+
+mul-total : tie.Need-mul-total
+mul-total c = search needs
+
+array-read-total : tie.Need-array-read-total
+array-read-total c = search needs
+
+mul-far : tie.Need-mul-far
+mul-far c = search needs
+
+array-read-far : tie.Need-array-read-far
+array-read-far c = search needs
+
+returns : tie.Need-returns
+returns c =
+    let s = c .before .before .before .before .before .before .before .before .before .before .before .before .before in
+    let a = s .args in
+    let T = tariff (lent (a .customers) (now (a .distances)) (now (a .times)) (a .size) (a .capacity) (a .fixed) (a .limits)) in
+    let R = c .before .before .before .before .before .rows .ensures in
+    record {
+      cut-done = table-cut T (now (a .held)) (s .pre .0) _ _ _ R _ _ (c .read-back .ensures .0) (c .read-back .ensures .1);
+      is-stuck = table-stuck T (now (a .held)) (s .pre .0) _ _ _ R _ (c .before .before .before .first-stuck .ensures);
+    }
+
+pub pass-spec : {M : Type 1} → statement M
+pass-spec =
+    tie.close
+    (tie.spec
+    infinity-requires
+    array-write-cost
+    rows-requires
+    first-stuck-requires
+    read-back-requires
+    mul-total
+    array-read-total
+    mul-far
+    array-read-far
+    returns)

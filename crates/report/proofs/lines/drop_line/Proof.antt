@@ -1,0 +1,38 @@
+-- `lines::drop_line` meets its contract. Assumes nothing.
+use native.Mathlib.Omega.{arith}
+use Rattle.report.proofs.Putting.{joined}
+use borrow.Author.Needs.{needs}
+use Rattle.report.proofs.lines.drop_line.Statement.{statement}
+use Rattle.report.proofs.lines.drop_line.Tie as tie
+
+slice-aggregate-numbered : tie.Need-slice-aggregate-numbered
+slice-aggregate-numbered c = search needs
+
+numbered-requires : tie.Need-numbered-requires
+numbered-requires c κs = search needs
+
+slice-aggregate-word : tie.Need-slice-aggregate-word
+slice-aggregate-word c = search needs
+
+word-requires : tie.Need-word-requires
+word-requires c κs = search needs
+
+same-length : tie.Need-same-length
+same-length c = search needs
+
+returns : tie.Need-returns
+returns c =
+    let w = c .before .before in
+    let n = w .before .before .before .before .before in
+    (joined (n .numbered .ensures .0) (w .word .ensures) (omega arith), omega arith)
+
+pub drop-line-spec : {M : Type 1} → statement M
+drop-line-spec =
+    tie.close
+    (tie.spec
+    slice-aggregate-numbered
+    numbered-requires
+    slice-aggregate-word
+    word-requires
+    same-length
+    returns)

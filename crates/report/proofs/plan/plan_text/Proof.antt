@@ -1,0 +1,51 @@
+-- `plan::plan_text` meets its contract. Assumes nothing.
+use native.Mathlib.Omega.{arith}
+use Rattle.report.specs.Plan.{planF}
+use Rattle.report.proofs.Putting.{joined}
+use borrow.Author.Needs.{needs}
+use Rattle.report.proofs.plan.plan_text.Statement.{statement}
+use Rattle.report.proofs.plan.plan_text.Tie as tie
+
+run-lines-requires : tie.Need-run-lines-requires
+run-lines-requires c κs = search needs
+
+drop-lines-requires : tie.Need-drop-lines-requires
+drop-lines-requires c κs = search needs
+
+whole-part-requires : tie.Need-whole-part-requires
+whole-part-requires c κs = search needs
+
+whole-part-requires-2 : tie.Need-whole-part-requires-2
+whole-part-requires-2 c κs = search needs
+
+total-line-requires : tie.Need-total-line-requires
+total-line-requires c κs = search needs
+
+same-length : tie.Need-same-length
+same-length c = search needs
+
+returns : tie.Need-returns
+unfolding planF
+returns c =
+    let t = c .before .before in
+    let cost = t .before in
+    let far = cost .before in
+    let d = far .before .before .before .before in
+    let r = d .before .before .before .before in
+    let room = r .before .before .before .before .before .before .before .before .before .pre .1 in
+    let runs = r .run-lines .ensures .1 in
+    let drops = d .drop-lines .ensures .1 in
+    let total = t .total-line .ensures .1 in
+    (rw (← far .whole-part .ensures, ← cost .whole-part2 .ensures) (joined (joined (r .run-lines .ensures .0) (d .drop-lines .ensures .0) (omega arith)) (t .total-line .ensures .0) (omega arith)), omega arith)
+
+pub plan-text-spec : {M : Type 1} → statement M
+plan-text-spec =
+    tie.close
+    (tie.spec
+    run-lines-requires
+    drop-lines-requires
+    whole-part-requires
+    whole-part-requires-2
+    total-line-requires
+    same-length
+    returns)

@@ -1,0 +1,3 @@
+-- Lists written at the front of lent ones, and the calls held with their positions.
+pub mod Writing
+pub mod Holding

@@ -1,0 +1,66 @@
+// The table of costs, distances and starts that a cutting fills, and its read-back. It has a cell for each beginning of at most 128 calls, the empty one included.
+ghost use mathlib.Core.Path.{_≡_};
+ghost use mathlib.Core.Bool.{false};
+ghost use mathlib.Core.List.{[]};
+ghost use Prim.Native.Nat.{_+_, _<_, _≤_};
+ghost use lib.ListN.{length, getD, drop};
+ghost use lib.Ieee.{nan, inf, lt};
+ghost use Rattle.cutting.specs.Cut.{backOf};
+ghost use Rattle.cutting.specs.Back.{Falls};
+ghost use Rattle.cutting.specs.First.{FirstOf};
+ghost use Rattle.table.specs.Table.{Offered};
+use whole::infinity;
+
+// Puts a cost and a distance at j, with the start i of the last run, where the cost is lower than what stands there.
+pub fn offer(
+    cost: &mut [f64; 129],
+    dist: &mut [f64; 129],
+    pred: &mut [usize; 129],
+    j: usize,
+    i: usize,
+    new_cost: f64,
+    new_dist: f64,
+)
+    requires { ⌜ j < 129 ⌝ }
+    ensures { λ _. ⌜ Offered j i «new_cost» «new_dist» (now (cost .entry)) (now (dist .entry)) (now (pred .entry)) (now (cost .exit)) (now (dist .exit)) (now (pred .exit)) ⌝ }
+{
+    if new_cost < cost[j] {
+        cost[j] = new_cost;
+        dist[j] = new_dist;
+        pred[j] = i;
+    }
+}
+
+// The ends of the runs, read back from n: they stand at the end of `ends`, from the place that is returned.
+pub fn read_back(pred: &[usize; 129], n: usize, ends: &mut [usize; 129]) -> usize
+    requires { ⌜ (n ≤ 128) × (length (now ends) ≡ 129) ⌝ }
+    requires { ⌜ Falls (λ j. getD (now pred) j 0) n ⌝ }
+    ensures { λ r. ⌜ (r ≤ 129) × (length (now (ends .exit)) ≡ 129) ⌝ }
+    ensures { λ r. ⌜ drop r (now (ends .exit)) ≡ backOf (λ j. getD (now (pred .entry)) j 0) n n [] ⌝ }
+{
+    let mut at: usize = 129;
+    let mut j = n;
+    while 0 < j {
+        at -= 1;
+        ends[at] = j;
+        j = pred[j];
+    }
+    at
+}
+
+// The place of the last call of the shortest beginning that has no cutting, and n where each has one.
+pub fn first_stuck(cost: &[f64; 129], n: usize) -> usize
+    requires { ⌜ n ≤ 128 ⌝ }
+    ensures { λ r. ⌜ FirstOf (λ k. lt (getD (now (cost .entry)) (k + 1) nan) (inf false)) n r ⌝ }
+{
+    let top = infinity();
+    let mut k: usize = 0;
+    while k < n {
+        if cost[k + 1] < top {
+            k += 1;
+        } else {
+            return k;
+        }
+    }
+    k
+}

@@ -1,0 +1,62 @@
+// The calls that a cutting holds, with their positions in the tour, and lists written at the front of lent ones.
+ghost use mathlib.Core.Path.{_≡_};
+ghost use Prim.Native.Nat.{_-_, _<_, _≤_};
+ghost use lib.ListN.{length, take};
+ghost use Rattle.basics.specs.Lists.{without, count};
+ghost use Rattle.definitions.specs.Room.{written};
+ghost use Rattle.table.specs.Table.{DropCall};
+
+// Takes the element at `at` out of the first n.
+pub fn remove(list: &mut [usize], n: usize, at: usize)
+    requires { ⌜ (at < n) × (n ≤ length (now list)) ⌝ }
+    ensures { λ _. ⌜ take (n - 1) (now (list .exit)) ≡ without at (take n (now (list .entry))) ⌝ }
+{
+    let mut k = at;
+    while k + 1 < n {
+        list[k] = list[k + 1];
+        k += 1;
+    }
+}
+
+// Drops the call at `at` of the n held: it goes out of the held customers and out of their positions, and its position is written after the `gone` that were dropped before.
+pub fn drop_call(
+    held: &mut [usize],
+    positions: &mut [usize],
+    n: usize,
+    at: usize,
+    dropped: &mut [usize],
+    gone: usize,
+)
+    requires { ⌜ (at < n) × (n ≤ length (now held)) × (n ≤ length (now positions)) ⌝ }
+    requires { ⌜ gone < length (now dropped) ⌝ }
+    ensures { λ _. ⌜ DropCall n at gone (now (held .entry)) (now (positions .entry)) (now (dropped .entry)) (now (held .exit)) (now (positions .exit)) (now (dropped .exit)) ⌝ }
+{
+    let place = positions[at];
+    dropped[gone] = place;
+    remove(&mut *held, n, at);
+    remove(&mut *positions, n, at);
+}
+
+// Writes a list at the front of another.
+pub fn write_front(from: &[usize], to: &mut [usize])
+    requires { ⌜ length (now from) ≤ length (now to) ⌝ }
+    ensures { λ _. ⌜ now (to .exit) ≡ written (now (from .entry)) (now (to .entry)) ⌝ }
+{
+    let mut k = 0;
+    while k < from.len() {
+        to[k] = from[k];
+        k += 1;
+    }
+}
+
+// Writes the numbers from 1 to n at the front.
+pub fn number(to: &mut [usize], n: usize)
+    requires { ⌜ n ≤ length (now to) ⌝ }
+    ensures { λ _. ⌜ now (to .exit) ≡ written (count 1 n) (now (to .entry)) ⌝ }
+{
+    let mut k = 0;
+    while k < n {
+        to[k] = k + 1;
+        k += 1;
+    }
+}
