@@ -1,0 +1,5 @@
+-- What the proofs of the listing share.
+pub mod Fronts
+pub mod Planned
+pub mod Reading
+pub mod FirstBytes

@@ -1,0 +1,108 @@
+// What the listing prints for the bytes of a sheet, written at the front of a lent buffer.
+ghost use Prim.Native.Nat.{_≤_};
+ghost use lib.ListN.{length};
+ghost use Rattle.definitions.specs.Sheet.{Sheet};
+ghost use Rattle.definitions.specs.Drop.{splitTw};
+ghost use Rattle.definitions.specs.Listing.{planText, listing};
+ghost use Rattle.report.specs.Put.{Put};
+ghost use Rattle.plan_listing.specs.Held.{InMemory, Held, Accepted};
+use ga::split_tw::split_tw;
+use models::customer::Customer;
+use models::head::Head;
+use report::lines::refusal_line;
+use report::plan::plan_text;
+use sheet::customers::customers_of;
+use sheet::head::head_of;
+use sheet::read::Reading;
+use sheet::read::read;
+use sheet::values::write_tour;
+use sheet::values::write_values;
+
+// The plan of the tour on the sheet that is held.
+fn cut_text(
+    out: &mut [u8],
+    tour: &[usize],
+    head: Head,
+    customers: [Customer; 64],
+    distances: &[f64],
+    times: &[f64],
+) -> usize
+    requires { ⌜ 16384 ≤ length (now out) ⌝ }
+    requires { ⌜ Held (now tour) head customers (now distances) (now times) ⌝ }
+    ensures text { λ r. ⌜ ((s : Sheet) → InMemory s (now (tour .entry)) head customers (now (distances .entry)) (now (times .entry)) → Put 0 (planText s (now (tour .entry)) (splitTw s (now (tour .entry)))) (now (out .entry)) (now (out .exit)) r) ⌝ }
+    ensures short { λ r. ⌜ r ≤ length (now (out .entry)) ⌝ }
+{
+    let mut served = [0usize; 128];
+    let mut ends = [0usize; 128];
+    let mut dropped = [0usize; 128];
+    let limits = head.limits;
+    let rest = limits.rest;
+    let cut = split_tw(
+        tour,
+        customers,
+        distances,
+        times,
+        head.places,
+        head.capacity,
+        head.fixed_cost,
+        limits,
+        &mut served,
+        &mut ends,
+        &mut dropped,
+    );
+    let n = cut.served;
+    let runs = cut.runs;
+    let gone = cut.dropped;
+    plan_text(
+        &mut *out,
+        0,
+        tour,
+        &served[..n],
+        &ends[..runs],
+        &dropped[..gone],
+        cut.distance,
+        cut.cost,
+        customers,
+        distances,
+        times,
+        head.places,
+        rest,
+    )
+}
+
+// The plan of accepted words.
+fn sheet_text(out: &mut [u8], bytes: &[u8]) -> usize
+    requires { ⌜ 16384 ≤ length (now out) ⌝ }
+    requires { ⌜ Accepted (now bytes) ⌝ }
+    ensures text { λ r. ⌜ Put 0 (listing (now (bytes .entry))) (now (out .entry)) (now (out .exit)) r ⌝ }
+    ensures short { λ r. ⌜ r ≤ length (now (out .entry)) ⌝ }
+{
+    let mut distances = [0.0; 4096];
+    let mut times = [0.0; 4096];
+    let mut tour = [0usize; 128];
+    let far = write_values(bytes, 0xC, &mut distances);
+    let long = write_values(bytes, 0xD, &mut times);
+    let calls = write_tour(bytes, &mut tour);
+    let head = head_of(bytes);
+    let customers = customers_of(bytes);
+    cut_text(
+        &mut *out,
+        &tour[..calls],
+        head,
+        customers,
+        &distances[..far],
+        &times[..long],
+    )
+}
+
+// For any bytes: the plan of the sheet that they are, or why they are refused.
+pub fn text(out: &mut [u8], bytes: &[u8]) -> usize
+    requires { ⌜ 16384 ≤ length (now out) ⌝ }
+    ensures text { λ r. ⌜ Put 0 (listing (now (bytes .entry))) (now (out .entry)) (now (out .exit)) r ⌝ }
+    ensures short { λ r. ⌜ r ≤ length (now (out .entry)) ⌝ }
+{
+    match read(bytes) {
+        Reading::Sheet(_) => sheet_text(&mut *out, bytes),
+        Reading::Refused(number, word) => { refusal_line(&mut *out, 0, number as u64, word as u64) }
+    }
+}
