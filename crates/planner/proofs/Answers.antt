@@ -6,7 +6,7 @@ use prog.Wp.{Heap}
 use ghost.Atoms.{Atoms}
 use types.Kit.{Given}
 use denote.RattleType.{RattleType}
-use denote.Laws.{Is, Tells, Lawful}
+use denote.Laws.{Is, Tells, Lawful, Makes}
 use denote.Struct.Laws as LL
 use denote.Enum.Laws as EL
 use Rattle.models.specs.declared.head.Head.{Head}
@@ -18,6 +18,10 @@ use Rattle.planner.proofs.evaluating.Cost as Ct
 use Rattle.planner.proofs.evaluating.Cost.Laws as Ct′
 use Rattle.planner.proofs.evaluating.Evaluation as Et
 use Rattle.planner.proofs.evaluating.Evaluation.Laws as Et′
+use Rattle.planner.proofs.cutting.Cut as Kt
+use Rattle.planner.proofs.cutting.Cut.Laws as Kt′
+use Rattle.planner.proofs.reading.Read as Rt
+use Rattle.planner.proofs.reading.Read.Laws as Rt′
 
 abbrev pub Hd : RattleType
 Hd = T.the-row
@@ -31,6 +35,12 @@ Cd = Ct.the-row
 abbrev pub Ed : RattleType
 Ed = Et.the-row
 
+abbrev pub Kd : RattleType
+Kd = Kt.the-row
+
+abbrev pub Rd : RattleType
+Rd = Rt.the-row
+
 -- the head's machine value
 abbrev pub head-mach : Head → Val
 head-mach h = LL.val T.the-type T′.the-laws h
@@ -40,6 +50,10 @@ head-vals h = LL.vals T.the-type T′.the-laws h
 
 pub head-tells : Tells Hd (Is Hd) head-vals
 head-tells = LL.tells T.the-type T′.the-laws
+
+-- the reader's answer owns only facts
+pub read-makes : {M : Type 1} (𝓤 : URA M) (H : Heap 𝓤) (A : Atoms 𝓤) → Makes 𝓤 H A Rd (Is Rd)
+read-makes = EL.makes Rt.the-type Rt′.the-plain
 
 module _ {M : Type 1} (𝓤 : URA M) (H : Heap 𝓤) (A : Atoms 𝓤) (W : Given 𝓤 H A) where
   pub head-lawful : Lawful 𝓤 H A Hd
@@ -53,3 +67,9 @@ module _ {M : Type 1} (𝓤 : URA M) (H : Heap 𝓤) (A : Atoms 𝓤) (W : Given
 
   pub eval-lawful : Lawful 𝓤 H A Ed
   eval-lawful = EL.lawful Et.the-type Et′.the-laws 𝓤 H A W tt
+
+  pub cut-lawful : Lawful 𝓤 H A Kd
+  cut-lawful = EL.lawful Kt.the-type Kt′.the-laws 𝓤 H A W tt
+
+  pub read-lawful : Lawful 𝓤 H A Rd
+  read-lawful = EL.lawful Rt.the-type Rt′.the-laws 𝓤 H A W tt

@@ -3,5 +3,21 @@ pub mod Answers
 -- The array in place of the customers lent, refused and accepted calls.
 pub mod Padded
 pub mod Accepting
+pub mod CallAnswers
+-- The evaluations of a run.
 pub mod RunAnswers
 pub mod EvalCase
+-- The cutting of a tour.
+pub mod CutAnswers
+pub mod SplitCase
+-- The reader.
+pub mod ReadAnswers
+-- Walks by hand with the locals as one item.
+pub mod Locals
+pub mod Reborrowing
+-- The walk of a public call, for any lists that are lent to it.
+pub mod CallWalk
+pub mod LentLists
+pub mod PublicCall
+pub mod RunLists
+pub mod CutLists

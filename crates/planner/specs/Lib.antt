@@ -1,2 +1,6 @@
 -- The answers of the evaluations of a run.
 pub mod Evaluating
+-- The answers of the cutting of a tour.
+pub mod Cutting
+-- The answer of the reader.
+pub mod Reading

@@ -1,2 +1,4 @@
 // The public calls: thin functions over lent slices above the proved cores.
+pub mod cutting;
 pub mod evaluating;
+pub mod reading;
