@@ -26,6 +26,7 @@ use Rattle.checks.proofs.Ranging.{places-high}
 use Rattle.checks.proofs.Deciding.{same-records}
 use Rattle.evaluation.specs.Records.{lent, limitsOf}
 use Rattle.evaluation.specs.Image.{flLimits, Image}
+use Rattle.planner.specs.Meant.{sheetLent}
 
 -- ---- the number
 
@@ -65,7 +66,7 @@ module _ (head : Head) (customers : List Customer) (distances times : List Float
   lentSheet = sheetOf head customers distances times
 
   abbrev pub meant : Sheet
-  meant = wholeSheet value lentSheet
+  meant = sheetLent head customers distances times
 
   module _ (count : ℕ) (array : List Customer) (G : Gathered customers count array) (held : own lentSheet ≡ flSheet meant) where
     pub limits-held : limitsOf (head .limits) ≡ flLimits meant

@@ -21,3 +21,7 @@ pub mod LentLists
 pub mod PublicCall
 pub mod RunLists
 pub mod CutLists
+-- What a caller of a cutting is given.
+pub mod ManyClauses
+pub mod Promised
+pub mod CutCalls

@@ -62,14 +62,14 @@ module _ (ks : List Kind) (res : RattleType) where
   m = length ks
 
   -- the core's signature, and the call's, with each parameter kept to the exit
-  abbrev core : Ended
+  abbrev pub core : Ended
   core =
       record {
         signature = record { lifetimes = m; outlives = []; params = plain (λ _. Hd) ∷ plain (λ _. Rs) ∷ plain (λ _. usize) ∷ slots m 0 ks; result = plain (λ _. res) };
         kept = (yes, (yes, (yes, kepts m 0 ks)));
       }
 
-  abbrev call : Ended
+  abbrev pub call : Ended
   call =
       record {
         signature = record { lifetimes = suc m; outlives = []; params = plain (λ _. Hd) ∷ shrSliceOf (0 ∷ []) tt (plain (λ _. R)) ∷ slots (suc m) 1 ks; result = plain (λ _. res) };

@@ -1,3 +1,5 @@
+-- The sheet that is meant.
+pub mod Meant
 -- The answers of the evaluations of a run.
 pub mod Evaluating
 -- The answers of the cutting of a tour.
