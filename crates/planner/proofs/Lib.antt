@@ -25,3 +25,14 @@ pub mod CutLists
 pub mod ManyClauses
 pub mod Promised
 pub mod CutCalls
+pub mod ImproverRows
+-- The improvers.
+pub mod ImproverAnswers
+pub mod ReversalAnswers
+pub mod ReversalLists
+-- The marker.
+pub mod Fronts
+pub mod MarkCase
+pub mod MarkAnswers
+pub mod MarkRow
+pub mod MarkLists

@@ -6,3 +6,7 @@ pub mod Evaluating
 pub mod Cutting
 -- The answer of the reader.
 pub mod Reading
+-- The answers of the improvers.
+pub mod Improving
+-- The answer of the marker.
+pub mod Marking

@@ -2,3 +2,5 @@
 pub mod cutting;
 pub mod evaluating;
 pub mod reading;
+pub mod improving;
+pub mod marking;
