@@ -10,6 +10,7 @@ mod models;
 mod random;
 mod reader;
 mod record;
+mod runs;
 mod sheet;
 mod solomon;
 mod word;
@@ -23,11 +24,12 @@ fn main() {
         ["list"] => list(),
         ["random", n] => random(number(n)),
         ["record", n, ..] => record::write(number(n), &args[2..]),
+        ["runs", n] => runs::write(number(n)),
         ["compare", program, n, ..] => {
             exit(i32::from(!compare::all(program, number(n), &args[3..])))
         }
         _ => {
-            eprintln!("usage: oracle list | random N | record N FILE.. | compare PROGRAM N FILE..");
+            eprintln!("usage: oracle list | random N | record N FILE.. | runs N | compare PROGRAM N FILE..");
             exit(2)
         }
     }

@@ -1,4 +1,4 @@
-//! Recorded answers: for each sheet the length of its bytes, the bytes, the length of its listing and the listing; lengths are 32 bits, little-endian.
+//! Recorded answers: for each question, as a sheet, the length of its bytes, the bytes, the length of its answer, as its listing, and the answer; lengths are 32 bits, little-endian.
 use crate::compare::{from_file, generated};
 use crate::random::Source;
 use crate::{answer, word};
@@ -14,13 +14,18 @@ pub fn write(count: usize, instances: &[String]) {
             .flat_map(|file| from_file(file))
             .map(|words| word::bytes(&words)),
     );
-    let mut out = std::io::stdout().lock();
     for file in &sheets {
-        for part in [&file[..], answer(file).as_bytes()] {
-            let length = u32::try_from(part.len()).expect("a short part");
-            out.write_all(&length.to_le_bytes())
-                .expect("standard output");
-            out.write_all(part).expect("standard output");
-        }
+        put(file, answer(file).as_bytes());
+    }
+}
+
+/// A question and its answer, each behind its length.
+pub fn put(question: &[u8], answer: &[u8]) {
+    let mut out = std::io::stdout().lock();
+    for part in [question, answer] {
+        let length = u32::try_from(part.len()).expect("a short part");
+        out.write_all(&length.to_le_bytes())
+            .expect("standard output");
+        out.write_all(part).expect("standard output");
     }
 }

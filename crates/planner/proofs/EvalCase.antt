@@ -24,7 +24,7 @@ use Rattle.planner.proofs.RunAnswers.{accepted-run}
 
 -- ---- each case of the code's answer
 
-start-in : (x : Start) → startIn (startOf x) ≡ x
+pub start-in : (x : Start) → startIn (startOf x) ≡ x
 start-in Unbroken = refl
 start-in (At t) = refl
 

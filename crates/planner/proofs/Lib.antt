@@ -36,3 +36,6 @@ pub mod MarkCase
 pub mod MarkAnswers
 pub mod MarkRow
 pub mod MarkLists
+-- The visits of a run.
+pub mod RouteAnswers
+pub mod RouteRows

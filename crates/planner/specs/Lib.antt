@@ -10,3 +10,5 @@ pub mod Reading
 pub mod Improving
 -- The answer of the marker.
 pub mod Marking
+-- The answer of the visits of a run.
+pub mod Visiting

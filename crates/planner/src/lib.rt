@@ -4,3 +4,4 @@ pub mod evaluating;
 pub mod reading;
 pub mod improving;
 pub mod marking;
+pub mod visiting;

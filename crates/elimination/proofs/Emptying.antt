@@ -1,0 +1,62 @@
+-- A run that may go: what it saves, and what its customers add elsewhere. Assumes nothing.
+use Prim.Native.Nat.{ℕ, _+_}
+use native.Mathlib.Omega.{arith}
+use mathlib.Core.Path.{_≡_, ap, ap₂, _∙_}
+use mathlib.Core.Bool.{true, false}
+use mathlib.Core.List.{List, map}
+use mathlib.Core.Option.{none, some}
+use lib.ListN.{length, drop, length-drop, length-map}
+use lib.Ieee as Ieee
+use lib.Ieee.{Float, binary64}
+use Rattle.basics.specs.Options.{_>>=_, given}
+use Rattle.definitions.specs.Sheet.{CustomerOf}
+use Rattle.definitions.specs.Sort.{falling, sort}
+use Rattle.definitions.specs.Elimination.{Parted}
+use Rattle.whole.specs.Whole.{fl}
+use Rattle.elimination.specs.declared.insertion.Placed.{Placed}
+use Rattle.elimination.specs.declared.sorting.Order.{Order}
+use Rattle.elimination.specs.RunLists.{room, runsIn}
+use Rattle.elimination.specs.Sorted.{byKey, itemOf, Ordered, keyedCall, byDemand}
+use Rattle.elimination.specs.Insertion.{TermsF, legF, demandF, placeAllF, placedOf}
+use Rattle.elimination.specs.Elimination.{finiteF, routeDistanceF, savedF, emptiedF}
+use Rattle.elimination.proofs.Ordering.{sort-length, moving-is}
+
+-- the run as it is lent, and what it saves
+pub saved-is : (T : TermsF) (part run : List ℕ) → part ≡ run → (far : Float) → far ≡ routeDistanceF (legF T) part → Ieee.add binary64 far (T .fixed) ≡ savedF T run
+saved-is T part run e far ef = ap (λ (x : Float). Ieee.add binary64 x (T .fixed)) (ef ∙ ap (routeDistanceF (legF T)) e)
+
+-- its customers, in the order in which they move
+pub moved-is : (T : TermsF) (saved : Float) (part run : List ℕ) → part ≡ run → (moving : Order) → Ordered (byDemand (T .tables .customers) part) moving
+    → (rest others : List (List ℕ)) → rest ≡ others
+    → placeAllF T (fl 0) saved (map itemOf (drop (moving .at) (moving .list))) rest ≡ placeAllF T (fl 0) saved (sort (falling (demandF T)) run) others
+moved-is T saved part run e moving O rest others er =
+    ap₂ (placeAllF T (fl 0) saved) (ap (map itemOf) (O .is) ∙ moving-is (T .tables .customers) part ∙ ap (sort (falling (demandF T))) e) er
+
+pub moving-many : (customers : List (CustomerOf Float)) (part run : List ℕ) → part ≡ run → (moving : Order) → Ordered (byDemand customers part) moving → moving .at + length run ≡ room
+moving-many customers part run e moving O =
+    let l = byDemand customers part in
+    let n : length (sort byKey l) ≡ length l = sort-length byKey l in
+    omega (arith, n, ap length (O .is), length-drop (moving .at) (moving .list), O .long, O .within, length-map part (keyedCall customers), ap length e)
+
+module _ (T : TermsF) (p : Parted) (saved : Float) (es : saved ≡ savedF T (p .run)) where
+  pub not-finite : finiteF saved ≡ false → none ≡ emptiedF T p
+  unfolding emptiedF
+  not-finite f = let g = rw es at f in rw g
+
+  module _ (fin : finiteF saved ≡ true) (q : Placed) (eq : placedOf q ≡ placeAllF T (fl 0) saved (sort (falling (demandF T)) (p .run)) (p .rest)) where
+    -- the run goes when the customers are placed for less than is saved
+    decided : (placedOf q >>= λ r. given (Ieee.lt (r .added) (Ieee.sub binary64 saved (T .floor))) (r .runs)) ≡ emptiedF T p
+    unfolding emptiedF
+    decided =
+        let g = rw es at fin in
+        let e = rw es at eq in
+        rw (g, es, ← e)
+
+    pub not-placed : q .found ≡ false → none ≡ emptiedF T p
+    not-placed f = let d = rw f at decided in d
+
+    pub goes : q .found ≡ true → Ieee.lt (q .added) (Ieee.sub binary64 saved (T .floor)) ≡ true → some (runsIn (q .runs)) ≡ emptiedF T p
+    goes f t = let d = rw (f, t) at decided in d
+
+    pub stays : q .found ≡ true → Ieee.lt (q .added) (Ieee.sub binary64 saved (T .floor)) ≡ false → none ≡ emptiedF T p
+    stays f t = let d = rw (f, t) at decided in d

@@ -1,0 +1,28 @@
+-- Lists at the front of arrays and of lent lists.
+pub mod Fronts
+pub mod Writing
+-- Run lists by value: what they hold, and what a changed one holds.
+pub mod Holding
+pub mod RunParts
+pub mod Changing
+pub mod Keeping
+-- Sorting.
+pub mod Inserting
+pub mod Filling
+-- Candidates.
+pub mod Gathering
+pub mod Placing
+pub mod Going
+-- The search for a run that can go.
+pub mod Legs
+pub mod Ordering
+pub mod Emptying
+pub mod Fewer
+pub mod Searching
+pub mod Answering
+-- On a sheet of whole numbers within the limits the elimination is that of crates/definitions.
+pub mod CostExact
+pub mod GoodRuns
+pub mod CandidatesExact
+pub mod PlaceExact
+pub mod EliminationExact

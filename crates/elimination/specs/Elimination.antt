@@ -1,0 +1,80 @@
+-- eliminate_routes on floats, as the code has it, over runs as lists. Definitions only.
+use Prim.Native.Nat.{ℕ, zero, suc}
+use mathlib.Core.Path.{_≡_}
+use mathlib.Core.Bool.{Bool, true, false, cond, _&&_}
+use mathlib.Core.List.{List, [], _∷_}
+use mathlib.Core.Option.{Option, none, some}
+use lib.ListN.{length}
+use lib.Ieee as Ieee
+use lib.Ieee.{Float, binary64, inf}
+use Rattle.basics.specs.Options.{_>>=_, given}
+use Rattle.basics.specs.Lists.{without}
+use Rattle.definitions.specs.Sort.{rising, falling, sort}
+use Rattle.definitions.specs.RunList.{callsOf}
+use Rattle.definitions.specs.Elimination.{maybe, nonEmpty, Parted, parted}
+use Rattle.whole.specs.Whole.{fl}
+use Rattle.elimination.specs.declared.route_elimination.Tried.{Tried}
+use Rattle.elimination.specs.RunLists.{Sound, runsIn, runAt}
+use Rattle.elimination.specs.Insertion.{TermsF, legF, demandF, placeAllF}
+
+-- neither infinite nor NaN
+abbrev pub finiteF : Float → Bool
+finiteF x = Ieee.lt x (inf false) && Ieee.lt (inf true) x
+
+-- from place a through the calls and home, leg by leg, on top of what is gone already
+unfoldable pub onwardF : (ℕ → ℕ → Float) → Float → ℕ → List ℕ → Float
+onwardF leg far a [] = Ieee.add binary64 far (leg a 0)
+onwardF leg far a (c ∷ cs) = onwardF leg (Ieee.add binary64 far (leg a c)) c cs
+
+-- the distance of a run; a run without calls has none
+unfoldable pub routeDistanceF : (ℕ → ℕ → Float) → List ℕ → Float
+routeDistanceF leg [] = fl 0
+routeDistanceF leg (c ∷ cs) = onwardF leg (leg 0 c) c cs
+
+-- run k, and the other runs in their order
+abbrev pub partAt : List (List ℕ) → ℕ → Parted
+partAt rs k = record { run = runAt rs k; rest = without k rs }
+
+module _ (T : TermsF) where
+  -- what goes with a run
+  abbrev pub savedF : List ℕ → Float
+  savedF run = Ieee.add binary64 (routeDistanceF (legF T) run) (T .fixed)
+
+  -- the run's customers by falling demand go to the others, which take them for less than is saved
+  unfoldable pub emptiedF : Parted → Option (List (List ℕ))
+  emptiedF p =
+      let saved = savedF (p .run) in
+      let placed = placeAllF T (fl 0) saved (sort (falling (demandF T)) (p .run)) (p .rest) in
+      cond (finiteF saved) (placed >>= λ q. given (Ieee.lt (q .added) (Ieee.sub binary64 saved (T .floor))) (q .runs)) none
+
+  unfoldable pub firstEmptiedF : List Parted → Option (List (List ℕ))
+  firstEmptiedF [] = none
+  firstEmptiedF (p ∷ ps) =
+      let later = firstEmptiedF ps in
+      maybe (emptiedF p) later some
+
+  -- the shortest run first: what is left after the first that can go
+  unfoldable pub searchF : List (List ℕ) → Option (List (List ℕ))
+  searchF runs = firstEmptiedF (sort (rising (λ (p : Parted). length (p .run))) (parted runs))
+
+  -- the search begins again after a success
+  unfoldable pub searchesF : ℕ → List (List ℕ) → List (List ℕ)
+  searchesF zero runs = nonEmpty runs
+  searchesF (suc bound) runs = maybe (searchF (nonEmpty runs)) (nonEmpty runs) (searchesF bound)
+
+  -- the runs that eliminate_routes gives
+  unfoldable pub eliminatedF : List (List ℕ) → List (List ℕ)
+  eliminatedF runs = searchesF (length runs) runs
+
+-- what is answered
+abbrev pub triedOf : Tried → Option (List (List ℕ))
+triedOf t = cond (t .found) (some (runsIn (t .runs))) none
+
+pub record Tries (o : Option (List (List ℕ))) (t : Tried) : Type 0 where
+  pub is : triedOf t ≡ o
+  pub sound : Sound (t .runs)
+
+-- how many calls and runs are left
+pub record Counts (rs : List (List ℕ)) (calls runs : ℕ) : Type 0 where
+  pub calls-count : calls ≡ length (callsOf rs)
+  pub runs-count : runs ≡ length rs

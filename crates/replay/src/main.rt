@@ -1,0 +1,39 @@
+// Replays recorded answers of the Rust planner: reads records on standard input, computes each answer anew, and says whether all are alike.
+ghost use Rattle.replay.specs.Tally.{InRun};
+
+mod alike;
+mod closing;
+mod record;
+mod seen;
+mod tally;
+
+use crate::closing::closing_text;
+use crate::seen::Seen;
+use crate::seen::is_answer;
+use crate::seen::next;
+use crate::tally::Tally;
+use crate::tally::counted;
+use crate::tally::start;
+
+// No more sheets than this are replayed in one run.
+const MOST: u64 = 1_000_000_000_000;
+
+// Says how the run ended.
+fn print_closing(tally: Tally, last: Seen)
+    requires { ⌜ InRun tally ⌝ }
+{
+    let mut out = [0u8; 128];
+    let end = closing_text(&mut out, tally, last);
+    io::write_all(1, &out[..end]);
+}
+
+// Record by record, up to the end of the input or the first record that is none.
+fn main() {
+    let mut tally = start();
+    let mut last = next();
+    while tally.sheets < MOST && is_answer(last) {
+        tally = counted(tally, last);
+        last = next();
+    }
+    print_closing(tally, last);
+}
