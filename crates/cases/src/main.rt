@@ -1,10 +1,173 @@
 // The bench cases a to q, each cut by the planner: a line says the runs as customers, with the break and the time at home where the sheet has a break, then the dropped positions, cost and distance.
-mod printing;
 mod sheets;
 
-use crate::printing::show;
+use crate::sheets::Sheet;
 use crate::sheets::base;
+use evaluation::route::RouteEval;
+use evaluation::route::Start;
+use io::print_decimal;
+use io::write_all;
 use models::customer::Penalty;
+use models::vehicle::Rest;
+use planner::cutting::Cut;
+use planner::evaluating::Evaluation;
+use std::num::truncating_f64_to_u64;
+
+fn text(bytes: &[u8]) {
+    write_all(1, bytes);
+}
+
+fn number(n: usize) {
+    print_decimal(1, n as u64);
+}
+
+// A whole number that a float holds.
+fn amount(x: f64) {
+    if x > -1.0 {
+        if x < 18446744073709551616.0 {
+            print_decimal(1, truncating_f64_to_u64(x));
+        }
+    }
+}
+
+fn after_blank(n: usize) {
+    text(b" ");
+    number(n);
+}
+
+fn numbers(list: &[usize]) {
+    let mut i = 0;
+    while i < list.len() {
+        after_blank(list[i]);
+        i += 1;
+    }
+}
+
+fn has_break(sheet: Sheet) -> bool {
+    let head = sheet.head;
+    let limits = head.limits;
+    let rest = limits.rest;
+    match rest {
+        Rest::Unbroken => false,
+        Rest::Break(_) => true,
+    }
+}
+
+fn evaluate(sheet: Sheet, run: &[usize]) -> Evaluation {
+    let head = sheet.head;
+    let customers = sheet.customers;
+    let distances = sheet.distances;
+    let times = [0.0];
+    trial::route_eval(head, customers, &distances, &times[..0], run)
+}
+
+// The break, if one is taken, and the time at home.
+fn show_times(eval: RouteEval) {
+    let start = eval.start;
+    if let Start::At(time) = start {
+        text(b" rest ");
+        number(eval.place);
+        text(b" at ");
+        amount(time);
+    }
+    text(b" home ");
+    amount(eval.duration);
+}
+
+// A run as customers, with its break where the sheet has one.
+fn show_run(sheet: Sheet, run: &[usize]) {
+    text(b" run");
+    numbers(run);
+    if has_break(sheet) {
+        if let Evaluation::Allowed(eval) = evaluate(sheet, run) {
+            show_times(eval);
+        }
+    }
+    text(b";");
+}
+
+fn show_stretch(sheet: Sheet, served: &[usize], from: usize, to: usize) {
+    if from <= to {
+        if to <= served.len() {
+            show_run(sheet, &served[from..to]);
+        }
+    }
+}
+
+fn item(list: &[usize], i: usize) -> usize {
+    if i < list.len() { list[i] } else { 0 }
+}
+
+// The runs that end at the first n of the ends.
+fn show_runs(sheet: Sheet, served: &[usize], ends: &[usize], n: usize) {
+    let mut from = 0;
+    let mut i = 0;
+    while i < n {
+        let to = item(ends, i);
+        show_stretch(sheet, served, from, to);
+        from = to;
+        i += 1;
+    }
+}
+
+fn show_drops(positions: &[usize]) {
+    text(b" drop");
+    numbers(positions);
+    text(b";");
+}
+
+// The first n of the dropped positions, if there are any.
+fn show_dropped(dropped: &[usize], n: usize) {
+    if n > 0 {
+        if n <= dropped.len() {
+            show_drops(&dropped[0..n]);
+        }
+    }
+}
+
+fn cut(
+    sheet: Sheet,
+    tour: &[usize],
+    served: &mut [usize],
+    ends: &mut [usize],
+    dropped: &mut [usize],
+) -> Cut {
+    let head = sheet.head;
+    let customers = sheet.customers;
+    let distances = sheet.distances;
+    let times = [0.0];
+    trial::split_tw(
+        head,
+        customers,
+        &distances,
+        &times[..0],
+        tour,
+        served,
+        ends,
+        dropped,
+    )
+}
+
+// A case: its name, its runs, its drops, and what they come to.
+fn show(name: &[u8], sheet: Sheet, tour: &[usize]) {
+    let mut served = [0; 2];
+    let mut ends = [0; 2];
+    let mut dropped = [0; 2];
+    let cut = cut(sheet, tour, &mut served, &mut ends, &mut dropped);
+    text(name);
+    text(b":");
+    let Cut::Cut(counts) = cut else {
+        text(b" refused\n");
+        return;
+    };
+    show_runs(sheet, &served, &ends, counts.runs);
+    show_dropped(&dropped, counts.dropped);
+    text(b" cost ");
+    amount(counts.cost);
+    text(b" distance ");
+    amount(counts.distance);
+    text(b"\n");
+}
 
 fn loads(both: &[usize]) {
     let nobody = [0];

@@ -1,5 +1,7 @@
 // The sheets of the bench cases: the base, and the changes by which a case differs from it.
-ghost use Prim.Native.Nat.{_<_};
+ghost use mathlib.Core.Path.{_≡_};
+ghost use Prim.Native.Nat.{_+_, _*_, _<_};
+ghost use lib.ListN.{set};
 use lending::blanks;
 use lending::put;
 use models::customer::Customer;
@@ -36,7 +38,9 @@ fn limits(max_distance: Limit, rest: Rest) -> RouteLimits {
 }
 
 // Three places, with the depot: legs 0-1 10, 0-2 12, 1-2 5 both ways, demands 2, capacity 4.
-pub fn base() -> Sheet {
+pub fn base() -> Sheet
+    ensures { λ r. ⌜ (r .head .places ≡ 3) × (r .head .capacity ≡ 4) ⌝ }
+{
     let head = Head {
         places: 3,
         capacity: 4,
@@ -54,7 +58,9 @@ pub fn base() -> Sheet {
 }
 
 impl Sheet {
-    pub fn capacity(mut self, capacity: u32) -> Sheet {
+    pub fn capacity(mut self, capacity: u32) -> Sheet
+        ensures { λ r. ⌜ (r .head .capacity ≡ capacity) × (r .customers ≡ self .customers) × (r .distances ≡ self .distances) ⌝ }
+    {
         self.head.capacity = capacity;
         self
     }
@@ -63,31 +69,40 @@ impl Sheet {
     pub fn leg(mut self, from: usize, to: usize, distance: f64) -> Sheet
         requires { ⌜ from < 3 ⌝ }
         requires { ⌜ to < 3 ⌝ }
+        ensures { λ r. ⌜ (r .head ≡ self .head) × (r .customers ≡ self .customers) × (r .distances ≡ set (self .distances) (from * 3 + to) distance) ⌝ }
     {
         self.distances[from * 3 + to] = distance;
         self
     }
 
     // The window and the penalty of customer 1.
-    pub fn window(mut self, ready: f64, due: f64, penalty: Penalty) -> Sheet {
+    pub fn window(mut self, ready: f64, due: f64, penalty: Penalty) -> Sheet
+        ensures { λ r. ⌜ (r .head ≡ self .head) × (r .distances ≡ self .distances) ⌝ }
+    {
         let first = customer(Opening::Window(TimeWindow { ready, due }), penalty);
         self.customers[1] = first;
         self
     }
 
     // No case has both a distance limit and a break.
-    fn limits(mut self, limits: RouteLimits) -> Sheet {
+    fn limits(mut self, limits: RouteLimits) -> Sheet
+        ensures { λ r. ⌜ (r .head .limits ≡ limits) × (r .customers ≡ self .customers) × (r .distances ≡ self .distances) ⌝ }
+    {
         let mut head = self.head;
         head.limits = limits;
         self.head = head;
         self
     }
 
-    pub fn distance_limit(self, limit: f64) -> Sheet {
+    pub fn distance_limit(self, limit: f64) -> Sheet
+        ensures { λ r. ⌜ (r .customers ≡ self .customers) × (r .distances ≡ self .distances) ⌝ }
+    {
         self.limits(limits(Limit::At(limit), Rest::Unbroken))
     }
 
-    pub fn rest(self, earliest: f64, latest: f64, duration: f64) -> Sheet {
+    pub fn rest(self, earliest: f64, latest: f64, duration: f64) -> Sheet
+        ensures { λ r. ⌜ (r .customers ≡ self .customers) × (r .distances ≡ self .distances) ⌝ }
+    {
         let rest = VehicleBreak {
             earliest,
             latest,

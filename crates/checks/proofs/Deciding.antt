@@ -26,7 +26,7 @@ use Rattle.models.specs.declared.head.Head.{Head}
 use Rattle.checks.specs.declared.kind.Kind.{Kind}
 use Rattle.checks.specs.Lent.{sheetOf, lentOf, Gathered}
 use Rattle.checks.specs.Falling.{pairsFallF}
-use Rattle.checks.specs.Order.{callOf, badHead, byRows, runsOddOf}
+use Rattle.checks.specs.Order.{needsOf, callOf, badHead, byRows, runsOddOf}
 use Rattle.checks.proofs.Rows.{all-rows}
 use Rattle.checks.proofs.Falling.{pairs-exact}
 use Rattle.checks.proofs.Ranging.{places-high}
@@ -68,7 +68,6 @@ pub record Given : Type 0 where
   pub calls : List ℕ
   pub ends : List ℕ
   pub breaks : List ℕ
-  pub needs : List ℕ
   pub rooms : List ℕ
 
 abbrev sheetOn : Given → List Customer → SheetOf Float
@@ -78,12 +77,15 @@ abbrev lentOn : Given → List Customer → Lent Float
 lentOn g customers = lentOf (sheetOn g customers) (g .tour) (g .calls) (g .ends) (g .breaks) (g .rooms)
 
 abbrev callOn : Given → Call
-callOn g = callOf (g .kind) (g .needs)
+callOn g = callOf (g .kind)
+
+abbrev needsOn : Given → List ℕ
+needsOn g = needsOf (g .kind .results) (length (g .tour)) (length (g .calls)) (length (g .ends))
 
 -- ---- its tests, as the code has them
 
 abbrev shortOn : Given → Bool
-shortOn g = either (ltb (g .count) (g .head .places) ∷ short (g .needs) (g .rooms) ∷ (g .kind .marks && ltb (length (g .breaks)) (length (g .ends))) ∷ [])
+shortOn g = either (ltb (g .count) (g .head .places) ∷ short (needsOn g) (g .rooms) ∷ (g .kind .marks && ltb (length (g .breaks)) (length (g .ends))) ∷ [])
 
 abbrev oddOn : Given → Bool
 oddOn g = tablesOdd (sheetOf (g .head) [] (g .distances) (g .times))
@@ -108,7 +110,7 @@ module _ (g : Given) (customers : List Customer) (G : Gathered customers (g .cou
 
   module _ (h : shortOn g ≡ false) where
     enough : g .head .places ≤ g .count
-    enough = ltb-false (g .count) (g .head .places) (or-left (ltb (g .count) (g .head .places)) (either (short (g .needs) (g .rooms) ∷ (g .kind .marks && ltb (length (g .breaks)) (length (g .ends))) ∷ [])) h)
+    enough = ltb-false (g .count) (g .head .places) (or-left (ltb (g .count) (g .head .places)) (either (short (needsOn g) (g .rooms) ∷ (g .kind .marks && ltb (length (g .breaks)) (length (g .ends))) ∷ [])) h)
 
     same : isPlaces (g .head .places) ≡ true → take (g .head .places) (map customerOf customers) ≡ take (g .head .places) (map customerOf (g .array))
     same i = same-records customers (g .count) (g .array) G (g .head .places) (places-high (g .head .places) i) enough

@@ -11,18 +11,28 @@ use Rattle.basics.specs.Options.{valueOr}
 use Rattle.basics.specs.Lists.{any}
 use Rattle.definitions.specs.Domain.{isPlaces, isCapacity, isNumber, mostCalls}
 use Rattle.definitions.specs.Sheet.{SheetOf, records, own}
-use Rattle.definitions.specs.Lent.{Lent, Call, call}
+use Rattle.definitions.specs.Lent.{Lent, Call, call, violationRoom}
 use Rattle.definitions.specs.Refusals.{unfit, badLimit, badBreak, badCustomer, badDepot, badTour, badRunList, endsFall, emptyRun, breakBeyond, refusalOf, wholeSheet}
 use Rattle.whole.specs.Value.{value}
 use Rattle.models.specs.Image.{flSheet}
 use Rattle.models.specs.declared.customer.Customer.{Customer}
 use Rattle.checks.specs.declared.kind.Kind.{Kind}
+use Rattle.checks.specs.declared.kind.Results.{Results}
+use Rattle.checks.specs.declared.kind.Results.the-variants.{Nothing, Cut, Visits, Run, RunList}
 use Rattle.checks.specs.Lent.{Gathered}
 use Rattle.checks.specs.Rows.{rowsFind}
 
--- the call that the flags and the lengths needed make
-abbrev pub callOf : Kind → List ℕ → Call
-callOf kind needs = call (kind .«takes_ends») (kind .marks) (kind .improves) (λ tour calls ends. needs)
+-- how long the result lists have to be, for a tour, a list of calls and run ends of these lengths
+abbrev pub needsOf : Results → (tour calls ends : ℕ) → List ℕ
+needsOf Nothing tour calls ends = []
+needsOf Cut tour calls ends = tour ∷ tour ∷ tour ∷ []
+needsOf Visits tour calls ends = calls ∷ violationRoom calls ∷ []
+needsOf Run tour calls ends = calls ∷ []
+needsOf RunList tour calls ends = calls ∷ ends ∷ []
+
+-- the call of this kind
+abbrev pub callOf : Kind → Call
+callOf kind = call (kind .«takes_ends») (kind .marks) (kind .improves) (needsOf (kind .results))
 
 -- refusal 1 of what stands before the customers
 unfoldable pub badHead : SheetOf Float → Bool

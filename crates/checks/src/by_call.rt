@@ -4,6 +4,7 @@ ghost use Rattle.definitions.specs.Lent.{cutting, evaluating, visiting, marking
 ghost use Rattle.checks.specs.Lent.{sheetOf, lentOf};
 ghost use Rattle.checks.specs.Order.{Refuses, Images};
 use crate::kind::Kind;
+use crate::kind::Results;
 use crate::order::refusal;
 use models::customer::Customer;
 use models::head::Head;
@@ -24,13 +25,12 @@ pub fn refuse_cutting(
     ensures image { λ r. ⌜ Images (λ cs. sheetOf head cs (now (distances .entry)) (now (times .entry))) count customers r ⌝ }
 {
     let none: [usize; 0] = [];
-    let n = tour.len();
-    let needs = [n, n, n];
     let rooms = [served, run_ends, dropped];
     let kind = Kind {
         takes_ends: false,
         marks: false,
         improves: false,
+        results: Results::Cut,
     };
     refusal(
         kind,
@@ -43,7 +43,6 @@ pub fn refuse_cutting(
         &none,
         &none,
         &none,
-        &needs,
         &rooms,
     )
 }
@@ -65,6 +64,7 @@ pub fn refuse_evaluating(
         takes_ends: false,
         marks: false,
         improves: false,
+        results: Results::Nothing,
     };
     refusal(
         kind,
@@ -75,7 +75,6 @@ pub fn refuse_evaluating(
         times,
         &none,
         run,
-        &none,
         &none,
         &none,
         &none,
@@ -97,13 +96,12 @@ pub fn refuse_visiting(
     ensures image { λ r. ⌜ Images (λ cs. sheetOf head cs (now (distances .entry)) (now (times .entry))) count customers r ⌝ }
 {
     let none: [usize; 0] = [];
-    let n = run.len();
-    let needs = [n, n + 3];
     let rooms = [visits, violations];
     let kind = Kind {
         takes_ends: false,
         marks: false,
         improves: false,
+        results: Results::Visits,
     };
     refusal(
         kind,
@@ -116,7 +114,6 @@ pub fn refuse_visiting(
         run,
         &none,
         &none,
-        &needs,
         &rooms,
     )
 }
@@ -141,6 +138,7 @@ pub fn refuse_marking(
         takes_ends: true,
         marks: true,
         improves: false,
+        results: Results::Nothing,
     };
     refusal(
         kind,
@@ -153,7 +151,6 @@ pub fn refuse_marking(
         calls,
         ends,
         breaks,
-        &none,
         &none,
     )
 }
@@ -172,12 +169,12 @@ pub fn refuse_reversing(
     ensures image { λ r. ⌜ Images (λ cs. sheetOf head cs (now (distances .entry)) (now (times .entry))) count customers r ⌝ }
 {
     let none: [usize; 0] = [];
-    let needs = [run.len()];
     let rooms = [result];
     let kind = Kind {
         takes_ends: false,
         marks: false,
         improves: true,
+        results: Results::Run,
     };
     refusal(
         kind,
@@ -190,7 +187,6 @@ pub fn refuse_reversing(
         run,
         &none,
         &none,
-        &needs,
         &rooms,
     )
 }
@@ -211,12 +207,12 @@ pub fn refuse_eliminating(
     ensures image { λ r. ⌜ Images (λ cs. sheetOf head cs (now (distances .entry)) (now (times .entry))) count customers r ⌝ }
 {
     let none: [usize; 0] = [];
-    let needs = [calls.len(), ends.len()];
     let rooms = [result_calls, result_ends];
     let kind = Kind {
         takes_ends: true,
         marks: false,
         improves: true,
+        results: Results::RunList,
     };
     refusal(
         kind,
@@ -229,7 +225,6 @@ pub fn refuse_eliminating(
         calls,
         ends,
         &none,
-        &needs,
         &rooms,
     )
 }

@@ -5,10 +5,10 @@ ghost use lib.ListN.{take};
 ghost use Rattle.basics.specs.Lists.{any};
 ghost use Rattle.models.specs.Records.{customerOf};
 ghost use Rattle.checks.specs.Customers.{testOf};
-use crate::numbers::fewer;
 use crate::records::bad_customer;
 use crate::records::is_soft;
 use crate::records::window_falls;
+use models::count::fewer;
 use models::customer::Customer;
 
 // What is asked of a customer's record, in the order of the refusals.

@@ -9,6 +9,9 @@ ghost use Rattle.basics.specs.Tests.{either};
 ghost use Rattle.definitions.specs.Room as Room;
 ghost use Rattle.definitions.specs.Refusals.{tablesOdd};
 ghost use Rattle.checks.specs.Lent.{sheetOf};
+ghost use Rattle.checks.specs.Order.{needsOf};
+use crate::kind::Kind;
+use crate::kind::Results;
 use models::head::Head;
 
 // Some list is shorter than it has to be.
@@ -28,19 +31,55 @@ pub fn short(needs: &[usize], rooms: &[usize]) -> bool
     false
 }
 
+// A result list is shorter than the call needs for what it is lent.
+pub fn results_short(
+    results: Results,
+    tour: &[usize],
+    calls: &[usize],
+    ends: &[usize],
+    rooms: &[usize],
+) -> bool
+    ensures { λ r. ⌜ r ≡ Room.short (needsOf results (length (now (tour .entry))) (length (now (calls .entry))) (length (now (ends .entry)))) (now (rooms .entry)) ⌝ }
+{
+    let t = tour.len();
+    let n = calls.len();
+    match results {
+        Results::Nothing => false,
+        Results::Cut => {
+            let needs = [t, t, t];
+            short(&needs, rooms)
+        }
+        Results::Visits => {
+            let needs = [n, n + 3];
+            short(&needs, rooms)
+        }
+        Results::Run => {
+            let needs = [n];
+            short(&needs, rooms)
+        }
+        Results::RunList => {
+            let needs = [n, ends.len()];
+            short(&needs, rooms)
+        }
+    }
+}
+
 // Fewer customers than places, a short result list, or for the marker fewer break places than runs.
 pub fn too_short(
     places: usize,
     customers: usize,
-    needs: &[usize],
-    rooms: &[usize],
-    marks: bool,
-    breaks: &[usize],
+    kind: Kind,
+    tour: &[usize],
+    calls: &[usize],
     ends: &[usize],
+    breaks: &[usize],
+    rooms: &[usize],
 ) -> bool
-    ensures { λ r. ⌜ r ≡ either (ltb customers places ∷ Room.short (now (needs .entry)) (now (rooms .entry)) ∷ (marks && ltb (length (now (breaks .entry))) (length (now (ends .entry)))) ∷ []) ⌝ }
+    ensures { λ r. ⌜ r ≡ either (ltb customers places ∷ Room.short (needsOf (kind .results) (length (now (tour .entry))) (length (now (calls .entry))) (length (now (ends .entry)))) (now (rooms .entry)) ∷ (kind .marks && ltb (length (now (breaks .entry))) (length (now (ends .entry)))) ∷ []) ⌝ }
 {
-    (customers < places) | short(needs, rooms) | (marks & (breaks.len() < ends.len()))
+    let results = kind.results;
+    let behind = breaks.len() < ends.len();
+    (customers < places) | results_short(results, tour, calls, ends, rooms) | (kind.marks & behind)
 }
 
 // From 2 ^ 32 places on the square is above every length.

@@ -1,6 +1,6 @@
 // Refusal 1 of single numbers.
 ghost use mathlib.Core.Path.{_≡_};
-ghost use Prim.Native.Nat.{ℕ, min};
+ghost use Prim.Native.Nat.{ℕ};
 ghost use lib.Dec.{eqb};
 ghost use Rattle.definitions.specs.Domain.{isPlaces, isCapacity, isDemand, isPenalty, isNumber, isCall};
 ghost use Rattle.definitions.specs.Refusals.{unfit};
@@ -52,11 +52,4 @@ pub fn unfit_zero(x: f64) -> bool
     ensures { λ r. ⌜ r ≡ unfit value (λ (n : ℕ). eqb n 0) x ⌝ }
 {
     !is_whole(x, 0)
-}
-
-// The smaller of two lengths.
-pub fn fewer(a: usize, b: usize) -> usize
-    ensures { λ r. ⌜ r ≡ min a b ⌝ }
-{
-    if a < b { a } else { b }
 }

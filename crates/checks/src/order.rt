@@ -24,13 +24,12 @@ pub fn refusal(
     calls: &[usize],
     ends: &[usize],
     breaks: &[usize],
-    needs: &[usize],
     rooms: &[usize],
 ) -> u32
-    ensures refused { λ r. ⌜ Refuses (callOf kind (now (needs .entry))) (λ cs. lentOf (sheetOf head cs (now (distances .entry)) (now (times .entry))) (now (tour .entry)) (now (calls .entry)) (now (ends .entry)) (now (breaks .entry)) (now (rooms .entry))) count customers r ⌝ }
+    ensures refused { λ r. ⌜ Refuses (callOf kind) (λ cs. lentOf (sheetOf head cs (now (distances .entry)) (now (times .entry))) (now (tour .entry)) (now (calls .entry)) (now (ends .entry)) (now (breaks .entry)) (now (rooms .entry))) count customers r ⌝ }
     ensures image { λ r. ⌜ Images (λ cs. sheetOf head cs (now (distances .entry)) (now (times .entry))) count customers r ⌝ }
 {
-    if too_short(head.places, count, needs, rooms, kind.marks, breaks, ends) {
+    if too_short(head.places, count, kind, tour, calls, ends, breaks, rooms) {
         return 13;
     }
     if tables_odd(head, distances, times) {

@@ -5,7 +5,7 @@ ghost use Prim.Native.Nat.{_-_};
 ghost use Rattle.definitions.specs.Refusals.{endsFall, emptyRun, breakBeyond};
 ghost use Rattle.checks.specs.Order.{runsOddOf};
 use crate::kind::Kind;
-use crate::numbers::fewer;
+use models::count::fewer;
 
 // An end below the one before it, or the last is not the number of calls.
 pub fn ends_fall(ends: &[usize], calls: usize) -> bool

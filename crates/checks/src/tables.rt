@@ -1,14 +1,13 @@
 // The two leg tables row by row: row one of both, then row two of both, and so on.
 ghost use mathlib.Core.Path.{_≡_};
-ghost use mathlib.Core.Bool.{_||_};
 ghost use lib.ListN.{take};
 ghost use Rattle.basics.specs.Lists.{any};
 ghost use Rattle.definitions.specs.Domain.{isNumber};
 ghost use Rattle.definitions.specs.Refusals.{unfit};
 ghost use Rattle.whole.specs.Value.{value};
 ghost use Rattle.checks.specs.Rows.{rowFinds, rowsFind};
-use crate::numbers::fewer;
 use crate::numbers::unfit_number;
+use models::count::fewer;
 
 // Whether one of the first `size` numbers is out of range.
 pub fn bad_numbers(table: &[f64], size: usize) -> bool

@@ -6,14 +6,15 @@ use native.Mathlib.Numerals.{add-one}
 use mathlib.Core.Path.{_≡_, refl, sym, ap, subst, _∙_}
 use mathlib.Core.List.{List, [], _∷_, map}
 use mathlib.Core.Option.{Option, none, some, Option·map}
-use lib.ListN.{length, getD, length-map}
+use lib.ListN.{length, getD, take, length-map}
 use lib.Seq.{getD-take, take-all}
+use lib.Ieee.{Float}
 use borrow.Author.Tests.{lt-ltb}
 use Rattle.basics.specs.Tests.{by-test}
 use Rattle.basics.specs.Options.{_>>=_, holds, Holds}
 use Rattle.basics.specs.Lists.{All}
 use Rattle.definitions.specs.Domain.{mostCalls}
-use Rattle.definitions.specs.Sheet.{Break, Sheet, depot, customer, distance, time}
+use Rattle.definitions.specs.Sheet.{Break, CustomerOf, Sheet, depot, customer, distance, time}
 use Rattle.definitions.specs.Limits.{excused}
 use Rattle.definitions.specs.Run as Whole
 use Rattle.definitions.specs.Run.{serve, lastOf, distanceFrom, Totals}
@@ -27,7 +28,7 @@ use Rattle.evaluation.specs.declared.schedule.Label.{Label}
 use Rattle.evaluation.specs.Records.{ClockF, Tables}
 use Rattle.evaluation.specs.Serving.{carryF}
 use Rattle.evaluation.specs.Clock.{isExcusedF, pushF, countsF, homeF, finishF}
-use Rattle.evaluation.specs.Tables.{blank, recordF, distanceF, timeF, legsF}
+use Rattle.evaluation.specs.Tables.{recordIndex, blank, recordF, demandF, distanceF, timeF, legsF}
 use Rattle.evaluation.specs.Schedule.{tickF, clockFromF, distanceFromF, endF, scheduleF}
 use Rattle.evaluation.specs.Image.{flLabel, flTotals, flClock, flTables, Image}
 use Rattle.evaluation.proofs.Reading.{getD-of}
@@ -47,15 +48,24 @@ pub home-exact : (n : ℕ) → n ≤ mostCalls → (far back : ℕ) → Small ba
     → some (homeF (fl far) (fl back) (flLabel l)) ≡ Option·map flTotals (some (ended far back l))
 home-exact n few far back near l E = rw (fl-add (l .time) back (omega arith) (omega arith))
 
-module _ (s : Sheet) (S : Sized s) (t : Tables) (I : Image s t) where
-  -- ---- what is looked up for a call
+-- ---- what is looked up for a call
 
-  pub record-exact : (c : ℕ) → Place s c → recordF t c ≡ flCustomer (customer s c)
-  unfolding recordF
-  record-exact c h =
+-- records beyond the places are not read
+module _ (s : Sheet) (S : Sized s) (customers : List (CustomerOf Float)) (hold : take (s .places) customers ≡ map flCustomer (s .customers)) (c : ℕ) (h : Place s c) where
+  looked-up : getD customers (recordIndex c) blank ≡ flCustomer (customer s c)
+  looked-up =
       let few : c < 64 = omega (arith, S .few-places) in
       rw (lt-ltb c 64 few)
-      (sym (getD-take (s .places) (t .customers) c blank h) ∙ (ap (λ l. getD l c blank) (I .records-are) ∙ sym (getD-of flCustomer (s .customers) c depot blank (record-inside s S c h))))
+      (sym (getD-take (s .places) customers c blank h) ∙ (ap (λ l. getD l c blank) hold ∙ sym (getD-of flCustomer (s .customers) c depot blank (record-inside s S c h))))
+
+  pub demand-exact : demandF customers c ≡ customer s c .demand
+  unfolding demandF
+  demand-exact = ap (λ (x : CustomerOf Float). x .demand) looked-up
+
+module _ (s : Sheet) (S : Sized s) (t : Tables) (I : Image s t) where
+  pub record-exact : (c : ℕ) → Place s c → recordF t c ≡ flCustomer (customer s c)
+  unfolding recordF
+  record-exact c h = looked-up s S (t .customers) (I .records-are) c h
 
   pub distance-exact : (a b : ℕ) → Place s a → Place s b → distanceF t a b ≡ fl (distance s a b)
   distance-exact a b p q = rw (I .distances-are, I .size-is) (lookup-exact (s .distances) (s .places) a b p q (distance-inside s S a b p q))

@@ -1,5 +1,6 @@
--- Reading a call's record.
+-- Reading a call's record, and the load of calls.
 pub mod Reading
+pub mod Loading
 -- The clock, and the way with no break, as a run grows by a call.
 pub mod Growing
 pub mod Driving

@@ -1,4 +1,4 @@
--- What is looked up for a call: its record, the distance and the travel time. Definitions only.
+-- What is looked up for a call: its record, what it asks for, the distance and the travel time. Definitions only.
 use Prim.Native.Nat.{ℕ}
 use mathlib.Core.Bool.{cond}
 use mathlib.Core.List.{List, [], _∷_}
@@ -7,6 +7,7 @@ use lib.Dec.{ltb}
 use lib.Ieee as Ieee
 use lib.Ieee.{Float, binary64}
 use lib.ListN.{getD}
+use Rattle.basics.specs.Lists.{sum}
 use Rattle.definitions.specs.Sheet.{CustomerOf, timeTable}
 use Rattle.whole.specs.Whole.{fl}
 use Rattle.distance.specs.Lookup.{lookupF}
@@ -22,6 +23,14 @@ blank = record { demand = 0; service = fl 0; window = none; penalty = none }
 
 unfoldable pub recordF : Tables → ℕ → CustomerOf Float
 recordF t c = getD (t .customers) (recordIndex c) blank
+
+-- what a call asks for
+unfoldable pub demandF : List (CustomerOf Float) → ℕ → ℕ
+demandF customers c = getD customers (recordIndex c) blank .demand
+
+-- and what calls ask for in all
+unfoldable pub loadF : List (CustomerOf Float) → List ℕ → ℕ
+loadF customers calls = sum (demandF customers) calls
 
 abbrev pub distanceF : Tables → ℕ → ℕ → Float
 distanceF t a b = lookupF (t .distances) (t .size) a b

@@ -1,7 +1,6 @@
 // The evaluations of a run (evaluation/mod.rs): with a break by its clock, and without one by the plain way through its calls. None of them looks at load.
 ghost use mathlib.Core.Path.{_≡_};
 ghost use lib.ListN.{getD};
-ghost use Prim.Native.Nat.{min};
 ghost use Rattle.models.specs.Records.{breakOf, restOf};
 ghost use Rattle.evaluation.specs.Records.{finishedOf, drivenOf, startOf, evaluatedOf, limitsOf, lent};
 ghost use Rattle.evaluation.specs.Route.{driveF, plainF, totalsF, allowedF, breakStartAtF, startF, evalF, feasibleF, costF};
@@ -13,6 +12,7 @@ use crate::schedule::schedule;
 use crate::schedule::serve;
 use distance::matrix::get;
 use distance::matrix::travel_time;
+use models::count::fewer;
 use models::customer::Customer;
 use models::limits::RouteLimits;
 use models::vehicle::Rest;
@@ -186,12 +186,6 @@ pub fn call_at(route: &[usize], k: usize) -> usize
     ensures { λ r. ⌜ r ≡ getD (now (route .entry)) k 0 ⌝ }
 {
     if k < route.len() { route[k] } else { 0 }
-}
-
-pub fn fewer(a: usize, b: usize) -> usize
-    ensures { λ r. ⌜ r ≡ min a b ⌝ }
-{
-    if a < b { a } else { b }
 }
 
 // When the break starts that is taken at call number k, from 0: the calls before it are served without it.

@@ -19,7 +19,7 @@ use Rattle.definitions.specs.Cutting.{Best, cheapest, stuck}
 use Rattle.definitions.specs.Drop.{callAt, callsAt, Held, dropAt, allHeld, dropFrom, drops}
 use Rattle.definitions.proofs.Least.{best-of, best-reach}
 use Rattle.definitions.proofs.Shortest.{Cuttable, Stuck, never, at-call, stuck-is}
-use Rattle.ga.specs.Stretch.{demandF}
+use Rattle.evaluation.specs.Tables.{demandF}
 use Rattle.ga.specs.SplitTw.{Instance, haveF, stuckF, dropFromF, dropsF}
 use Rattle.exact.specs.TableExact.{has-exact}
 use Rattle.exact.specs.SplitTwExact.{ImageTw, X, run-is}

@@ -3,21 +3,19 @@ use Prim.Native.Nat.{ℕ, _≤_, _<_}
 use native.Mathlib.Nat.{add-zero}
 use native.Mathlib.Omega.{arith}
 use mathlib.Core.Path.{_≡_, refl, sym, ap, ap₂, _∙_}
-use mathlib.Core.Bool.{Bool, true, cond, not}
-use mathlib.Core.List.{List, [], _∷_, map}
+use mathlib.Core.Bool.{Bool, true, not}
+use mathlib.Core.List.{List, [], _∷_}
 use mathlib.Core.Option.{Option, none, some}
-use lib.ListN.{length, getD, take, length-map}
-use lib.Seq.{getD-take}
+use lib.ListN.{length, length-map}
 use lib.Dec.{leb}
 use lib.Ieee.{Float}
-use borrow.Author.Tests.{lt-ltb}
 use Rattle.basics.specs.Tests.{by-test}
 use Rattle.basics.specs.Options.{valueOr}
 use Rattle.basics.specs.Lists.{All, only, count, all-map, length-count}
-use Rattle.bounds.specs.Inside.{Sized, sized, Place, few-calls, calls-inside, call-inside, held-inside, record-inside, distance-inside}
+use Rattle.bounds.specs.Inside.{Sized, sized, Place, few-calls, calls-inside, call-inside, held-inside, distance-inside}
 use Rattle.bounds.specs.CostBounds.{arc-priced, held-few}
 use Rattle.definitions.specs.Domain.{mostCalls}
-use Rattle.definitions.specs.Sheet.{CustomerOf, Sheet, depot, customer, distance}
+use Rattle.definitions.specs.Sheet.{Sheet, customer, distance}
 use Rattle.definitions.specs.Run.{distanceFrom, fits, price}
 use Rattle.definitions.specs.Clock.{arc}
 use Rattle.definitions.specs.Cutting.{Best, nothing, runEnds, cheapest}
@@ -28,17 +26,14 @@ use Rattle.definitions.proofs.Promised.{by-clock}
 use Rattle.definitions.proofs.Least.{Reach, start, more, reach-append, best-of}
 use Rattle.distance.proofs.Exact.{lookup-exact}
 use Rattle.distance.specs.Lookup.{lookupF}
-use Rattle.models.specs.Image.{flCustomer}
 use Rattle.whole.specs.Whole.{fl}
-use Rattle.evaluation.specs.Tables.{blank}
-use Rattle.ga.specs.Stretch.{demandF}
 use Rattle.ga.specs.Tariff.{ResultF, planF, endsF, costF, distanceF}
 use Rattle.ga.specs.Split as Split
 use Rattle.ga.specs.Split.{lightF, sorted, removalsF, splitF}
 use Rattle.ga.specs.SplitTw as SplitTw
 use Rattle.ga.specs.SplitTw.{splitTwF}
 use Rattle.exact.specs.Image.{Image, flResult}
-use Rattle.evaluation.proofs.Reading.{getD-of}
+use Rattle.evaluation.proofs.ClockExact.{demand-exact}
 use Rattle.ga.proofs.Sorting.{sorted-long}
 use Rattle.exact.specs.TableExact.{costFl, farFl, Setting, RunIs, cost-exact, distance-exact, ends-exact}
 use Rattle.exact.specs.SplitExact as SplitExact
@@ -49,16 +44,6 @@ use Rattle.exact.specs.DropsExact.{drops-exact}
 -- ---- what is looked up
 
 module _ (s : Sheet) (S : Sized s) where
-  -- customers beyond the places are not read
-  demand-exact : (customers : List (CustomerOf Float)) → take (s .places) customers ≡ map flCustomer (s .customers) → (c : ℕ) → Place s c → demandF customers c ≡ customer s c .demand
-  unfolding demandF
-  demand-exact customers hold c h =
-      ap (λ (t : Bool). getD customers (cond t c 0) blank .demand) (lt-ltb c 64 (omega (arith, S .few-places)))
-      ∙ ap (λ (x : CustomerOf Float). x .demand)
-      (sym (getD-take (s .places) customers c blank h)
-      ∙ ap (λ (l : List (CustomerOf Float)). getD l c blank) hold
-      ∙ sym (getD-of flCustomer (s .customers) c depot blank (record-inside s S c h)))
-
   leg-exact : (I : Split.Instance) → Image s I → (a b : ℕ) → Place s a → Place s b → Split.tariff I .leg a b ≡ fl (distance s a b)
   leg-exact I M a b p q =
       ap₂ (λ (l : List Float) (n : ℕ). lookupF l n a b) (M .distances-hold) (M .size-holds)

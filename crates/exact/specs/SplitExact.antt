@@ -18,7 +18,7 @@ use Rattle.definitions.specs.Run.{distanceFrom, fits, price}
 use Rattle.definitions.specs.Clock.{Arc}
 use Rattle.definitions.specs.Drop.{plainArc}
 use Rattle.whole.specs.Whole.{fl, fl-sum}
-use Rattle.ga.specs.Stretch.{demandF}
+use Rattle.evaluation.specs.Tables.{demandF}
 use Rattle.ga.specs.Tariff.{legalOf, runsOf, stretches}
 use Rattle.ga.specs.Split.{Instance, tariff}
 use Rattle.exact.specs.StretchExact.{fits-exact}

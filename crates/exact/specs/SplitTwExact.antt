@@ -24,7 +24,8 @@ use Rattle.evaluation.specs.Image.{flLimits}
 use Rattle.evaluation.specs.Image as Evaluation
 use Rattle.evaluation.proofs.ClockExact.{distance-exact}
 use Rattle.evaluation.proofs.RouteExact.{small-limit}
-use Rattle.ga.specs.Stretch.{demandF, fitsOf}
+use Rattle.evaluation.specs.Tables.{demandF}
+use Rattle.ga.specs.Stretch.{fitsOf}
 use Rattle.ga.specs.Tariff.{legalOf, farOf, runsOf, stretches}
 use Rattle.ga.specs.SplitTw.{Instance, endOf, allowedF, payF, tariff}
 use Rattle.exact.specs.StretchExact.{fits-exact}

@@ -17,7 +17,8 @@ use Rattle.cutting.specs.Priced.{added, strict}
 use Rattle.cutting.specs.Carried.{Filling, RowDone, outset, finished, passed, offered, skipped}
 use Rattle.whole.specs.Whole.{fl}
 use Rattle.table.specs.Table.{Offered}
-use Rattle.ga.specs.Stretch.{fitsLoad, fitsOf, joinedF, placeOf, loadOf, goneOf, wayOf}
+use Rattle.models.specs.Load.{fitsLoad}
+use Rattle.ga.specs.Stretch.{fitsOf, joinedF, placeOf, loadOf, goneOf, wayOf}
 use Rattle.ga.specs.Tariff.{Tariff, legalOf, farOf, priceOf, runsOf, farsOf, RowOf, stretches}
 use Rattle.ga.proofs.Fitting.{none-over, none-past, fits-here}
 

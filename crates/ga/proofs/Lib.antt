@@ -1,7 +1,6 @@
 -- Branches on what a call answers.
 pub mod Branches
--- Along a stretch of calls: their records, which of its beginnings fit, and what a row of the table keeps.
-pub mod Reading
+-- Along a stretch of calls: which of its beginnings fit, and what a row of the table keeps.
 pub mod Fitting
 pub mod Along
 -- From the table to the cut, and to the answer.

@@ -14,7 +14,8 @@ use Rattle.whole.specs.Whole.{fl}
 use Rattle.evaluation.specs.Tables.{recordF, timeF}
 use Rattle.table.specs.Table.{Offered}
 use Rattle.ga.specs.declared.split_tw.Timed.{Timed}
-use Rattle.ga.specs.Stretch.{fitsLoad, joinedF, placeOf}
+use Rattle.models.specs.Load.{fitsLoad}
+use Rattle.ga.specs.Stretch.{joinedF, placeOf}
 use Rattle.ga.specs.Tariff.{RowOf}
 use Rattle.ga.specs.SplitTw.{Instance, tariff, visitF, timedOf, End, endOf, allowedF}
 use Rattle.ga.proofs.Along.{Along, barred, far-is, over, onward}

@@ -16,7 +16,8 @@ use Rattle.evaluation.specs.Tables.{distanceF, recordF, timeF}
 use Rattle.evaluation.specs.Schedule.{clockFromF}
 use Rattle.evaluation.specs.declared.schedule.Scheduled.{Scheduled}
 use Rattle.table.specs.Table.{Offered}
-use Rattle.ga.specs.Stretch.{fitsLoad, joinedF, placeOf, wayOf}
+use Rattle.models.specs.Load.{fitsLoad}
+use Rattle.ga.specs.Stretch.{joinedF, placeOf, wayOf}
 use Rattle.ga.specs.Tariff.{RowOf}
 use Rattle.ga.specs.SplitTw.{Instance, tariff, clockOf, End, backTime, endOf, allowedF}
 use Rattle.ga.proofs.Along.{Along, barred, far-is, over, onward}

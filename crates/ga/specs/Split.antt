@@ -10,7 +10,8 @@ use Rattle.definitions.specs.Drop.{callAt, Held}
 use Rattle.distance.specs.Lookup.{lookupF}
 use Rattle.models.specs.declared.customer.Customer.{Customer}
 use Rattle.models.specs.Records.{customerOf}
-use Rattle.ga.specs.Stretch.{demandF, fitsLoad}
+use Rattle.models.specs.Load.{fitsLoad}
+use Rattle.evaluation.specs.Tables.{demandF}
 use Rattle.ga.specs.Tariff.{Tariff, ResultF, planF}
 
 -- ---- what is lent

@@ -26,12 +26,12 @@ use Rattle.evaluation.specs.Records.{Tables, LimitsF, ClockF}
 use Rattle.evaluation.specs.Records as Evaluation
 use Rattle.evaluation.specs.Clock.{begunF, finishF}
 use Rattle.evaluation.specs.Tables as Lookup
-use Rattle.evaluation.specs.Tables.{recordF, timeF}
+use Rattle.evaluation.specs.Tables.{recordF, demandF, timeF}
 use Rattle.evaluation.specs.Schedule.{clockFromF}
 use Rattle.ga.specs.declared.split_tw.Timed.{Timed}
 use Rattle.ga.specs.declared.split_tw.Visited.{Visited}
 use Rattle.ga.specs.declared.split_tw.Visited.the-variants.{Shut, Open}
-use Rattle.ga.specs.Stretch.{demandF, joinedF, placeOf, wayOf}
+use Rattle.ga.specs.Stretch.{joinedF, placeOf, wayOf}
 use Rattle.ga.specs.Tariff.{Tariff, runsOf, stretches, CutDone, ResultF, planF}
 
 -- ---- what is lent

@@ -5,13 +5,8 @@ use mathlib.Core.List.{List}
 use lib.ListN.{length, getD}
 use lib.Dec.{leb, eqb}
 use lib.Ieee.{Float, binary64, add}
-use Rattle.definitions.specs.Sheet.{CustomerOf}
-use Rattle.evaluation.specs.Tables.{recordIndex, blank}
+use Rattle.models.specs.Load.{fitsLoad}
 use Rattle.whole.specs.Whole.{fl}
-
--- what a call asks for
-unfoldable pub demandF : List (CustomerOf Float) → ℕ → ℕ
-demandF customers c = getD customers (recordIndex c) blank .demand
 
 -- a leg after those that are gone; the first leg stands alone
 abbrev pub joinedF : Float → Float → Bool → Float
@@ -21,10 +16,6 @@ joinedF gone leg first = cond first leg (add binary64 gone leg)
 unfoldable pub placeOf : List ℕ → ℕ → ℕ
 placeOf st zero = 0
 placeOf st (suc m) = getD st m 0
-
--- a vehicle of this capacity holds the load
-abbrev pub fitsLoad : ℕ → ℕ → Bool
-fitsLoad load capacity = leb load capacity
 
 -- what the first m calls of st ask for
 unfoldable pub loadOf : (ℕ → ℕ) → List ℕ → ℕ → ℕ

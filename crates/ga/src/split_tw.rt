@@ -8,9 +8,7 @@ ghost use Rattle.models.specs.Records.{openingOf, penaltyOf, customerOf, breakO
 ghost use Rattle.ga.specs.Tariff.{RowOf, TableOf, Counted};
 ghost use Rattle.ga.specs.SplitTw.{visitedOf, enterF, visitF, lentBy, lent, tariff, PassDone, Settled, dropsF, splitTwF};
 use crate::split::SplitResult;
-use crate::stretch::fits;
 use crate::stretch::joined;
-use crate::stretch::wide;
 use distance::matrix::get;
 use distance::matrix::travel_time;
 use evaluation::schedule::BreakClock;
@@ -20,6 +18,8 @@ use models::customer::Customer;
 use models::customer::Opening;
 use models::customer::Penalty;
 use models::limits::RouteLimits;
+use models::load::fits;
+use models::load::wide;
 use models::vehicle::Rest;
 use models::vehicle::VehicleBreak;
 use table::cells::first_stuck;

@@ -1,9 +1,10 @@
 // Lent lists of customers: read and written record by record, and carried to and from an array of 64.
 ghost use mathlib.Core.Path.{_≡_};
-ghost use Prim.Native.Nat.{_+_, _-_, _<_, min};
+ghost use Prim.Native.Nat.{_<_, min};
 ghost use lib.ListN.{length, getD, set, replicate, take};
 ghost use Rattle.definitions.specs.Room.{written};
 ghost use Rattle.lending.specs.Padding.{blankOf, padded};
+use models::count::fewer;
 use models::customer::Customer;
 use models::customer::Opening;
 use models::customer::Penalty;
@@ -56,25 +57,19 @@ pub fn picked(records: [Customer; 64], i: usize) -> Customer
     records[i]
 }
 
-pub fn capped(n: usize) -> usize
-    ensures { λ r. ⌜ r ≡ min n 64 ⌝ }
+// How many of n records an array of `held` holds and a list of so many takes.
+pub fn fitting(n: usize, held: usize, room: usize) -> usize
+    ensures { λ r. ⌜ r ≡ min (min n held) room ⌝ }
 {
-    if n < 64 { n } else { 64 }
-}
-
-// How many of n records an array of 64 holds and a list of so many takes.
-pub fn fitting(n: usize, room: usize) -> usize
-    ensures { λ r. ⌜ r ≡ min (min n 64) room ⌝ }
-{
-    let m = capped(n);
-    if m < room { m } else { room }
+    let m = fewer(n, held);
+    fewer(m, room)
 }
 
 // The first 64 records, and the depot's after them where there are fewer.
 pub fn gathered(customers: &[Customer]) -> [Customer; 64]
     ensures { λ r. ⌜ r ≡ padded 64 (now (customers .entry)) ⌝ }
 {
-    let n = capped(customers.len());
+    let n = fewer(customers.len(), 64);
     let mut all = blanks();
     let mut i = 0;
     while i < n {
@@ -89,7 +84,7 @@ pub fn gathered(customers: &[Customer]) -> [Customer; 64]
 pub fn scattered(records: [Customer; 64], n: usize, customers: &mut [Customer])
     ensures { λ _. ⌜ now (customers .exit) ≡ written (take (min n (length (now (customers .entry)))) records) (now (customers .entry)) ⌝ }
 {
-    let m = fitting(n, customers.len());
+    let m = fitting(n, 64, customers.len());
     let mut i = 0;
     while i < m {
         let c = picked(records, i);

@@ -1,6 +1,5 @@
--- Tests over counted places, and lists that are lent: copied, and turned round.
+-- Tests over counted places, and a lent list turned round.
 pub mod Counting
-pub mod Lending
 pub mod Turning
 -- Sums over what is left of a list, and the windows among the first customers.
 pub mod Reckoning

@@ -9,7 +9,7 @@ ghost use Rattle.local_search.specs.Search.{windowed, windowedAny, limit
 use crate::gain::gain_floor;
 use crate::gain::scale;
 use crate::gain::symmetric;
-use evaluation::route::fewer;
+use models::count::fewer;
 use models::customer::Customer;
 use models::customer::Opening;
 use models::limits::Limit;

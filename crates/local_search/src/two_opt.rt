@@ -14,6 +14,7 @@ use distance::matrix::get;
 use evaluation::route::call_at;
 use evaluation::route::route_feasible;
 use models::customer::Customer;
+use table::held::write_front;
 
 // What turning the segment changes in the length of its own legs: nothing where the distances are symmetric, else each leg back less the leg there.
 pub fn reversal_delta(segment: &[usize], distances: &[f64], size: usize, symmetric: bool) -> f64
@@ -218,18 +219,6 @@ pub fn passes(
     }
 }
 
-// Copies a run into a list of its length.
-pub fn copy(from: &[usize], to: &mut [usize])
-    requires { ⌜ length (now to) ≡ length (now from) ⌝ }
-    ensures { λ _. ⌜ now (to .exit) ≡ now (from .entry) ⌝ }
-{
-    let mut k = 0;
-    while k < from.len() {
-        to[k] = from[k];
-        k += 1;
-    }
-}
-
 // The run, improved inside a list of its length. Gives its distance.
 pub fn improve(
     route: &[usize],
@@ -244,7 +233,7 @@ pub fn improve(
     ensures { λ r. ⌜ r ≡ improvedDistanceF (lent customers (now (distances .entry)) (now (times .entry)) size) (searchOf search) (now (route .entry)) ⌝ }
     ensures { λ _. ⌜ now (current .exit) ≡ improvedF (lent customers (now (distances .entry)) (now (times .entry)) size) (searchOf search) (now (route .entry)) ⌝ }
 {
-    copy(route, &mut *current);
+    write_front(route, &mut *current);
     passes(&mut *current, customers, distances, times, size, search);
     route_distance(&current[..], distances, size)
 }

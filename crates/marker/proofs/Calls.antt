@@ -2,8 +2,8 @@
 use Prim.Native.Nat.{ℕ, suc, _+_, _≤_, _<_, min}
 use native.Mathlib.Omega.{arith}
 use native.Mathlib.Numerals.{add-one}
-use mathlib.Core.Path.{_≡_, sym, ap, _∙_}
-use mathlib.Core.List.{List, [], map}
+use mathlib.Core.Path.{_≡_, sym, _∙_}
+use mathlib.Core.List.{List}
 use mathlib.Core.Option.{Option, none, some}
 use lib.ListN.{length, getD, drop, drop-of-length-le}
 use lib.Seq.{drop-cons}
@@ -14,17 +14,13 @@ use borrow.Author.Tests.{leb-true, leb-false, eq-eqb, ne-eqb}
 use Rattle.basics.specs.Tests.{by-test}
 use Rattle.definitions.specs.Sheet.{BreakOf, CustomerOf}
 use Rattle.definitions.specs.Marker.{differ}
-use Rattle.models.specs.declared.customer.Customer.{Customer}
-use Rattle.models.specs.Records.{customerOf}
 use Rattle.evaluation.specs.declared.schedule.Label.{Label}
 use Rattle.evaluation.specs.Records.{Tables}
 use Rattle.evaluation.specs.Serving.{serveF}
 use Rattle.evaluation.specs.Clock.{homeF}
-use Rattle.evaluation.specs.Tables.{recordIndex, recordF, distanceF, timeF}
-use Rattle.evaluation.proofs.Reading.{read-record}
+use Rattle.evaluation.specs.Tables.{recordF, distanceF, timeF}
 use Rattle.marker.specs.declared.walk.Walked.the-variants.{Stopped, Home}
 use Rattle.marker.specs.Walking.{breakAtF, callFaultF, walkF}
-use Rattle.marker.specs.RunMark.{demandF, loadF}
 
 -- ---- two lists, up to where one ends
 
@@ -48,26 +44,6 @@ module _ (xs ys : List ℕ) (i : ℕ) where
       (λ f. let h = leb-false (length xs) i f in
       let g : length ys ≤ i = omega arith in
       rw (drop-cons xs i 0, drop-of-length-le ys g))
-
--- ---- the load
-
-pub read-demand : (customers : List Customer) (c i : ℕ) (d : Customer) → length customers ≡ 64 → (i ≡ recordIndex c) × (i < 64)
-    → getD customers i d .demand ≡ demandF (map customerOf customers) c
-unfolding recordF demandF
-read-demand customers c i d long e = ap (λ (x : CustomerOf Float). x .demand) (read-record customers [] [] 0 c i d long (e .0) (e .1))
-
-module _ (customers : List (CustomerOf Float)) (calls : List ℕ) (i : ℕ) where
-  load-turn : i < length calls → loadF customers (drop i calls) ≡ demandF customers (getD calls i 0) + loadF customers (drop (i + 1) calls)
-  unfolding loadF
-  load-turn h = rw (add-one, drop-cons calls i 0)
-
-  pub load-on : (load demand all : ℕ) → i < length calls → demand ≡ demandF customers (getD calls i 0)
-      → load + loadF customers (drop i calls) ≡ all → load + demand + loadF customers (drop (i + 1) calls) ≡ all
-  load-on load demand all h d e = omega (arith, load-turn h)
-
-  pub load-end : length calls ≤ i → loadF customers (drop i calls) ≡ 0
-  unfolding loadF
-  load-end h = rw (drop-of-length-le calls h)
 
 -- ---- the walk
 

@@ -2,16 +2,15 @@
 use Prim.Native.Nat.{ℕ, zero, suc, _+_, _≤_}
 use native.Mathlib.Omega.{arith}
 use native.Mathlib.Nat.{zero-add}
-use mathlib.Core.Path.{_≡_, refl, ap, ap₂}
+use mathlib.Core.Path.{_≡_, refl, ap₂}
 use mathlib.Core.List.{List, [], _∷_}
 use mathlib.Core.Option.{Option, none, some, Option·map}
 use lib.ListN.{length}
-use lib.Ieee.{Float}
 use Rattle.basics.specs.Tests.{by-test}
-use Rattle.basics.specs.Options.{_>>=_, Holds, valueOr, orElse}
+use Rattle.basics.specs.Options.{_>>=_, Holds, orElse}
 use Rattle.basics.specs.Lists.{All}
 use Rattle.definitions.specs.Domain.{mostCalls}
-use Rattle.definitions.specs.Sheet.{Break, CustomerOf, Sheet, customer, time}
+use Rattle.definitions.specs.Sheet.{Break, Sheet, time}
 use Rattle.definitions.specs.Limits.{within}
 use Rattle.definitions.specs.Run as Whole
 use Rattle.definitions.specs.Run.{Run, start, serveAll, lastOf, distanceFrom, Totals, home, ride, load, fits, placed, price, runCost}
@@ -22,15 +21,15 @@ use Rattle.bounds.specs.Bounds.{start-early, distance-most, ride-most, SmallTot
 use Rattle.bounds.specs.CostBounds.{price-room}
 use Rattle.whole.specs.Whole.{fl, limit, fl-le, fl-sum}
 use Rattle.models.specs.Image.{flBreak}
-use Rattle.models.proofs.Exact.{Small, within-exact}
+use Rattle.models.proofs.Exact.{Small, limit-exact, within-exact}
 use Rattle.evaluation.specs.Serving.{startLabel}
-use Rattle.evaluation.specs.Tables.{recordF}
+use Rattle.evaluation.specs.Tables.{loadF}
 use Rattle.evaluation.specs.Image.{flTotals, flLimits}
-use Rattle.evaluation.proofs.ClockExact.{record-exact}
+use Rattle.evaluation.proofs.ClockExact.{demand-exact}
 use Rattle.marker.specs.declared.walk.Walked.{Walked}
 use Rattle.marker.specs.declared.run.Marked.{Marked}
 use Rattle.marker.specs.Walking.{walkF}
-use Rattle.marker.specs.RunMark.{Ground, demandF, loadF, placedF, limitF, totalsMarkF, walkMarkF, runMarkF}
+use Rattle.marker.specs.RunMark.{Ground, placedF, totalsMarkF, walkMarkF, runMarkF}
 use Rattle.marker.specs.Image.{flMarked, Image}
 use Rattle.marker.proofs.WalkExact.{break-or-exact, Walks, stops, arrives, walk-exact}
 
@@ -41,14 +40,10 @@ runOf calls place = record { calls = calls; place = place }
 -- ---- load
 
 module _ (s : Sheet) (S : Sized s) (G : Ground) (I : Image s G) where
-  demand-exact : (c : ℕ) → Place s c → demandF (G .tables .customers) c ≡ customer s c .demand
-  unfolding recordF demandF
-  demand-exact c p = ap (λ (x : CustomerOf Float). x .demand) (record-exact s S (G .tables) (I .tables-hold) c p)
-
   load-exact : (calls : List ℕ) → All (Place s) calls → loadF (G .tables .customers) calls ≡ load s calls
   unfolding loadF
   load-exact [] i = refl
-  load-exact (c ∷ cs) i = ap₂ _+_ (demand-exact c (i .0)) (load-exact cs (i .1))
+  load-exact (c ∷ cs) i = ap₂ _+_ (demand-exact s S (G .tables .customers) (I .tables-hold .records-are) c (i .0)) (load-exact cs (i .1))
 
 -- ---- totals
 
@@ -57,10 +52,6 @@ unfolding placedF placed
 placed-exact none B place n duration h = refl
 placed-exact (some b) B zero n duration h = fl-le duration (b .earliest) h (omega arith)
 placed-exact (some b) B (suc k) n duration h = refl
-
-limit-exact : (o : Option ℕ) → limitF (Option·map fl o) ≡ fl (valueOr 0 o)
-limit-exact none = refl
-limit-exact (some n) = refl
 
 small-limit : (o : Option ℕ) → Holds Inside.Small o → Small o
 small-limit none h = tt

@@ -13,7 +13,7 @@ use Rattle.basics.specs.Tests.{by-test}
 use Rattle.basics.specs.Options.{Holds, same}
 use Rattle.basics.specs.Lists.{All}
 use Rattle.definitions.specs.Domain.{mostCalls}
-use Rattle.definitions.specs.Sheet.{Window, Break, Sheet, customer, distance, time}
+use Rattle.definitions.specs.Sheet.{Break, Sheet, customer, distance, time}
 use Rattle.definitions.specs.Run as Whole
 use Rattle.definitions.specs.Run.{breakStart, ready, serve, breakAt, serveAll, lastOf, distanceFrom}
 use Rattle.definitions.specs.Visits.{dueOf}
@@ -23,6 +23,8 @@ use Rattle.bounds.specs.Bounds.{Early, arriveBy, serve-early}
 use Rattle.whole.specs.Whole.{fl, limit, fl-add}
 use Rattle.whole.specs.Later.{later-fl}
 use Rattle.models.specs.Image.{flWindow, flBreak, flCustomer}
+use Rattle.models.specs.Window.{dueF}
+use Rattle.models.proofs.Exact.{due-exact}
 use Rattle.evaluation.specs.Records.{Tables}
 use Rattle.evaluation.specs.Serving.{breakStartF, serveF}
 use Rattle.evaluation.specs.Tables.{recordF, timeF}
@@ -32,7 +34,7 @@ use Rattle.evaluation.proofs.ClockExact.{ended, home-exact, record-exact, dista
 use Rattle.marker.specs.declared.verdict.Verdict.the-variants.{BreakTooLate, WindowMissed}
 use Rattle.marker.specs.declared.walk.Walked.{Walked}
 use Rattle.marker.specs.declared.walk.Walked.the-variants.{Stopped, Home}
-use Rattle.marker.specs.Walking.{breakAtF, breakOrF, dueF, callFaultF, walkF}
+use Rattle.marker.specs.Walking.{breakAtF, breakOrF, callFaultF, walkF}
 use Rattle.marker.specs.Image.{flVerdict}
 
 -- ---- the figures of a call
@@ -43,10 +45,6 @@ break-at-exact s place k = by-test (eqb place k) (λ t. rw t) (λ f. rw f)
 pub break-or-exact : (o : Option Break) → breakOrF (Option·map flBreak o) ≡ flBreak (breakOr o)
 break-or-exact none = refl
 break-or-exact (some b) = refl
-
-due-exact : (o : Option Window) → dueF (Option·map flWindow o) ≡ fl (dueOf o)
-due-exact none = refl
-due-exact (some w) = refl
 
 earliest-fits : (o : Option Break) → Holds SmallBreak o → breakOr o .earliest ≤ limit
 earliest-fits none B = omega arith

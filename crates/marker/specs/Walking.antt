@@ -7,8 +7,9 @@ use lib.Dec.{eqb}
 use lib.Ieee as Ieee
 use lib.Ieee.{Float, binary64}
 use Rattle.basics.specs.Options.{valueOr}
-use Rattle.definitions.specs.Sheet.{WindowOf, BreakOf, CustomerOf}
+use Rattle.definitions.specs.Sheet.{BreakOf, CustomerOf}
 use Rattle.whole.specs.Whole.{fl}
+use Rattle.models.specs.Window.{dueF}
 use Rattle.evaluation.specs.declared.schedule.Label.{Label}
 use Rattle.evaluation.specs.Records.{Tables}
 use Rattle.evaluation.specs.Serving.{breakStartF, readyF, serveF}
@@ -25,10 +26,6 @@ breakAtF rest place k = cond (eqb place k) rest none
 
 abbrev pub breakOrF : Option (BreakOf Float) → BreakOf Float
 breakOrF b = valueOr (record { earliest = fl 0; latest = fl 0; duration = fl 0 }) b
-
-abbrev pub dueF : Option (WindowOf Float) → Float
-dueF none = fl 0
-dueF (some w) = w .due
 
 -- why the call number k of run n, at customer c, fails: break start past latest before window
 unfoldable pub callFaultF : (n k c : ℕ) → CustomerOf Float → Option (BreakOf Float) → Float → Verdict

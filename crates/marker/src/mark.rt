@@ -12,7 +12,7 @@ ghost use Rattle.marker.specs.Marks.{differenceOf, againstF, runsMarkF, 
 use crate::run::Marked;
 use crate::run::mark_run;
 use crate::verdict::Verdict;
-use evaluation::route::fewer;
+use models::count::fewer;
 use models::customer::Customer;
 use models::head::Head;
 

@@ -1,10 +1,10 @@
 // The walk through the calls of a run with its break place: the first fault at a call, or the way home.
 ghost use mathlib.Core.Path.{_≡_};
 ghost use Rattle.whole.specs.Whole.{fl};
-ghost use Rattle.models.specs.Records.{openingOf, customerOf, breakOf, restOf};
+ghost use Rattle.models.specs.Records.{customerOf, breakOf, restOf};
 ghost use Rattle.evaluation.specs.Records.{lent};
 ghost use Rattle.evaluation.specs.Serving.{startLabel};
-ghost use Rattle.marker.specs.Walking.{breakAtF, breakOrF, dueF, callFaultF, walkF};
+ghost use Rattle.marker.specs.Walking.{breakAtF, breakOrF, callFaultF, walkF};
 use crate::verdict::Verdict;
 use distance::matrix::get;
 use distance::matrix::travel_time;
@@ -16,7 +16,7 @@ use evaluation::schedule::ready_at;
 use evaluation::schedule::record_index;
 use evaluation::schedule::serve;
 use models::customer::Customer;
-use models::customer::Opening;
+use models::customer::due_or_zero;
 use models::vehicle::Rest;
 use models::vehicle::VehicleBreak;
 use whole::later;
@@ -45,16 +45,6 @@ pub fn break_or(rest: Rest) -> VehicleBreak
             duration: 0.0,
         },
         Rest::Break(b) => b,
-    }
-}
-
-// When the window shuts, 0 where there is none.
-pub fn due_of(opening: Opening) -> f64
-    ensures { λ r. ⌜ r ≡ dueF (openingOf opening) ⌝ }
-{
-    match opening {
-        Opening::Always => 0.0,
-        Opening::Window(w) => w.due,
     }
 }
 
@@ -87,7 +77,7 @@ pub fn call_fault(
                 place: k,
                 customer: cid,
                 readiness,
-                due: due_of(opening),
+                due: due_or_zero(opening),
             }
         }
     }

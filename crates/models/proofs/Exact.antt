@@ -10,14 +10,15 @@ use borrow.Author.Tests.{ltb-true, ltb-false}
 use lib.Ieee as Ieee
 use lib.Ieee.{binary64}
 use Rattle.basics.specs.Tests.{by-test}
-use Rattle.basics.specs.Options.{Holds}
+use Rattle.basics.specs.Options.{Holds, valueOr}
 use Rattle.definitions.specs.Sheet.{Window}
 use Rattle.definitions.specs.Window.{late, waiting, lateness}
 use Rattle.definitions.specs.Limits.{within}
+use Rattle.definitions.specs.Visits.{dueOf}
 use Rattle.whole.specs.Whole.{fl, limit, fl-sub, fl-lt, fl-le}
 use Rattle.whole.specs.Difference.{fl-diff, diff-lt-fl}
-use Rattle.models.specs.Window.{lateF, waitingF, latenessF}
-use Rattle.models.specs.Limits.{withinF, allowF}
+use Rattle.models.specs.Window.{lateF, waitingF, latenessF, dueF}
+use Rattle.models.specs.Limits.{limitF, withinF, allowF}
 use Rattle.models.specs.Image.{flWindow}
 
 module _ (w : Window) (a : ℕ) (r : w .ready ≤ limit) (d : w .due ≤ limit) (h : a ≤ limit) where
@@ -38,6 +39,14 @@ module _ (w : Window) (a : ℕ) (r : w .ready ≤ limit) (d : w .due ≤ limit) 
       rw on-time
       (by-test (ltb a (w .due)) (λ t. let i = ltb-true a (w .due) t in let z : 0 ≡ a - w .due = omega arith in rw (t, ← z))
       (λ f. rw f (fl-sub a (w .due) h d (ltb-false a (w .due) f))))
+
+pub due-exact : (o : Option Window) → dueF (Option·map flWindow o) ≡ fl (dueOf o)
+due-exact none = refl
+due-exact (some w) = refl
+
+pub limit-exact : (o : Option ℕ) → limitF (Option·map fl o) ≡ fl (valueOr 0 o)
+limit-exact none = refl
+limit-exact (some n) = refl
 
 -- a limit that is given is at most 2 ^ 53
 abbrev pub Small : Option ℕ → Type 0

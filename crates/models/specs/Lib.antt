@@ -3,5 +3,7 @@ pub mod Records
 -- Windows and limits on floats, as the code has them.
 pub mod Window
 pub mod Limits
+-- A load against a vehicle's capacity.
+pub mod Load
 -- Records of whole numbers, held in floats.
 pub mod Image

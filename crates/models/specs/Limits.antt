@@ -3,6 +3,12 @@ use mathlib.Core.Bool.{Bool, true, _&&_}
 use mathlib.Core.Option.{Option, none, some}
 use lib.Ieee as Ieee
 use lib.Ieee.{Float}
+use Rattle.basics.specs.Options.{valueOr}
+use Rattle.whole.specs.Whole.{fl}
+
+-- the limit, and 0 where there is none
+abbrev pub limitF : Option Float → Float
+limitF o = valueOr (fl 0) o
 
 -- at most the limit, if given
 abbrev pub withinF : Option Float → Float → Bool

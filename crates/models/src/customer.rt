@@ -1,7 +1,7 @@
 // Customer and time window (models/customer.rs).
 ghost use mathlib.Core.Path.{_≡_};
-ghost use Rattle.models.specs.Records.{windowOf};
-ghost use Rattle.models.specs.Window.{lateF, waitingF, latenessF};
+ghost use Rattle.models.specs.Records.{windowOf, openingOf};
+ghost use Rattle.models.specs.Window.{lateF, waitingF, latenessF, dueF};
 use whole::later;
 
 pub struct TimeWindow {
@@ -26,6 +26,16 @@ pub struct Customer {
     pub service_duration: f64,
     pub time_window: Opening,
     pub lateness_penalty: Penalty,
+}
+
+// When the window closes, and 0 where there is none.
+pub fn due_or_zero(opening: Opening) -> f64
+    ensures { λ r. ⌜ r ≡ dueF (openingOf opening) ⌝ }
+{
+    match opening {
+        Opening::Always => 0.0,
+        Opening::Window(window) => window.due,
+    }
 }
 
 impl TimeWindow {

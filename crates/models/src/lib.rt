@@ -1,5 +1,7 @@
-// Customers and vehicles: windows, breaks and limits, and the head of a sheet.
+// Customers and vehicles: windows, loads, breaks and limits, counts, and the head of a sheet.
+pub mod count;
 pub mod customer;
 pub mod head;
 pub mod limits;
+pub mod load;
 pub mod vehicle;

@@ -1,7 +1,7 @@
 // What a vehicle allows a run besides its capacity (RouteLimits of evaluation/mod.rs).
 ghost use mathlib.Core.Path.{_≡_};
 ghost use Rattle.models.specs.Records.{limitOf};
-ghost use Rattle.models.specs.Limits.{withinF, allowF};
+ghost use Rattle.models.specs.Limits.{limitF, withinF, allowF};
 use crate::vehicle::Rest;
 
 // No limit, or one.
@@ -14,6 +14,16 @@ pub struct RouteLimits {
     pub max_distance: Limit,
     pub max_duration: Limit,
     pub rest: Rest,
+}
+
+// The limit, and 0 where there is none.
+pub fn limit_or_zero(limit: Limit) -> f64
+    ensures { λ r. ⌜ r ≡ limitF (limitOf limit) ⌝ }
+{
+    match limit {
+        Limit::Unlimited => 0.0,
+        Limit::At(max) => max,
+    }
 }
 
 impl Limit {

@@ -39,3 +39,8 @@ pub mod MarkLists
 -- The visits of a run.
 pub mod RouteAnswers
 pub mod RouteRows
+-- Route elimination.
+pub mod EliminationCase
+pub mod EliminationAnswers
+pub mod EliminationRow
+pub mod EliminationLists

@@ -17,7 +17,7 @@ use denote.Struct.Declared.{Declared, row, shape}
 use denote.Struct.Struct.{Struct}
 use denote.Struct.Laws as LL
 use denote.Enum.Laws as EL
-use Rattle.visits.proofs.Rows.{Rs, all-makes}
+use Rattle.lending.proofs.ArrayRows.{Rs, all-makes}
 use Rattle.visits.proofs.visit.Visit as Vt
 use Rattle.visits.proofs.visit.Visit.Laws as Vt′
 use Rattle.visits.proofs.visit.Violation as Wt

@@ -12,3 +12,5 @@ pub mod Improving
 pub mod Marking
 -- The answer of the visits of a run.
 pub mod Visiting
+-- The answer of route elimination.
+pub mod Eliminating

@@ -1,7 +1,8 @@
 // The public calls: thin functions over lent slices above the proved cores.
 pub mod cutting;
+pub mod eliminating;
 pub mod evaluating;
-pub mod reading;
 pub mod improving;
 pub mod marking;
+pub mod reading;
 pub mod visiting;

@@ -1,9 +1,6 @@
 // What the next record shows.
 ghost use mathlib.Core.Path.{_≡_};
 ghost use Rattle.replay.specs.Seen.{isAnswer, isUnlike, seenOf};
-use crate::alike::listing_alike;
-use crate::record::Record;
-use crate::record::read;
 
 pub enum Seen {
     // The recorded answer is the computed one.
@@ -45,21 +42,8 @@ pub fn is_unlike(seen: Seen) -> bool
 }
 
 // What a comparison shows.
-fn seen_of(alike: bool) -> Seen
+pub fn seen_of(alike: bool) -> Seen
     ensures { λ r. ⌜ r ≡ seenOf alike ⌝ }
 {
     if alike { Seen::Alike } else { Seen::Unlike }
-}
-
-// Reads a sheet and its recorded listing, and compares. A sheet has at most 34,577 bytes, and a listing at most 16,384.
-// No contract can say what is read.
-pub fn next() -> Seen {
-    let mut sheet = [0u8; 34577];
-    let mut recorded = [0u8; 16384];
-    match read(&mut sheet, &mut recorded) {
-        Record::Whole(n, m) => seen_of(listing_alike(&sheet[..n], &recorded[..m])),
-        Record::End => Seen::End,
-        Record::CutShort => Seen::CutShort,
-        Record::TooLong => Seen::TooLong,
-    }
 }

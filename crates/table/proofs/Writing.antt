@@ -6,7 +6,7 @@ use native.Mathlib.Numerals.{add-one}
 use mathlib.Core.Path.{_≡_, sym, ap, _∙_}
 use mathlib.Core.List.{List, [], _∷_, _++_}
 use lib.ListN.{length, getD, set, take, drop, length-append, length-drop}
-use lib.Seq.{drop-cons, set-append-seam, append-snoc, take-suc, length-take-le, take-length, take-append-seam}
+use lib.Seq.{drop-cons, set-append-seam, append-snoc, take-suc, length-take-le, take-length, take-all, take-append-seam}
 use Rattle.basics.specs.Lists.{count, length-count}
 use Rattle.definitions.specs.Room.{written}
 
@@ -16,6 +16,14 @@ module _ {A : Type 0} where
 
   pub front-written : (l old : List A) → take (length l) (written l old) ≡ l
   front-written l old = take-append-seam l (drop (length l) old)
+
+  -- over a list of its length
+  pub written-over : (l old : List A) → length old ≡ length l → written l old ≡ l
+  written-over l old e = sym (take-all (length l) (written l old) (omega (arith, length-written l old (omega arith)))) ∙ front-written l old
+
+  -- the first n elements of a lent list, lent by themselves and come back as l
+  pub given-back : (l old : List A) (n : ℕ) → length l ≡ n → l ++ drop n old ≡ written l old
+  given-back l old n e = ap (λ (m : ℕ). l ++ drop m old) (sym e)
 
   -- one element more, at k
   pub written-more : (l old : List A) (k : ℕ) (x : A) → length l ≡ k → k < length old → set (written l old) k x ≡ written (l ++ (x ∷ [])) old

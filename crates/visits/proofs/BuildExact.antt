@@ -26,6 +26,7 @@ use Rattle.bounds.specs.Bounds.{Early, start-early, distance-most, last-most, s
 use Rattle.whole.specs.Whole.{fl, limit, fl-add, fl-lt}
 use Rattle.whole.specs.Numbers.{not-ltb}
 use Rattle.models.specs.Image.{flBreak}
+use Rattle.models.proofs.Exact.{limit-exact}
 use Rattle.evaluation.specs.Records.{Tables}
 use Rattle.evaluation.specs.Tables.{timeF, legsF}
 use Rattle.evaluation.specs.Schedule.{distanceFromF}
@@ -33,7 +34,7 @@ use Rattle.evaluation.specs.Image.{flTotals, flLimits, Image}
 use Rattle.evaluation.proofs.ClockExact.{distance-from-exact, time-exact, schedule-exact}
 use Rattle.evaluation.proofs.RouteExact.{start-exact}
 use Rattle.visits.specs.Visiting.{placedF, placeOf, durationF, missingF, restAtF, startTrip, tripF}
-use Rattle.visits.specs.Violations.{overF, limitF, when, checkedF}
+use Rattle.visits.specs.Violations.{overF, when, checkedF}
 use Rattle.visits.specs.Building.{builtF, buildRouteF}
 use Rattle.visits.specs.Image.{flViolation, flRoute}
 use Rattle.visits.proofs.Resting.{lengthOf, nowhere, no-place, agrees}
@@ -41,17 +42,9 @@ use Rattle.visits.proofs.VisitsExact.{tripOf, flRest, Onward, visits-ex
 
 -- ---- the violations
 
--- above is not at most
-above : (m n : ℕ) → ltb m n ≡ not (leb n m)
-above m n = rw (← not-ltb m n) (sym (Bool·not-not (ltb m n)))
-
 over-exact : (o : Option ℕ) (n : ℕ) → Holds Small o → n ≤ limit → overF (Option·map fl o) (fl n) ≡ not (within o n)
 over-exact none n h i = refl
-over-exact (some m) n h i = rw (fl-lt m n (omega arith) i) (above m n)
-
-limit-exact : (o : Option ℕ) → limitF (Option·map fl o) ≡ fl (valueOr 0 o)
-limit-exact none = refl
-limit-exact (some m) = refl
+over-exact (some m) n h i = rw (fl-lt m n (omega arith) i) (rw (← not-ltb m n) (sym (Bool·not-not (ltb m n))))
 
 -- a violation where a test holds is one where the opposite test fails
 when-exact : (b c : Bool) (v : Violation) → b ≡ not c → when b (flViolation v) ≡ map flViolation (unless c v)
@@ -76,7 +69,7 @@ module _ (s : Sheet) (S : Sized s) (windows : List Violation) (missing : Bool) (
         limit-exact (s .maxDistance),
         limit-exact (s .maxDuration),
         when-exact (missing && isEmpty windows) (not (missing && isEmpty windows)) breakNotPlaceable (sym (Bool·not-not (missing && isEmpty windows))),
-        when-exact (ltb (s .capacity) load) (leb load (s .capacity)) (overCapacity load (s .capacity)) (above (s .capacity) load),
+        when-exact _ (leb load (s .capacity)) (overCapacity load (s .capacity)) refl,
         when-exact _ (within (s .maxDistance) distance) (overDistance distance (valueOr 0 (s .maxDistance))) (over-exact (s .maxDistance) distance (S .far-small) far),
         when-exact _ (within (s .maxDuration) duration) (overDuration duration (valueOr 0 (s .maxDuration))) (over-exact (s .maxDuration) duration (S .long-small) long),
       )

@@ -2,7 +2,7 @@
 use Prim.Native.Nat.{ℕ, zero, suc, _+_, _≤_}
 use native.Mathlib.Omega.{arith}
 use mathlib.Core.Path.{_≡_, refl, sym}
-use mathlib.Core.Bool.{Bool, true, false, cond, _&&_}
+use mathlib.Core.Bool.{Bool, true, false, cond, not, _&&_}
 use mathlib.Core.List.{List, [], _∷_}
 use lib.Dec.{eqb}
 use lib.ListN.{length, take}
@@ -10,12 +10,14 @@ use borrow.Author.Tests.{eqb-true, eq-eqb, ne-eqb}
 use lib.Ieee.{Float}
 use Rattle.basics.specs.Tests.{and-right}
 use Rattle.basics.specs.Lists.{isEmpty}
+use Rattle.models.specs.Limits.{limitF}
+use Rattle.models.specs.Load.{fitsLoad}
 use Rattle.evaluation.specs.Records.{LimitsF}
 use Rattle.visits.specs.declared.visit.ViolationType.the-variants.{BreakNotPlaceable, CapacityExceeded, MaxDistanceExceeded, MaxDurationExceeded}
 use Rattle.visits.specs.declared.visit.Violation.{Violation}
 use Rattle.visits.specs.declared.violation.Violations.{Violations}
 use Rattle.visits.specs.Visiting.{listed}
-use Rattle.visits.specs.Violations.{overloaded, overF, limitF, checkedF, Pushed, Checked}
+use Rattle.visits.specs.Violations.{overF, checkedF, Pushed, Checked}
 
 -- nothing is counted exactly where nothing is listed
 counts-none : {A : Type 0} (n : ℕ) (l : List A) → n ≤ length l → eqb n 0 ≡ isEmpty (take n l)
@@ -41,7 +43,7 @@ break-room n m missing false eb e h = omega arith
 -- f is what is found before, and p, l, n and r with the break, the load, the distance and the duration
 module _ (f p l n r : Violations) (missing : Bool) (load capacity : ℕ) (limits : LimitsF) (distance duration : Float) (long : length (f .list) ≡ 131) (few : f .count ≤ 128)
     (b : Bool) (eb : b ≡ (missing && eqb (f .count) 0)) (P : Pushed f b (record { kind = BreakNotPlaceable }) p)
-    (c : Bool) (ec : c ≡ overloaded load capacity) (L : Pushed p c (record { kind = CapacityExceeded load capacity }) l)
+    (c : Bool) (ec : c ≡ not (fitsLoad load capacity)) (L : Pushed p c (record { kind = CapacityExceeded load capacity }) l)
     (d : Bool) (far : Float) (ed : d ≡ overF (limits .maxDistance) distance) (ef : far ≡ limitF (limits .maxDistance)) (N : Pushed l d (record { kind = MaxDistanceExceeded distance far }) n)
     (t : Bool) (late : Float) (et : t ≡ overF (limits .maxDuration) duration) (el : late ≡ limitF (limits .maxDuration)) (R : Pushed n t (record { kind = MaxDurationExceeded duration late }) r) where
   pub all-checked : Checked f missing load capacity limits distance duration r

@@ -6,6 +6,3 @@ pub mod Assembling
 pub mod Resting
 pub mod VisitsExact
 pub mod BuildExact
--- What the walks over lent lists cite.
-pub mod Rows
-pub mod Scattering

@@ -23,14 +23,14 @@ use Rattle.bounds.specs.Inside.{Small, SmallWindow, SmallBreak, SmallCustomer, 
 use Rattle.bounds.specs.Bounds.{Early, readyBy, begins-most, enter-most, readiness-most, visited-early}
 use Rattle.whole.specs.Whole.{fl, limit, fl-add}
 use Rattle.models.specs.Image.{flWindow, flCustomer}
-use Rattle.models.proofs.Exact.{waiting-exact}
+use Rattle.models.proofs.Exact.{waiting-exact, due-exact}
 use Rattle.evaluation.specs.Records.{Tables}
 use Rattle.evaluation.specs.Tables.{distanceF, legsF}
 use Rattle.evaluation.specs.Image.{flLabel, Image}
 use Rattle.evaluation.proofs.ServingExact.{enter-exact}
 use Rattle.evaluation.proofs.ClockExact.{record-exact, time-exact}
 use Rattle.visits.specs.declared.trip.Trip.{Trip}
-use Rattle.visits.specs.Visiting.{RestF, readyAtF, beginF, dueF, servedBy, servedF, stopF, stopAtF, visitsF, windowsF, tripF}
+use Rattle.visits.specs.Visiting.{RestF, readyAtF, beginF, servedBy, servedF, stopF, stopAtF, visitsF, windowsF, tripF}
 use Rattle.visits.specs.Image.{flVisit, flViolation}
 use Rattle.visits.proofs.Resting.{lengthOf, readyAt, Agrees}
 
@@ -45,10 +45,6 @@ tripOf far l carried a = record { label = flLabel (unplaced l); distance = far; 
 -- the break by its place and start
 abbrev pub flRest : Sheet → ℕ → Option ℕ → Bool → RestF
 flRest s place o missing = record { place = place; start = Option·map fl o; duration = fl (lengthOf (s .rest)); missing = missing }
-
-due-exact : (w : Option Window) → dueF (Option·map flWindow w) ≡ fl (dueOf w)
-due-exact none = refl
-due-exact (some w) = refl
 
 length-small : (o : Option Break) → Holds SmallBreak o → Small (lengthOf o)
 length-small none B = omega arith

@@ -1,32 +1,25 @@
 -- What a run violates besides its windows, on floats, in the order of the code. Definitions only.
 use Prim.Native.Nat.{ℕ, _+_, _≤_}
 use mathlib.Core.Path.{_≡_}
-use mathlib.Core.Bool.{Bool, false, cond, _&&_}
+use mathlib.Core.Bool.{Bool, false, cond, not, _&&_}
 use mathlib.Core.List.{List, [], _∷_, _++_}
 use mathlib.Core.Option.{Option, none, some}
-use lib.Dec.{ltb}
 use lib.ListN.{length}
 use lib.Ieee as Ieee
 use lib.Ieee.{Float}
 use Rattle.basics.specs.Lists.{isEmpty}
-use Rattle.whole.specs.Whole.{fl}
+use Rattle.models.specs.Limits.{limitF}
+use Rattle.models.specs.Load.{fitsLoad}
 use Rattle.evaluation.specs.Records.{LimitsF}
 use Rattle.visits.specs.declared.visit.ViolationType.the-variants.{BreakNotPlaceable, CapacityExceeded, MaxDistanceExceeded, MaxDurationExceeded}
 use Rattle.visits.specs.declared.visit.Violation.{Violation}
 use Rattle.visits.specs.declared.violation.Violations.{Violations}
 use Rattle.visits.specs.Visiting.{listed}
 
-abbrev pub overloaded : ℕ → ℕ → Bool
-overloaded load capacity = ltb capacity load
-
 -- above the limit, if there is one
 abbrev pub overF : Option Float → Float → Bool
 overF none x = false
 overF (some max) x = Ieee.lt max x
-
-abbrev pub limitF : Option Float → Float
-limitF none = fl 0
-limitF (some max) = max
 
 -- the violation, where the test holds
 abbrev pub when : Bool → Violation → List Violation
@@ -37,7 +30,7 @@ unfoldable pub checkedF : List Violation → Bool → ℕ → ℕ → LimitsF �
 checkedF windows missing load capacity limits distance duration =
     windows
     ++ when (missing && isEmpty windows) (record { kind = BreakNotPlaceable })
-    ++ when (overloaded load capacity) (record { kind = CapacityExceeded load capacity })
+    ++ when (not (fitsLoad load capacity)) (record { kind = CapacityExceeded load capacity })
     ++ when (overF (limits .maxDistance) distance) (record { kind = MaxDistanceExceeded distance (limitF (limits .maxDistance)) })
     ++ when (overF (limits .maxDuration) duration) (record { kind = MaxDurationExceeded duration (limitF (limits .maxDuration)) })
 

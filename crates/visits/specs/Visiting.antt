@@ -11,7 +11,7 @@ use lib.Ieee.{Float, binary64}
 use Rattle.basics.specs.Options.{_>>=_, present, valueOr}
 use Rattle.definitions.specs.Sheet.{WindowOf, BreakOf, CustomerOf}
 use Rattle.whole.specs.Whole.{fl}
-use Rattle.models.specs.Window.{waitingF}
+use Rattle.models.specs.Window.{waitingF, dueF}
 use Rattle.evaluation.specs.declared.schedule.Label.{Label}
 use Rattle.evaluation.specs.declared.schedule.Scheduled.{Scheduled}
 use Rattle.evaluation.specs.Records.{Tables, startOf}
@@ -74,10 +74,6 @@ readyAtF r k arrival = valueOr arrival (r .start >>= λ from. cond (eqb (r .plac
 unfoldable pub beginF : Option (WindowOf Float) → Float → Float
 beginF none readiness = readiness
 beginF (some w) readiness = Ieee.add binary64 readiness (waitingF w readiness)
-
-abbrev pub dueF : Option (WindowOf Float) → Float
-dueF none = fl 0
-dueF (some w) = w .due
 
 -- the label as service starts: where the window is shut nothing is charged
 abbrev pub stayF : CustomerOf Float → Float → Label → Option Label → Label

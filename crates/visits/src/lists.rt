@@ -6,7 +6,7 @@ ghost use Rattle.definitions.specs.Room.{written};
 ghost use Rattle.visits.specs.Visiting.{blankVisit, blankViolation};
 use crate::visit::Violation;
 use crate::visit::Visit;
-use evaluation::route::fewer;
+use lending::fitting;
 
 pub fn picked_visit(records: [Visit; 128], i: usize) -> Visit
     requires { ⌜ i < 128 ⌝ }
@@ -20,14 +20,6 @@ pub fn picked_violation(records: [Violation; 131], i: usize) -> Violation
     ensures { λ r. ⌜ r ≡ getD records i blankViolation ⌝ }
 {
     records[i]
-}
-
-// How many of n records an array of this length holds and a list of so many takes.
-pub fn fitting(n: usize, held: usize, room: usize) -> usize
-    ensures { λ r. ⌜ r ≡ min (min n held) room ⌝ }
-{
-    let m = fewer(n, held);
-    fewer(m, room)
 }
 
 // The first n visits written at the front, as far as there is room; the rest stays.

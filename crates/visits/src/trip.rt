@@ -2,9 +2,8 @@
 ghost use mathlib.Core.Path.{_≡_};
 ghost use Prim.Native.Nat.{_+_, _≤_};
 ghost use Rattle.models.specs.Records.{openingOf, customerOf};
-ghost use Rattle.visits.specs.Visiting.{restAtOf, beginF, dueF, servedF, startTrip, stopF};
+ghost use Rattle.visits.specs.Visiting.{restAtOf, beginF, servedF, startTrip, stopF};
 use crate::rest::RestAt;
-use crate::violation::wide;
 use crate::visit::Violation;
 use crate::visit::ViolationType;
 use crate::visit::Visit;
@@ -13,6 +12,8 @@ use evaluation::schedule::Reached;
 use evaluation::schedule::enter;
 use models::customer::Customer;
 use models::customer::Opening;
+use models::customer::due_or_zero;
+use models::load::wide;
 
 // A call as it is left, and whether it was reached after due without a penalty.
 pub struct Served {
@@ -43,16 +44,6 @@ pub fn service_start(opening: Opening, ready: f64) -> f64
     match opening {
         Opening::Always => ready,
         Opening::Window(window) => ready + window.waiting_time(ready),
-    }
-}
-
-// When a window closes, and 0 where there is none.
-pub fn due_of(opening: Opening) -> f64
-    ensures { λ r. ⌜ r ≡ dueF (openingOf opening) ⌝ }
-{
-    match opening {
-        Opening::Always => 0.0,
-        Opening::Window(window) => window.due,
     }
 }
 
@@ -133,7 +124,7 @@ impl Trip {
                 kind: ViolationType::TimeWindowViolated {
                     customer_id: cid,
                     arrival: ready,
-                    due: due_of(opening),
+                    due: due_or_zero(opening),
                 },
             },
             shut: call.shut,

@@ -6,28 +6,18 @@ ghost use lib.Dec.{eqb};
 ghost use lib.ListN.{length};
 ghost use Rattle.models.specs.Records.{limitOf};
 ghost use Rattle.evaluation.specs.Records.{limitsOf};
-ghost use Rattle.visits.specs.Violations.{Pushed, Checked, overF, limitF, overloaded};
+ghost use Rattle.visits.specs.Violations.{Pushed, Checked, overF};
 use crate::visit::Violation;
 use crate::visit::ViolationType;
 use models::limits::Limit;
 use models::limits::RouteLimits;
+use models::limits::limit_or_zero;
+use models::load::fits;
 
 // The first `count` of the list.
 pub struct Violations {
     pub list: [Violation; 131],
     pub count: usize,
-}
-
-pub fn wide(x: u32) -> u64
-    ensures { λ r. ⌜ (r ≡ x) × (r < 4294967296) ⌝ }
-{
-    x as u64
-}
-
-pub fn overload(load: u64, capacity: u32) -> bool
-    ensures { λ r. ⌜ r ≡ overloaded load capacity ⌝ }
-{
-    load > wide(capacity)
 }
 
 // Above the limit, if there is one.
@@ -37,16 +27,6 @@ pub fn exceeds(limit: Limit, x: f64) -> bool
     match limit {
         Limit::Unlimited => false,
         Limit::At(max) => x > max,
-    }
-}
-
-// The limit, and 0 where there is none.
-pub fn limit_of(limit: Limit) -> f64
-    ensures { λ r. ⌜ r ≡ limitF (limitOf limit) ⌝ }
-{
-    match limit {
-        Limit::Unlimited => 0.0,
-        Limit::At(max) => max,
     }
 }
 
@@ -97,7 +77,7 @@ impl Violations {
             },
         );
         let loaded = placed.pushed(
-            overload(load, capacity),
+            !fits(load, capacity),
             Violation {
                 kind: ViolationType::CapacityExceeded { load, capacity },
             },
@@ -107,7 +87,7 @@ impl Violations {
             Violation {
                 kind: ViolationType::MaxDistanceExceeded {
                     distance,
-                    max_distance: limit_of(max_distance),
+                    max_distance: limit_or_zero(max_distance),
                 },
             },
         );
@@ -116,7 +96,7 @@ impl Violations {
             Violation {
                 kind: ViolationType::MaxDurationExceeded {
                     duration,
-                    max_duration: limit_of(max_duration),
+                    max_duration: limit_or_zero(max_duration),
                 },
             },
         )

@@ -39,7 +39,8 @@ use denote.Exit.{yes}
 use Rattle.lending.specs.Padding.{blankOf}
 use Rattle.models.specs.declared.customer.Customer.{Customer}
 use Rattle.lending.proofs.Rows as rows
-use Rattle.lending.proofs.Rows.{R, mach, place-fits}
+use Rattle.lending.proofs.Rows.{R, mach}
+use Rattle.lending.proofs.ArrayRows.{place-fits}
 use Rattle.lending.proofs.customer_at.Key.{name as #lending·customer-at}
 use Rattle.lending.proofs.customer_at as at′
 use Rattle.lending.proofs.customer_at.Statement as stated
@@ -89,7 +90,7 @@ module _ {M : Type 1} (𝓤 : URA M) (H : Heap 𝓤) (A : Atoms 𝓤) (W : Given
         alloc1 ! (λ l₀. alloc1 ! (λ l₁. alloc1 ! (λ l₂. alloc1 ! (λ l₃. alloc1 ! (λ l₄. alloc1 ! (λ l₅. alloc0 ! $ params1 ! $
         pass1 ! (init ! 8 refl (shr-slice-lawful 𝓤 H A W (named 0) κ R .typed s (v ∷ []) p .0)) $ pass1 ! (init ! 6 refl (tt, record { fits = gi })) $ pass0 ! $
         -- [_5; …; _4; …; _3; …; _2; …; _1; …; _0; …; the token; what cs and i own]
-        assigns ! (bin ! (load ! (from ! (stop !)) (look ! 6 refl)) (lit ! tt) (record { fits = place-fits i (length ys) l (p .0 .1 .1) })) (from ! (stop !)) (init ! 4 refl (tt, record { fits = place-fits i (length ys) l (p .0 .1 .1) })) $
+        assigns ! (bin ! (load ! (from ! (stop !)) (look ! 6 refl)) (lit ! tt) (record { fits = place-fits i (length ys) 56 l (p .0 .1 .1) })) (from ! (stop !)) (init ! 4 refl (tt, record { fits = place-fits i (length ys) 56 l (p .0 .1 .1) })) $
         assigns ! (bin ! (load ! (from ! (fld ! refl (stop !))) (look-in ! 8 (sub ! 0 refl (whole !)))) (load ! (from ! (stop !)) (look ! 4 refl)) tt) (from ! (stop !)) (init ! 2 refl (tt, tt)) $
         rewrite ! 2 (λ (p′ : ℕ). ‵ (fat fullShare tyPtr l₄ 0 (vptr b p′))) (sym (place-is 56 o i)) refl $
         -- the reference is Copy: one copy of what it owns is kept for the exit, and of the other the fractured borrow is kept

@@ -1,4 +1,4 @@
--- `lending::gathered` meets its contract: a walk of its MIR, by hand, with a loop. A turn calls `customer_at` and `put`; all that the proof knows of them, of `capped` and of `blanks` is that each meets its contract.
+-- `lending::gathered` meets its contract: a walk of its MIR, by hand, with a loop. A turn calls `customer_at` and `put`; all that the proof knows of them, of `fewer` and of `blanks` is that each meets its contract.
 -- The loop is `Types/Run.antt`'s `loops`. Its variant is a number i up to n with the array's machine value u, and that u is the machine value of the first i records padded to 64. An array of records owns only facts, so
 -- the context has nothing of it but its cell: what it owns is made anew where a call asks for it (`calls-plain`).
 -- Assumes nothing.
@@ -48,7 +48,8 @@ use Rattle.models.specs.declared.customer.Customer.{Customer}
 use Rattle.walks.proofs.Calling.{Met, asked, asked-none, calls-said, calls-plain}
 use Rattle.lending.proofs.Lists.{padded-none, padded-more, padded-all}
 use Rattle.lending.proofs.Rows as rows
-use Rattle.lending.proofs.Rows.{R, Rs, tyAt}
+use Rattle.lending.proofs.Rows.{R, Rs}
+use Rattle.lending.proofs.ArrayRows.{tyAt}
 use Rattle.lending.proofs.customer_at as at′
 use Rattle.lending.proofs.customer_at.Symbol as at-def
 use Rattle.lending.proofs.customer_at.Symbol.{name as #lending·customer-at}
@@ -57,10 +58,10 @@ use Rattle.lending.proofs.put as put′
 use Rattle.lending.proofs.put.Symbol as put-def
 use Rattle.lending.proofs.put.Symbol.{name as #lending·put}
 use Rattle.lending.proofs.put.Met as put-thm
-use Rattle.lending.proofs.capped as capped′
-use Rattle.lending.proofs.capped.Symbol as capped-def
-use Rattle.lending.proofs.capped.Symbol.{name as #lending·capped}
-use Rattle.lending.proofs.capped.Met as capped-thm
+use Rattle.models.proofs.count.fewer as fewer′
+use Rattle.models.proofs.count.fewer.Symbol as fewer-def
+use Rattle.models.proofs.count.fewer.Symbol.{name as #fewer}
+use Rattle.models.proofs.count.fewer.Met as fewer-thm
 use Rattle.lending.proofs.blanks as blanks′
 use Rattle.lending.proofs.blanks.Symbol as blanks-def
 use Rattle.lending.proofs.blanks.Symbol.{name as #lending·blanks}
@@ -83,7 +84,7 @@ module _ {M : Type 1} (𝓤 : URA M) (H : Heap 𝓤) (A : Atoms 𝓤) (mem : Mem
   abbrev Known : Calls 𝓤 H → Type 1
   Known C =
       Triple 𝓤 (C #lending·customer-at) (Met 𝓤 H A at′.ended (at′.clauses 𝓤 H A mem run)) × Triple 𝓤 (C #lending·put) (Met 𝓤 H A put′.ended (put′.clauses 𝓤 H A mem run))
-      × Triple 𝓤 (C #lending·capped) (Met 𝓤 H A capped′.ended (capped′.clauses 𝓤 H A mem run)) × Triple 𝓤 (C #lending·blanks) (Met 𝓤 H A blanks′.ended (blanks′.clauses 𝓤 H A mem run))
+      × Triple 𝓤 (C #fewer) (Met 𝓤 H A fewer′.ended (fewer′.clauses 𝓤 H A mem run)) × Triple 𝓤 (C #lending·blanks) (Met 𝓤 H A blanks′.ended (blanks′.clauses 𝓤 H A mem run))
 
 module _ {M : Type 1} (𝓤 : URA M) (H : Heap 𝓤) (A : Atoms 𝓤) (W : Given 𝓤 H A) (mem : Memory → SProp 𝓤) (run : Routine → Fun 𝓤) (κ : Lft) (q : Share) (s : RefT (List Customer)) (len-fits : length (s .now) < 2 ^ 64) where
   abbrev ys : List Customer
@@ -179,8 +180,8 @@ module _ {M : Type 1} (𝓤 : URA M) (H : Heap 𝓤) (A : Atoms 𝓤) (W : Given
       alloc1 ! (λ l₀. alloc1 ! (λ l₁. alloc1 ! (λ l₂. alloc1 ! (λ l₃. alloc1 ! (λ l₄. alloc1 ! (λ l₅. alloc1 ! (λ l₆. alloc1 ! (λ l₇. alloc0 ! $ params1 ! $ pass1 ! (init ! 12 refl (shr-slice-lawful 𝓤 H A W (named 0) κ R .typed s (v ∷ []) p .0)) $ pass0 ! $
       -- [_7; …; _6; …; _5; …; _4; …; _3; …; _2; …; _1; …; _0; …; the token; what cs owns]
       assigns ! (of-opd ! (load ! (from ! (fld ! refl (stop !))) (look-in ! 12 (sub ! 1 refl (whole !))))) (from ! (stop !)) (init ! 2 refl (tt, record { fits = len-fits })) $
-      calls-plain ! (fmOf 𝓤 H (W .laws) 𝓣) capped′.ended (capped′.clauses 𝓤 H A mem run) (known .2) tt tt tt (length ys, tt) (vint w64 (length ys) ∷ [], tt) tt (id⊢ 𝓤 _) (uint-makes 𝓤 H A W w64, tt) ((refl, len-fits), tt) (asked-none 𝓤) (λ r _. r ≡ min (length ys) 64) (λ r e. id⊢ 𝓤 _)
-      (and-then ! (load ! (from ! (stop !)) (look ! 3 refl)) (no-more !)) (λ u n ws e is. land ! (from ! (stop !)) (init ! 10 refl (uint-lawful 𝓤 H A W w64 .typed n _ is .0)) $ rewrite ! 10 (λ (z : Val). ‵ (fat fullShare (τ 2) l₂ 0 z)) (ap only (is .0)) refl $
+      calls-plain ! (fmOf 𝓤 H (W .laws) 𝓣) fewer′.ended (fewer′.clauses 𝓤 H A mem run) (known .2) tt tt tt (length ys, (64, tt)) (vint w64 (length ys) ∷ [], (vint w64 64 ∷ [], tt)) tt (id⊢ 𝓤 _) (uint-makes 𝓤 H A W w64, (uint-makes 𝓤 H A W w64, tt)) ((refl, len-fits), ((refl, lit< tt), tt)) (asked-none 𝓤) (λ r _. r ≡ min (length ys) 64) (λ r e. id⊢ 𝓤 _)
+      (and-then ! (load ! (from ! (stop !)) (look ! 3 refl)) (and-then ! (lit ! tt) (no-more !))) (λ u n ws e is. land ! (from ! (stop !)) (init ! 10 refl (uint-lawful 𝓤 H A W w64 .typed n _ is .0)) $ rewrite ! 10 (λ (z : Val). ‵ (fat fullShare (τ 2) l₂ 0 z)) (ap only (is .0)) refl $
       calls-plain ! (fmOf 𝓤 H (W .laws) 𝓣) blanks′.ended (blanks′.clauses 𝓤 H A mem run) (known .3) tt tt tt tt tt tt (id⊢ 𝓤 _) tt tt (asked-none 𝓤) (λ r _. r ≡ lib.ListN.replicate 64 blankOf) (λ r e. id⊢ 𝓤 _)
       (no-more !) (λ u₂ xs ws₂ e₂ is₂. land ! (from ! (stop !)) (init ! 8 refl (rows.all-lawful 𝓤 H A W .typed xs _ is₂ .0)) $
       assigns ! (of-opd ! (lit ! tt)) (from ! (stop !)) (init ! 6 refl (tt, record { fits = lit< tt })) $
@@ -207,6 +208,6 @@ gathered-spec 𝓤 H 𝓜 𝓖 𝓡 =
     (gathered-meets 𝓤 H (𝓖 .A) (givenOf 𝓤 H 𝓜 𝓖) (𝓜 .mem) (𝓡 .run) (tablesOf 𝓤 H 𝓜 (tables 𝓤 H 𝓜 𝓡 code.env)) (
       cited 𝓤 H (Met 𝓤 H (𝓖 .A) at′.ended (at′.clauses 𝓤 H (𝓖 .A) (𝓜 .mem) (𝓡 .run))) 𝓜 𝓡 code.env #lending·customer-at at-def.routine code.calls-lending·customer-at (at-thm.met 𝓤 H 𝓜 𝓖 𝓡),
       cited 𝓤 H (Met 𝓤 H (𝓖 .A) put′.ended (put′.clauses 𝓤 H (𝓖 .A) (𝓜 .mem) (𝓡 .run))) 𝓜 𝓡 code.env #lending·put put-def.routine code.calls-lending·put (put-thm.met 𝓤 H 𝓜 𝓖 𝓡),
-      cited 𝓤 H (Met 𝓤 H (𝓖 .A) capped′.ended (capped′.clauses 𝓤 H (𝓖 .A) (𝓜 .mem) (𝓡 .run))) 𝓜 𝓡 code.env #lending·capped capped-def.routine code.calls-lending·capped (capped-thm.met 𝓤 H 𝓜 𝓖 𝓡),
+      cited 𝓤 H (Met 𝓤 H (𝓖 .A) fewer′.ended (fewer′.clauses 𝓤 H (𝓖 .A) (𝓜 .mem) (𝓡 .run))) 𝓜 𝓡 code.env #fewer fewer-def.routine code.calls-models·count·fewer (fewer-thm.met 𝓤 H 𝓜 𝓖 𝓡),
       cited 𝓤 H (Met 𝓤 H (𝓖 .A) blanks′.ended (blanks′.clauses 𝓤 H (𝓖 .A) (𝓜 .mem) (𝓡 .run))) 𝓜 𝓡 code.env #lending·blanks blanks-def.routine code.calls-lending·blanks (blanks-thm.met 𝓤 H 𝓜 𝓖 𝓡),
     ))

@@ -9,13 +9,13 @@ use borrow.Author.Needs.{needs}
 use Rattle.checks.proofs.lengths.too_short.Statement.{statement}
 use Rattle.checks.proofs.lengths.too_short.Tie as tie
 
-short-requires : tie.Need-short-requires
-short-requires c κs = search needs
+results-short-requires : tie.Need-results-short-requires
+results-short-requires c κs = search needs
 
 returns : tie.Need-returns
 returns c =
-    let a = c .before .before .before .before .before .args in
-    join (ltb (a .customers) (a .places)) (c .short .result ∷ (a .marks && ltb (length (a .breaks .now)) (length (a .ends .now))) ∷ []) ∙ rw (c .short .ensures)
+    let a = c .before .before .before .before .before .before .before .args in
+    join (ltb (a .customers) (a .places)) (c .before .results-short .result ∷ (a .kind .marks && ltb (length (a .breaks .now)) (length (a .ends .now))) ∷ []) ∙ rw (c .before .results-short .ensures)
 
 pub too-short-spec : {M : Type 1} → statement M
-too-short-spec = tie.close (tie.spec short-requires returns)
+too-short-spec = tie.close (tie.spec results-short-requires returns)

@@ -14,7 +14,7 @@ use Rattle.checks.proofs.order.refusal.Statement.{statement}
 use Rattle.checks.proofs.order.refusal.Tie as tie
 
 -- what the function is given
-abbrev given : {q : lts.Claims} {κs : Lfts 8} → lts.Args q reads.Pre reads.Post κs → Given
+abbrev given : {q : lts.Claims} {κs : Lfts 7} → lts.Args q reads.Pre reads.Post κs → Given
 given a =
     record {
       kind = a .kind;
@@ -27,7 +27,6 @@ given a =
       calls = a .calls .now;
       ends = a .ends .now;
       breaks = a .breaks .now;
-      needs = a .needs .now;
       rooms = a .rooms .now;
     }
 
@@ -36,7 +35,7 @@ too-short-requires c κs = search needs
 
 returns : tie.Need-returns
 returns c =
-    let a = c .before .before .before .before .before .before .before .before .before .before .args in
+    let a = c .before .before .before .before .before .before .before .before .before .args in
     (λ cs G. says-13 (given a) cs G (sym (c .before .too-short .ensures) ∙ c .if1 .taken), λ e. absurd (omega arith))
 
 tables-odd-requires : tie.Need-tables-odd-requires
@@ -44,7 +43,7 @@ tables-odd-requires c κs = search needs
 
 returns-2 : tie.Need-returns-2
 returns-2 c =
-    let a = c .before .before .before .before .before .before .before .before .before .before .before .before .args in
+    let a = c .before .before .before .before .before .before .before .before .before .before .before .args in
     (λ cs G. says-14 (given a) cs G (sym (c .before .before .before .too-short .ensures) ∙ c .before .before .if1 .left) (sym (c .before .tables-odd .ensures) ∙ c .if2 .taken), λ e. absurd (omega arith))
 
 out-of-range-requires : tie.Need-out-of-range-requires
@@ -52,7 +51,7 @@ out-of-range-requires c κs = search needs
 
 returns-3 : tie.Need-returns-3
 returns-3 c =
-    let a = c .before .before .before .before .before .before .before .before .before .before .before .before .before .before .args in
+    let a = c .before .before .before .before .before .before .before .before .before .before .before .before .before .args in
     (λ cs G. says-1 (given a) cs G (sym (c .before .before .before .before .before .too-short .ensures) ∙ c .before .before .before .before .if1 .left) (sym (c .before .before .before .tables-odd .ensures) ∙ c .before .before .if2 .left) (sym (c .before .out-of-range .ensures) ∙ c .if3 .taken), λ e. absurd (omega arith))
 
 pairs-fall-requires : tie.Need-pairs-fall-requires
@@ -60,7 +59,7 @@ pairs-fall-requires c κs = search needs
 
 returns-4 : tie.Need-returns-4
 returns-4 c =
-    let a = c .before .before .before .before .before .before .before .before .before .before .before .before .before .before .before .before .args in
+    let a = c .before .before .before .before .before .before .before .before .before .before .before .before .before .before .before .args in
     (λ cs G. says-2 (given a) cs G (sym (c .before .before .before .before .before .before .before .too-short .ensures) ∙ c .before .before .before .before .before .before .if1 .left) (sym (c .before .before .before .before .before .tables-odd .ensures) ∙ c .before .before .before .before .if2 .left) (sym (c .before .before .before .out-of-range .ensures) ∙ c .before .before .if3 .left) (sym (c .before .pairs-fall .ensures) ∙ c .if4 .taken), λ e. absurd (omega arith))
 
 has-break-requires : tie.Need-has-break-requires
@@ -71,7 +70,7 @@ runs-odd-requires c κs = search needs
 
 returns-5 : tie.Need-returns-5
 returns-5 c =
-    let a = c .before .before .before .before .before .before .before .before .before .before .before .before .before .before .before .before .before .before .before .before .args in
+    let a = c .before .before .before .before .before .before .before .before .before .before .before .before .before .before .before .before .before .before .before .args in
     (λ cs G. says-5 (given a) cs G (sym (c .before .before .before .before .before .before .before .before .before .before .before .too-short .ensures) ∙ c .before .before .before .before .before .before .before .before .before .before .if1 .left) (sym (c .before .before .before .before .before .before .before .before .before .tables-odd .ensures) ∙ c .before .before .before .before .before .before .before .before .if2 .left) (sym (c .before .before .before .before .before .before .before .out-of-range .ensures) ∙ c .before .before .before .before .before .before .if3 .left) (sym (c .before .before .before .before .before .pairs-fall .ensures) ∙ c .before .before .before .before .if4 .left) (ap (λ (b : Bool). runsOddOf (a .kind) b (length (a .calls .now)) (a .ends .now) (a .breaks .now)) (sym (c .before .before .has-break .ensures)) ∙ sym (c .before .runs-odd .ensures) ∙ c .if5 .taken), λ e. absurd (omega arith))
 
 lateness-pay-requires : tie.Need-lateness-pay-requires
@@ -79,18 +78,18 @@ lateness-pay-requires c κs = search needs
 
 returns-6 : tie.Need-returns-6
 returns-6 c =
-    let a = c .before .before .before .before .before .before .before .before .before .before .before .before .before .before .before .before .before .before .before .before .before .before .args in
+    let a = c .before .before .before .before .before .before .before .before .before .before .before .before .before .before .before .before .before .before .before .before .before .args in
     (λ cs G. says-4 (given a) cs G (sym (c .before .before .before .before .before .before .before .before .before .before .before .before .before .too-short .ensures) ∙ c .before .before .before .before .before .before .before .before .before .before .before .before .if1 .left) (sym (c .before .before .before .before .before .before .before .before .before .before .before .tables-odd .ensures) ∙ c .before .before .before .before .before .before .before .before .before .before .if2 .left) (sym (c .before .before .before .before .before .before .before .before .before .out-of-range .ensures) ∙ c .before .before .before .before .before .before .before .before .if3 .left) (sym (c .before .before .before .before .before .before .before .pairs-fall .ensures) ∙ c .before .before .before .before .before .before .if4 .left) (ap (λ (b : Bool). runsOddOf (a .kind) b (length (a .calls .now)) (a .ends .now) (a .breaks .now)) (sym (c .before .before .before .before .has-break .ensures)) ∙ sym (c .before .before .before .runs-odd .ensures) ∙ c .before .before .if5 .left) (sym (c .before .lateness-pay .ensures) ∙ c .if6 .taken), λ e. absurd (omega arith))
 
 returns-7 : tie.Need-returns-7
 returns-7 c =
-    let a = c .before .before .before .before .before .before .before .before .before .before .before .before .before .before .before .before .before .before .before .before .before .before .args in
-    let s = c .before .before .before .before .before .before .before .before .before .before .before .before .before .before .before .before .before .before .before .before .before .before in
+    let a = c .before .before .before .before .before .before .before .before .before .before .before .before .before .before .before .before .before .before .before .before .before .args in
+    let s = c .before .before .before .before .before .before .before .before .before .before .before .before .before .before .before .before .before .before .before .before .before in
     let fitting : Fitting (given a) = record {
       head = fit-head (a .head) _ (s .good .1 .0);
       array = fit-customers (a .customers) _ (s .good .1 .1 .0 .1 .1);
-      distances = fit-table (a .distances .now) _ (λ i k. c .before .before .before .before .before .before .before .before .before .before .before .before .before .before .before .before .before .before .before .before .before .shared-slice-known .given i);
-      times = fit-table (a .times .now) _ (λ i k. c .before .before .before .before .before .before .before .before .before .before .before .before .before .before .before .before .before .before .before .before .shared-slice-known2 .given i);
+      distances = fit-table (a .distances .now) _ (λ i k. c .before .before .before .before .before .before .before .before .before .before .before .before .before .before .before .before .before .before .before .before .shared-slice-known .given i);
+      times = fit-table (a .times .now) _ (λ i k. c .before .before .before .before .before .before .before .before .before .before .before .before .before .before .before .before .before .before .before .shared-slice-known2 .given i);
     } in (
       λ cs G. says-0 (given a) cs G (sym (c .before .before .before .before .before .before .before .before .before .before .before .before .before .too-short .ensures) ∙ c .before .before .before .before .before .before .before .before .before .before .before .before .if1 .left) (sym (c .before .before .before .before .before .before .before .before .before .before .before .tables-odd .ensures) ∙ c .before .before .before .before .before .before .before .before .before .before .if2 .left) (sym (c .before .before .before .before .before .before .before .before .before .out-of-range .ensures) ∙ c .before .before .before .before .before .before .before .before .if3 .left) (sym (c .before .before .before .before .before .before .before .pairs-fall .ensures) ∙ c .before .before .before .before .before .before .if4 .left) (ap (λ (b : Bool). runsOddOf (a .kind) b (length (a .calls .now)) (a .ends .now) (a .breaks .now)) (sym (c .before .before .before .before .has-break .ensures)) ∙ sym (c .before .before .before .runs-odd .ensures) ∙ c .before .before .if5 .left) (sym (c .before .lateness-pay .ensures) ∙ c .if6 .left),
       λ e cs G. given-image (given a) cs G (sym (c .before .before .before .before .before .before .before .before .before .before .before .before .before .too-short .ensures) ∙ c .before .before .before .before .before .before .before .before .before .before .before .before .if1 .left) (sym (c .before .before .before .before .before .before .before .before .before .before .before .tables-odd .ensures) ∙ c .before .before .before .before .before .before .before .before .before .before .if2 .left) (sym (c .before .before .before .before .before .before .before .before .before .out-of-range .ensures) ∙ c .before .before .before .before .before .before .before .before .if3 .left) fitting,

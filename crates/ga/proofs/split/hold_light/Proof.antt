@@ -9,7 +9,7 @@ use denote.Ref.{now}
 use borrow.Author.Needs.{needs}
 use Rattle.models.specs.Records.{customerOf}
 use Rattle.ga.specs.Split.{lightF}
-use Rattle.ga.proofs.Reading.{read-demand}
+use Rattle.evaluation.proofs.Reading.{read-demand}
 use Rattle.ga.proofs.Sorting.{Sorted, none-sorted, few-held, one-sorted}
 use Rattle.ga.proofs.split.hold_light.Statement.{statement}
 use Rattle.ga.proofs.split.hold_light.Tie as tie

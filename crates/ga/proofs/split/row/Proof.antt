@@ -8,7 +8,7 @@ use Rattle.ga.proofs.Branches.{fails, holds}
 use borrow.Author.Needs.{needs}
 use Rattle.whole.specs.Bits.{fl-zero}
 use Rattle.ga.specs.Split.{lent, tariff}
-use Rattle.ga.proofs.Reading.{read-demand}
+use Rattle.evaluation.proofs.Reading.{read-demand}
 use Rattle.ga.proofs.Along.{Along, setout, overfull, at-end, onward}
 use Rattle.ga.proofs.split.row.Statement.{statement}
 use Rattle.ga.proofs.split.row.Tie as tie

@@ -9,10 +9,9 @@ use denote.Ref.{now}
 use Rattle.ga.proofs.Branches.{fails, holds}
 use borrow.Author.Needs.{needs}
 use Rattle.whole.specs.Bits.{fl-zero}
-use Rattle.evaluation.proofs.Reading.{read-record}
+use Rattle.evaluation.proofs.Reading.{read-record, read-demand}
 use Rattle.ga.specs.declared.split_tw.Visited.the-variants.{Shut, Open}
 use Rattle.ga.specs.SplitTw.{visitedOf, lentBy, tariff}
-use Rattle.ga.proofs.Reading.{read-demand}
 use Rattle.ga.proofs.Along.{setout, overfull, at-end}
 use Rattle.ga.proofs.PlainAlong.{PlainAlong, none-timed, shut, skip, put}
 use Rattle.ga.proofs.split_tw.plain_row.Statement.{statement}

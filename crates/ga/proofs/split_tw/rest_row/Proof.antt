@@ -12,9 +12,8 @@ use Rattle.whole.specs.Bits.{fl-zero}
 use Rattle.evaluation.specs.Records.{ClockF, clockOf, finishedOf}
 use Rattle.evaluation.specs.Clock.{begunF}
 use Rattle.evaluation.specs.declared.schedule.Finished.the-variants.{Impossible, Home}
-use Rattle.evaluation.proofs.Reading.{read-record}
+use Rattle.evaluation.proofs.Reading.{read-record, read-demand}
 use Rattle.ga.specs.SplitTw.{lentBy, tariff}
-use Rattle.ga.proofs.Reading.{read-demand}
 use Rattle.ga.proofs.Along.{setout, overfull, at-end, same-tariff}
 use Rattle.ga.proofs.RestAlong as Rest
 use Rattle.ga.proofs.RestAlong.{RestAlong, dead, endless, skip, put}

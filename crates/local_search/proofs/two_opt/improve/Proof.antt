@@ -1,6 +1,8 @@
 -- `two_opt::improve` meets its contract. Assumes nothing.
+use native.Mathlib.Omega.{arith}
 use mathlib.Core.Path.{ap, _∙_}
 use denote.Ref.{now}
+use Rattle.table.proofs.Writing.{written-over}
 use Rattle.evaluation.specs.Records.{lent}
 use Rattle.evaluation.specs.Tables.{distanceF}
 use Rattle.local_search.specs.Search.{searchOf}
@@ -10,8 +12,8 @@ use borrow.Author.Needs.{needs}
 use Rattle.local_search.proofs.two_opt.improve.Statement.{statement}
 use Rattle.local_search.proofs.two_opt.improve.Tie as tie
 
-copy-requires : tie.Need-copy-requires
-copy-requires c κs = search needs
+write-front-requires : tie.Need-write-front-requires
+write-front-requires c κs = omega arith
 
 passes-requires : tie.Need-passes-requires
 passes-requires c κs = search needs
@@ -26,9 +28,11 @@ returns : tie.Need-returns
 returns c =
     let a = c .before .before .before .before .before .before .before .before .before .before .before .before .before .before .args in
     let t = lent (a .customers) (now (a .distances)) (now (a .times)) (a .size) in
-    let done = c .before .before .before .before .passes .ensures ∙ ap (improvedF t (searchOf (a .search))) (c .before .before .before .before .before .before .before .before .copy .ensures) in
+    let start = c .before .before .before .before .before .before .before .before in
+    let copied = start .write-front .ensures ∙ written-over (now (a .route)) (now (a .current)) (start .before .before .before .before .before .before .pre) in
+    let done = c .before .before .before .before .passes .ensures ∙ ap (improvedF t (searchOf (a .search))) copied in
     (c .route-distance .ensures ∙ ap (routeDistanceF (distanceF t)) done, done)
 
 pub improve-spec : {M : Type 1} → statement M
 improve-spec =
-    tie.close (tie.spec copy-requires passes-requires route-distance-requires same-length returns)
+    tie.close (tie.spec write-front-requires passes-requires route-distance-requires same-length returns)

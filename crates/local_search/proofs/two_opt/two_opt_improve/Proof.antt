@@ -1,8 +1,12 @@
 -- `two_opt::two_opt_improve` meets its contract. Assumes nothing.
-use mathlib.Core.Path.{sym}
+use Prim.Native.Nat.{ℕ}
+use mathlib.Core.Path.{sym, ap, _∙_}
+use mathlib.Core.List.{List}
+use lib.ListN.{length}
 use lib.Seq.{length-take-le}
 use denote.Ref.{now}
-use Rattle.local_search.proofs.Lending.{written-front}
+use Rattle.definitions.specs.Room.{written}
+use Rattle.table.proofs.Writing.{given-back}
 use borrow.Author.Needs.{needs}
 use Rattle.local_search.proofs.two_opt.two_opt_improve.Statement.{statement}
 use Rattle.local_search.proofs.two_opt.two_opt_improve.Tie as tie
@@ -24,7 +28,8 @@ returns c =
     let s = c .before .before .before .before .before .before .before .before in
     let a = s .args in
     let done = c .before .before .improve in
-    (done .ensures .0, written-front (now (a .route)) (now (a .current)) _ _ (s .pre) (done .kept .1 .1 .1 .1 .1 .1 .0) (done .ensures .1))
+    let long = done .kept .1 .1 .1 .1 .1 .1 .0 ∙ length-take-le _ (now (a .current)) (s .pre) in
+    (done .ensures .0, given-back (done .last .1 .1 .1 .1 .1 .1 .0) (now (a .current)) (length (now (a .route))) long ∙ ap (λ (l : List ℕ). written l (now (a .current))) (done .ensures .1))
 
 pub two-opt-improve-spec : {M : Type 1} → statement M
 two-opt-improve-spec =

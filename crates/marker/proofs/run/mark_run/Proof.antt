@@ -15,7 +15,7 @@ fits-requires c κs = search needs
 
 returns : tie.Need-returns
 unfolding runMarkF
-returns c = rw (← c .before .before .load-of .ensures, sym (c .before .fits2 .ensures) ∙ not-true _ (c .if1 .taken))
+returns c = rw (← c .before .before .load-of .ensures .0, sym (c .before .fits2 .ensures) ∙ not-true _ (c .if1 .taken))
 
 walk-requires : tie.Need-walk-requires
 walk-requires c κs = search needs
@@ -35,7 +35,7 @@ returns-2 c =
     let walked = c .before .before .before in
     let fitted = walked .before .before .before in
     let e : walked .walk .result ≡ Stopped (c .before .v .given .0 .0) = search needs in
-    rw (← fitted .before .load-of .ensures, sym (fitted .fits2 .ensures) ∙ not-false _ (walked .before .before .if1 .left), ← walked .walk .ensures, e)
+    rw (← fitted .before .load-of .ensures .0, sym (fitted .fits2 .ensures) ∙ not-false _ (walked .before .before .if1 .left), ← walked .walk .ensures, e)
 
 returns-3 : tie.Need-returns-3
 unfolding runMarkF
@@ -43,7 +43,7 @@ returns-3 c =
     let walked = c .before .before .before .before in
     let fitted = walked .before .before .before in
     let e : walked .walk .result ≡ Home (c .before .before .t .given .0 .0) = search needs in
-    rw (← fitted .before .load-of .ensures, sym (fitted .fits2 .ensures) ∙ not-false _ (walked .before .before .if1 .left), ← walked .walk .ensures, e) (c .mark-totals .ensures)
+    rw (← fitted .before .load-of .ensures .0, sym (fitted .fits2 .ensures) ∙ not-false _ (walked .before .before .if1 .left), ← walked .walk .ensures, e) (c .mark-totals .ensures)
 
 pub mark-run-spec : {M : Type 1} → statement M
 mark-run-spec =

@@ -26,20 +26,20 @@ returns c =
 allows-requires : tie.Need-allows-requires
 allows-requires c κs = search needs
 
-limit-or-requires : tie.Need-limit-or-requires
-limit-or-requires c κs = search needs
+limit-or-zero-requires : tie.Need-limit-or-zero-requires
+limit-or-zero-requires c κs = search needs
 
 returns-2 : tie.Need-returns-2
 unfolding totalsMarkF
 returns-2 c =
     let placed = c .before .before .before .before in
-    rw (sym (placed .placed .ensures) ∙ not-false _ (c .before .before .before .if1 .left), sym (c .before .before .allows .ensures) ∙ not-true _ (c .before .if2 .taken), c .limit-or .ensures)
+    rw (sym (placed .placed .ensures) ∙ not-false _ (c .before .before .before .if1 .left), sym (c .before .before .allows .ensures) ∙ not-true _ (c .before .if2 .taken), c .limit-or-zero .ensures)
 
 allows-requires-2 : tie.Need-allows-requires-2
 allows-requires-2 c κs = search needs
 
-limit-or-requires-2 : tie.Need-limit-or-requires-2
-limit-or-requires-2 c κs = search needs
+limit-or-zero-requires-2 : tie.Need-limit-or-zero-requires-2
+limit-or-zero-requires-2 c κs = search needs
 
 returns-3 : tie.Need-returns-3
 unfolding totalsMarkF
@@ -50,7 +50,7 @@ returns-3 c =
       sym (placed .placed .ensures) ∙ not-false _ (near .before .if1 .left),
       sym (near .allows .ensures) ∙ not-false _ (c .before .before .before .if2 .left),
       sym (c .before .before .allows2 .ensures) ∙ not-true _ (c .before .if3 .taken),
-      c .limit-or2 .ensures,
+      c .limit-or-zero2 .ensures,
     )
 
 returns-4 : tie.Need-returns-4
@@ -72,9 +72,9 @@ mark-totals-spec =
     break-or-requires
     returns
     allows-requires
-    limit-or-requires
+    limit-or-zero-requires
     returns-2
     allows-requires-2
-    limit-or-requires-2
+    limit-or-zero-requires-2
     returns-3
     returns-4)

@@ -25,8 +25,8 @@ later-requires c κs = search needs
 enum-known-readiness : tie.Need-enum-known-readiness
 enum-known-readiness c = search needs
 
-due-of-requires : tie.Need-due-of-requires
-due-of-requires c κs = search needs
+due-or-zero-requires : tie.Need-due-or-zero-requires
+due-or-zero-requires c κs = search needs
 
 returns : tie.Need-returns
 unfolding callFaultF readyF
@@ -42,7 +42,7 @@ unfolding callFaultF readyF
 returns-2 c =
     let ready = c .before .before .before .before in
     let e : ready .ready-at .result ≡ From (c .before .before .readiness .given .0 .0) = search needs in
-    rw (← ready .ready-at .ensures, e, c .due-of .ensures)
+    rw (← ready .ready-at .ensures, e, c .due-or-zero .ensures)
 
 pub call-fault-spec : {M : Type 1} → statement M
 call-fault-spec =
@@ -53,6 +53,6 @@ call-fault-spec =
     break-or-requires
     later-requires
     enum-known-readiness
-    due-of-requires
+    due-or-zero-requires
     returns
     returns-2)

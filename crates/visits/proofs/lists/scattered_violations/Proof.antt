@@ -1,17 +1,17 @@
--- `lists::scattered_violations` meets its contract: the walk of proofs/Scattering, at its records. Assumes nothing.
+-- `lists::scattered_violations` meets its contract: the walk of lending's proofs/Scattering, at its records. Assumes nothing.
 use mathlib.Core.Path.{refl}
 use contract.Running.{givenOf, tables, tablesOf}
 use denote.Triple.Spec.{tripleOf}
 use denote.Triple.Table.{entered, cited}
 use Rattle.walks.proofs.Calling.{Met}
 use Rattle.visits.specs.Visiting.{blankViolation}
-use Rattle.visits.proofs.Scattering.{meets}
+use Rattle.lending.proofs.Scattering.{meets}
 use Rattle.visits.proofs.visit.Violation as T
 use Rattle.visits.proofs.visit.Violation.Laws as T′
-use Rattle.visits.proofs.lists.fitting as fitting′
-use Rattle.visits.proofs.lists.fitting.Symbol as fitting-def
-use Rattle.visits.proofs.lists.fitting.Symbol.{name as #fitting}
-use Rattle.visits.proofs.lists.fitting.Met as fitting-thm
+use Rattle.lending.proofs.fitting as fitting′
+use Rattle.lending.proofs.fitting.Symbol as fitting-def
+use Rattle.lending.proofs.fitting.Symbol.{name as #fitting}
+use Rattle.lending.proofs.fitting.Met as fitting-thm
 use Rattle.visits.proofs.lists.picked_violation as picked′
 use Rattle.visits.proofs.lists.picked_violation.Symbol as picked-def
 use Rattle.visits.proofs.lists.picked_violation.Symbol.{name as #picked}
@@ -28,5 +28,5 @@ scattered-violations-spec 𝓤 H 𝓜 𝓖 𝓡 =
     (tables 𝓤 H 𝓜 𝓡 code.env .C) (tables 𝓤 H 𝓜 𝓡 code.env .Λ) #scattered code.function (code.unfolded 𝓤 H 𝓜 𝓡)
     (meets T.the-type T′.the-laws T′.the-plain 131 tt tt blankViolation #picked (λ xs. tt) (λ xs f. refl) 𝓤 H (𝓖 .A) (givenOf 𝓤 H 𝓜 𝓖) (𝓜 .mem) (𝓡 .run) (tablesOf 𝓤 H 𝓜 (tables 𝓤 H 𝓜 𝓡 code.env)) (
       cited 𝓤 H (Met 𝓤 H (𝓖 .A) picked′.ended (picked′.clauses 𝓤 H (𝓖 .A) (𝓜 .mem) (𝓡 .run))) 𝓜 𝓡 code.env #picked picked-def.routine code.calls-visits·lists·picked-violation (picked-thm.met 𝓤 H 𝓜 𝓖 𝓡),
-      cited 𝓤 H (Met 𝓤 H (𝓖 .A) fitting′.ended (fitting′.clauses 𝓤 H (𝓖 .A) (𝓜 .mem) (𝓡 .run))) 𝓜 𝓡 code.env #fitting fitting-def.routine code.calls-visits·lists·fitting (fitting-thm.met 𝓤 H 𝓜 𝓖 𝓡),
+      cited 𝓤 H (Met 𝓤 H (𝓖 .A) fitting′.ended (fitting′.clauses 𝓤 H (𝓖 .A) (𝓜 .mem) (𝓡 .run))) 𝓜 𝓡 code.env #fitting fitting-def.routine code.calls-lending·fitting (fitting-thm.met 𝓤 H 𝓜 𝓖 𝓡),
     ))

@@ -17,17 +17,17 @@ wide-requires c κs = search needs
 add-load : tie.Need-add-load
 add-load c = search needs
 
-due-of-requires : tie.Need-due-of-requires
-due-of-requires c κs = search needs
+due-or-zero-requires : tie.Need-due-or-zero-requires
+due-or-zero-requires c κs = search needs
 
 returns : tie.Need-returns
 unfolding stopF
 returns c =
     let loaded = c .before .before .before .wide .ensures in
     let left = c .before .before .before .before .before in
-    (rw (← left .before .ready-at .ensures, ← left .attend .ensures, ← c .due-of .ensures, ← loaded .0), omega arith)
+    (rw (← left .before .ready-at .ensures, ← left .attend .ensures, ← c .due-or-zero .ensures, ← loaded .0), omega arith)
 
 pub visit-spec : {M : Type 1} → statement M
 visit-spec =
     tie.close
-    (tie.spec ready-at-requires attend-requires wide-requires add-load due-of-requires returns)
+    (tie.spec ready-at-requires attend-requires wide-requires add-load due-or-zero-requires returns)

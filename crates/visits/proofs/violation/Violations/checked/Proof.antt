@@ -1,6 +1,8 @@
 -- `Violations::checked` meets its contract. Assumes nothing.
 use Rattle.visits.proofs.Checking.{one-more, break-room, all-checked}
 use Rattle.evaluation.specs.Records.{limitsOf}
+use mathlib.Core.Path.{ap}
+use mathlib.Core.Bool.{not}
 use native.Mathlib.Omega.{arith}
 use borrow.Author.Needs.{needs}
 use Rattle.visits.proofs.violation.Violations.checked.Statement.{statement}
@@ -12,8 +14,8 @@ reported-requires c κs = search needs
 pushed-requires : tie.Need-pushed-requires
 pushed-requires c κs = search needs
 
-overload-requires : tie.Need-overload-requires
-overload-requires c κs = search needs
+fits-requires : tie.Need-fits-requires
+fits-requires c κs = search needs
 
 pushed-requires-2 : tie.Need-pushed-requires-2
 pushed-requires-2 c κs =
@@ -26,8 +28,8 @@ pushed-requires-2 c κs =
 exceeds-requires : tie.Need-exceeds-requires
 exceeds-requires c κs = search needs
 
-limit-of-requires : tie.Need-limit-of-requires
-limit-of-requires c κs = search needs
+limit-or-zero-requires : tie.Need-limit-or-zero-requires
+limit-or-zero-requires c κs = search needs
 
 pushed-requires-3 : tie.Need-pushed-requires-3
 pushed-requires-3 c κs =
@@ -41,8 +43,8 @@ pushed-requires-3 c κs =
 exceeds-requires-2 : tie.Need-exceeds-requires-2
 exceeds-requires-2 c κs = search needs
 
-limit-of-requires-2 : tie.Need-limit-of-requires-2
-limit-of-requires-2 c κs = search needs
+limit-or-zero-requires-2 : tie.Need-limit-or-zero-requires-2
+limit-or-zero-requires-2 c κs = search needs
 
 pushed-requires-4 : tie.Need-pushed-requires-4
 pushed-requires-4 c κs =
@@ -66,9 +68,9 @@ returns c =
     let S = told .before in
     let a = S .args in
     all-checked (a .self) _ _ _ _ (a .missing) (a .load) (a .capacity) (limitsOf (a .limits)) (a .distance) (a .duration) (S .pre .0) (S .pre .1)
-    _ (told .reported .ensures) (placed .pushed .ensures) _ (load .overload .ensures) (loaded .pushed2 .ensures)
-    _ _ (far .before .exceeds .ensures) (far .limit-of .ensures) (near .pushed3 .ensures)
-    _ _ (late .before .exceeds2 .ensures) (late .limit-of2 .ensures) (c .pushed4 .ensures)
+    _ (told .reported .ensures) (placed .pushed .ensures) _ (ap not (load .fits2 .ensures)) (loaded .pushed2 .ensures)
+    _ _ (far .before .exceeds .ensures) (far .limit-or-zero .ensures) (near .pushed3 .ensures)
+    _ _ (late .before .exceeds2 .ensures) (late .limit-or-zero2 .ensures) (c .pushed4 .ensures)
 
 pub checked-spec : {M : Type 1} → statement M
 checked-spec =
@@ -76,12 +78,12 @@ checked-spec =
     (tie.spec
     reported-requires
     pushed-requires
-    overload-requires
+    fits-requires
     pushed-requires-2
     exceeds-requires
-    limit-of-requires
+    limit-or-zero-requires
     pushed-requires-3
     exceeds-requires-2
-    limit-of-requires-2
+    limit-or-zero-requires-2
     pushed-requires-4
     returns)

@@ -1,0 +1,34 @@
+// What calls ask for, one by one and in all.
+ghost use mathlib.Core.Path.{_≡_};
+ghost use mathlib.Core.List.{map};
+ghost use Prim.Native.Nat.{_*_, _<_, _≤_};
+ghost use lib.ListN.{length};
+ghost use Rattle.models.specs.Records.{customerOf};
+ghost use Rattle.evaluation.specs.Tables.{demandF, loadF};
+use crate::schedule::record_index;
+use models::customer::Customer;
+use models::load::wide;
+
+// What a call asks for.
+pub fn demand_of(customers: [Customer; 64], cid: usize) -> u64
+    ensures { λ r. ⌜ (r ≡ demandF (map customerOf customers) cid) × (r < 4294967296) ⌝ }
+{
+    let index = record_index(cid);
+    let customer = customers[index];
+    wide(customer.demand)
+}
+
+// What the calls ask for in all.
+pub fn load_of(calls: &[usize], customers: [Customer; 64]) -> u64
+    requires { ⌜ length (now calls) ≤ 128 ⌝ }
+    ensures { λ r. ⌜ (r ≡ loadF (map customerOf customers) (now (calls .entry))) × (r ≤ 128 * 4294967296) ⌝ }
+{
+    let mut load: u64 = 0;
+    let mut i = 0;
+    while i < calls.len() {
+        let cid = calls[i];
+        load += demand_of(customers, cid);
+        i += 1;
+    }
+    load
+}
