@@ -1,6 +1,5 @@
 -- Lists at the front of arrays and of lent lists.
 pub mod Fronts
-pub mod Writing
 -- Run lists by value: what they hold, and what a changed one holds.
 pub mod Holding
 pub mod RunParts

@@ -17,12 +17,12 @@ use crate::runs::gathered;
 use crate::runs::non_empty;
 use crate::runs::start_of;
 use crate::runs::without_run;
-use crate::runs::write_front;
 use crate::sorting::by_demand;
 use crate::sorting::by_length;
 use distance::matrix::get;
 use models::customer::Customer;
 use models::limits::RouteLimits;
+use table::held::write_front;
 use whole::infinity;
 
 // Whether a run could go, and then the runs that are left.

@@ -9,7 +9,6 @@ ghost use Rattle.basics.specs.Lists.{without};
 ghost use Rattle.definitions.specs.RunList.{runsOf};
 ghost use Rattle.definitions.specs.Refusals.{endsFall};
 ghost use Rattle.definitions.specs.Elimination.{nonEmpty};
-ghost use Rattle.definitions.specs.Room.{written};
 ghost use Rattle.elimination.specs.RunLists.{startIn, shifted, Front, Sound, runsIn, runAt, putIn};
 
 pub struct Runs {
@@ -153,17 +152,5 @@ pub fn non_empty(runs: Runs) -> Runs
         ends: kept,
         many: runs.many,
         count: n,
-    }
-}
-
-// Writes a list at the front of another.
-pub fn write_front(from: &[usize], to: &mut [usize])
-    requires { ⌜ length (now from) ≤ length (now to) ⌝ }
-    ensures { λ _. ⌜ now (to .exit) ≡ written (now (from .entry)) (now (to .entry)) ⌝ }
-{
-    let mut k = 0;
-    while k < from.len() {
-        to[k] = from[k];
-        k += 1;
     }
 }
