@@ -2,9 +2,3 @@
 pub mod Same
 -- A text at the front of a buffer.
 pub mod Front
--- The lengths of a record.
-pub mod Fitting
--- The tally of a run.
-pub mod Counting
--- The closing lines of some runs, computed.
-pub mod ClosingCases

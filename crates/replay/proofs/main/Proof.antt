@@ -2,8 +2,8 @@
 use Prim.Native.Nat.{_-_}
 use native.Mathlib.Omega.{arith}
 use borrow.Author.Needs.{needs}
-use Rattle.replay.proofs.Counting.{sheets-more, run-on}
-use Rattle.replay.specs.Tally.{InRun, mostSheets}
+use Rattle.records.proofs.Counting.{sheets-more, run-on}
+use Rattle.records.specs.Tally.{InRun, mostSheets}
 use Rattle.replay.proofs.main.Statement.{statement}
 use Rattle.replay.proofs.main.Tie as tie
 

@@ -1,7 +1,7 @@
--- `seen::next` meets its contract. Assumes nothing.
+-- `next` meets its contract. Assumes nothing.
 use mathlib.Core.Path.{_≡_, sym}
 use lib.Seq.{length-take-le}
-use Rattle.replay.specs.declared.record.Record.the-variants.{Whole}
+use Rattle.records.specs.declared.record.Record.the-variants.{Whole}
 use borrow.Author.Needs.{needs}
 use Rattle.replay.proofs.next.Statement.{statement}
 use Rattle.replay.proofs.next.Tie as tie

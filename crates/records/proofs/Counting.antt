@@ -1,0 +1,17 @@
+-- The tally of a run, one sheet more at a time. Assumes nothing.
+use Prim.Native.Nat.{_+_, _<_}
+use native.Mathlib.Omega.{arith}
+use mathlib.Core.Path.{_≡_, ap}
+use Rattle.basics.specs.Tests.{by-test}
+use Rattle.records.specs.declared.seen.Seen.{Seen}
+use Rattle.records.specs.declared.tally.Tally.{Tally}
+use Rattle.records.specs.Seen.{isUnlike}
+use Rattle.records.specs.Tally.{InRun, mostSheets, countedWith}
+
+pub sheets-more : (r t : Tally) (seen : Seen) → r ≡ countedWith t seen → r .sheets ≡ t .sheets + 1
+unfolding countedWith
+sheets-more r t seen e = ap (λ (t : Tally). t .sheets) e
+
+pub run-on : (t : Tally) (seen : Seen) → InRun t → t .sheets < mostSheets → InRun (countedWith t seen)
+unfolding countedWith
+run-on t seen h more = by-test (isUnlike seen) (λ e. rw e (omega arith, omega arith)) (λ e. rw e (omega arith, omega arith))
