@@ -1,8 +1,6 @@
 // The bench cases a to q, each cut by the planner: a line says the runs as customers, with the break and the time at home where the sheet has a break, then the dropped positions, cost and distance.
-mod sheets;
-
-use crate::sheets::Sheet;
-use crate::sheets::base;
+use bench::sheets::Sheet;
+use bench::sheets::base;
 use evaluation::route::RouteEval;
 use evaluation::route::Start;
 use io::print_decimal;
@@ -11,7 +9,7 @@ use models::customer::Penalty;
 use models::vehicle::Rest;
 use planner::cutting::Cut;
 use planner::evaluating::Evaluation;
-use std::num::truncating_f64_to_u64;
+use report::number::whole_part;
 
 fn text(bytes: &[u8]) {
     write_all(1, bytes);
@@ -23,11 +21,7 @@ fn number(n: usize) {
 
 // A whole number that a float holds.
 fn amount(x: f64) {
-    if x > -1.0 {
-        if x < 18446744073709551616.0 {
-            print_decimal(1, truncating_f64_to_u64(x));
-        }
-    }
+    print_decimal(1, whole_part(x));
 }
 
 fn after_blank(n: usize) {

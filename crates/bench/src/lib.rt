@@ -1,0 +1,3 @@
+// The sheets of the test programs.
+pub mod full;
+pub mod sheets;
