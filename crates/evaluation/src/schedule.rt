@@ -214,7 +214,11 @@ impl Label {
         let Reached::At(y) = b else {
             return a;
         };
-        if Label::smaller(y, x) { b } else { a }
+        if Label::smaller(y, x) {
+            Reached::At(y)
+        } else {
+            Reached::At(x)
+        }
     }
 
     // Home after the way back, with the distance travelled in all.
