@@ -1,14 +1,14 @@
 // The bench cases a to q, each cut by the planner: a line says the runs as customers, with the break and the time at home where the sheet has a break, then the dropped positions, cost and distance.
 use bench::sheets::Sheet;
 use bench::sheets::base;
+use checked::cutting::Cut;
+use checked::evaluating::Evaluation;
 use evaluation::route::RouteEval;
 use evaluation::route::Start;
 use io::print_decimal;
 use io::write_all;
 use models::customer::Penalty;
 use models::vehicle::Rest;
-use planner::cutting::Cut;
-use planner::evaluating::Evaluation;
 use report::number::whole_part;
 
 fn text(bytes: &[u8]) {

@@ -41,8 +41,8 @@ use Rattle.lending.proofs.Rows as rows
 use Rattle.lending.proofs.Rows.{Rs}
 use Rattle.lending.proofs.count.Symbol.{name as #lending·count}
 use Rattle.lending.proofs.gathered.Symbol.{name as #lending·gathered}
-use Rattle.planner.proofs.Locals.{Cell, unset, Here, setAt, here-set, valueAt, passTo, Takes, Blocks, unsetOf, envAt, same-env, same-passed, locals, held, finds, reads, args, set, opens, passed-in, closes}
-use Rattle.planner.proofs.Reborrowing.{Again, reborrows, Lents, afterAll, same-after, borrows-all}
+use Rattle.walks.proofs.Locals.{Cell, unset, Here, setAt, here-set, valueAt, passTo, Takes, Blocks, unsetOf, envAt, same-env, same-passed, locals, held, finds, reads, args, set, opens, passed-in, closes}
+use Rattle.walks.proofs.Reborrowing.{Again, reborrows, Lents, afterAll, same-after, borrows-all}
 
 -- ---- the code
 

@@ -20,10 +20,11 @@ use Rattle.models.specs.declared.customer.Customer.{Customer}
 use Rattle.models.specs.declared.head.Head.{Head}
 use Rattle.lending.specs.Padding.{padded}
 use Rattle.walks.proofs.Calling.{asked-none}
-use Rattle.planner.specs.Meant.{sheetLent}
-use Rattle.planner.specs.Cutting.{cutLent, cutRefusal, Cuts}
+use Rattle.checked.specs.Meant.{sheetLent}
+use Rattle.checked.specs.Cutting.{cutLent, Cuts}
+use Rattle.planner.specs.Cutting.{cutRefusal}
 use Rattle.planner.proofs.Answers.{Kd}
-use Rattle.planner.proofs.Padded.{padded-gathered}
+use Rattle.checked.proofs.Padded.{padded-gathered}
 use Rattle.planner.proofs.PublicCall.{core, call, Carries}
 use Rattle.planner.proofs.CutLists.{cutLists}
 use Rattle.planner.proofs.ManyClauses.{facts, told-each}

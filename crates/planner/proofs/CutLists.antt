@@ -7,7 +7,7 @@ use prog.Wp.{Heap}
 use ghost.Atoms.{Atoms}
 use denote.Builtin.{usize, f64}
 use denote.RattleType.{RattleType}
-use Rattle.planner.proofs.Reborrowing.{lends}
+use Rattle.walks.proofs.Reborrowing.{lends}
 use Rattle.planner.proofs.LentLists.{Kind, shared, mutable}
 use Rattle.planner.proofs.PublicCall.{Coded}
 

@@ -20,8 +20,8 @@ use denote.Slice.{ShrSlice, MutSlice, slice-vals, shr-slice-tells, shr-slice-law
 use denote.Triple.End.{Kepts, Fins, lastsOf}
 use Rattle.lending.proofs.Rows.{R, Rs}
 use Rattle.planner.proofs.Answers.{Hd}
-use Rattle.planner.proofs.Locals.{Takes, Blocks, unsetOf}
-use Rattle.planner.proofs.Reborrowing.{Again}
+use Rattle.walks.proofs.Locals.{Takes, Blocks, unsetOf}
+use Rattle.walks.proofs.Reborrowing.{Again}
 use Rattle.planner.proofs.CallWalk.{Code}
 
 -- a list of such rows, lent to be read or to be written

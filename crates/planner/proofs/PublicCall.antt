@@ -52,7 +52,7 @@ use Rattle.lending.proofs.gathered.Symbol.{name as #lending·gathered}
 use Rattle.lending.proofs.gathered.Met as gathered-thm
 use Rattle.planner.proofs.Answers as answers
 use Rattle.planner.proofs.Answers.{Hd}
-use Rattle.planner.proofs.Locals.{Blocks}
+use Rattle.walks.proofs.Locals.{Blocks}
 use Rattle.planner.proofs.CallWalk.{function, Holds, Around, walk}
 use Rattle.planner.proofs.LentLists.{Kind, slots, kepts, over, values, back, gives, leave, spells, tells, codeOf, take-lists}
 

@@ -1,64 +1,17 @@
-// The cutting of a tour as a public call: the lent memory is checked, then the tour is cut on the customers gathered into an array.
+// The cutting of a tour as a public call: the customers are gathered into an array, on which the call is checked and answered.
 ghost use mathlib.Core.Path.{_≡_};
 ghost use lib.ListN.{take};
 ghost use Rattle.definitions.specs.Answers.{front};
 ghost use Rattle.definitions.specs.Room.{written};
 ghost use Rattle.definitions.specs.Clauses.{Legal, Sum, Least, Drops, Partition, bare};
-ghost use Rattle.planner.specs.Meant.{sheetLent};
-ghost use Rattle.planner.specs.Cutting.{cutRefusal, splitAnswer, splitTwAnswer, cutOf, Cuts, refusedBy, IfRefused, IfCut, Means};
-use checks::by_call::refuse_cutting;
-use ga::split::SplitResult;
+ghost use Rattle.checked.specs.Meant.{sheetLent};
+ghost use Rattle.checked.specs.Cutting.{splitAnswer, splitTwAnswer, cutOf};
+ghost use Rattle.planner.specs.Cutting.{cutRefusal, refusedBy, IfRefused, IfCut, Means};
+use checked::cutting::Cut;
 use lending::count;
 use lending::gathered;
 use models::customer::Customer;
 use models::head::Head;
-
-// What is written is told by its counts.
-pub enum Cut {
-    Refused(u32),
-    Cut(SplitResult),
-}
-
-fn split_core(
-    head: Head,
-    all: [Customer; 64],
-    n: usize,
-    distances: &[f64],
-    times: &[f64],
-    tour: &[usize],
-    served: &mut [usize],
-    run_ends: &mut [usize],
-    dropped: &mut [usize],
-) -> Cut
-    ensures { λ r. ⌜ Cuts (λ cs. splitAnswer head cs (now (distances .entry)) (now (times .entry)) (now (tour .entry)) (now (served .entry)) (now («run_ends» .entry)) (now (dropped .entry))) n all (now (served .entry)) (now («run_ends» .entry)) (now (dropped .entry)) r (now (served .exit)) (now («run_ends» .exit)) (now (dropped .exit)) ⌝ }
-{
-    let number = refuse_cutting(
-        head,
-        all,
-        n,
-        distances,
-        times,
-        tour,
-        served.len(),
-        run_ends.len(),
-        dropped.len(),
-    );
-    if number != 0 {
-        return Cut::Refused(number);
-    }
-    let counts = ga::split::split(
-        tour,
-        all,
-        distances,
-        head.places,
-        head.capacity,
-        head.fixed_cost,
-        &mut *served,
-        &mut *run_ends,
-        &mut *dropped,
-    );
-    Cut::Cut(counts)
-}
 
 // A tour cut at least cost by capacity alone: the served customers, the run ends and the dropped positions are written at the front of the lent lists.
 pub fn split(
@@ -88,7 +41,7 @@ pub fn split(
 {
     let n = count(customers);
     let all = gathered(customers);
-    split_core(
+    checked::cutting::split(
         head,
         all,
         n,
@@ -99,49 +52,6 @@ pub fn split(
         &mut *run_ends,
         &mut *dropped,
     )
-}
-
-fn split_tw_core(
-    head: Head,
-    all: [Customer; 64],
-    n: usize,
-    distances: &[f64],
-    times: &[f64],
-    tour: &[usize],
-    served: &mut [usize],
-    run_ends: &mut [usize],
-    dropped: &mut [usize],
-) -> Cut
-    ensures { λ r. ⌜ Cuts (λ cs. splitTwAnswer head cs (now (distances .entry)) (now (times .entry)) (now (tour .entry)) (now (served .entry)) (now («run_ends» .entry)) (now (dropped .entry))) n all (now (served .entry)) (now («run_ends» .entry)) (now (dropped .entry)) r (now (served .exit)) (now («run_ends» .exit)) (now (dropped .exit)) ⌝ }
-{
-    let number = refuse_cutting(
-        head,
-        all,
-        n,
-        distances,
-        times,
-        tour,
-        served.len(),
-        run_ends.len(),
-        dropped.len(),
-    );
-    if number != 0 {
-        return Cut::Refused(number);
-    }
-    let counts = ga::split_tw::split_tw(
-        tour,
-        all,
-        distances,
-        times,
-        head.places,
-        head.capacity,
-        head.fixed_cost,
-        head.limits,
-        &mut *served,
-        &mut *run_ends,
-        &mut *dropped,
-    );
-    Cut::Cut(counts)
 }
 
 // A tour cut at least cost by capacity, windows, limits and break: the served customers, the run ends and the dropped positions are written at the front of the lent lists.
@@ -172,7 +82,7 @@ pub fn split_tw(
 {
     let n = count(customers);
     let all = gathered(customers);
-    split_tw_core(
+    checked::cutting::split_tw(
         head,
         all,
         n,

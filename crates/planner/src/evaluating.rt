@@ -1,49 +1,13 @@
-// The evaluations of a run as public calls: the lent memory is checked, then the run is evaluated on the customers gathered into an array.
+// The evaluations of a run as public calls: the customers are gathered into an array, on which the call is checked and answered.
 ghost use mathlib.Core.Path.{_≡_};
-ghost use Rattle.planner.specs.Evaluating.{Answers, feasibleAnswer, costAnswer, evalAnswer};
-use checks::by_call::refuse_evaluating;
-use evaluation::route;
-use evaluation::route::Evaluated;
-use evaluation::route::RouteEval;
+ghost use Rattle.checked.specs.Evaluating.{feasibleAnswer, costAnswer, evalAnswer};
+use checked::evaluating::Cost;
+use checked::evaluating::Evaluation;
+use checked::evaluating::Feasible;
 use lending::count;
 use lending::gathered;
 use models::customer::Customer;
 use models::head::Head;
-
-pub enum Feasible {
-    Refused(u32),
-    Answer(bool),
-}
-
-// Infinite where the run is not allowed.
-pub enum Cost {
-    Refused(u32),
-    Answer(f64),
-}
-
-pub enum Evaluation {
-    Refused(u32),
-    NotAllowed,
-    Allowed(RouteEval),
-}
-
-fn feasible_core(
-    head: Head,
-    all: [Customer; 64],
-    n: usize,
-    distances: &[f64],
-    times: &[f64],
-    run: &[usize],
-) -> Feasible
-    ensures { λ r. ⌜ Answers (λ cs. feasibleAnswer head cs (now (distances .entry)) (now (times .entry)) (now (run .entry))) n all r ⌝ }
-{
-    let number = refuse_evaluating(head, all, n, distances, times, run);
-    if number != 0 {
-        return Feasible::Refused(number);
-    }
-    let feasible = route::route_feasible(run, all, distances, times, head.places, head.limits);
-    Feasible::Answer(feasible)
-}
 
 // Whether a run serves each call in time, or late at a penalty, places its break and keeps the limits.
 pub fn route_feasible(
@@ -57,25 +21,7 @@ pub fn route_feasible(
 {
     let n = count(customers);
     let all = gathered(customers);
-    feasible_core(head, all, n, distances, times, run)
-}
-
-fn cost_core(
-    head: Head,
-    all: [Customer; 64],
-    n: usize,
-    distances: &[f64],
-    times: &[f64],
-    run: &[usize],
-) -> Cost
-    ensures { λ r. ⌜ Answers (λ cs. costAnswer head cs (now (distances .entry)) (now (times .entry)) (now (run .entry))) n all r ⌝ }
-{
-    let number = refuse_evaluating(head, all, n, distances, times, run);
-    if number != 0 {
-        return Cost::Refused(number);
-    }
-    let cost = route::effective_cost(run, all, distances, times, head.places, head.limits);
-    Cost::Answer(cost)
+    checked::evaluating::route_feasible(head, all, n, distances, times, run)
 }
 
 // The distance and the lateness cost.
@@ -90,27 +36,7 @@ pub fn effective_cost(
 {
     let n = count(customers);
     let all = gathered(customers);
-    cost_core(head, all, n, distances, times, run)
-}
-
-fn eval_core(
-    head: Head,
-    all: [Customer; 64],
-    n: usize,
-    distances: &[f64],
-    times: &[f64],
-    run: &[usize],
-) -> Evaluation
-    ensures { λ r. ⌜ Answers (λ cs. evalAnswer head cs (now (distances .entry)) (now (times .entry)) (now (run .entry))) n all r ⌝ }
-{
-    let number = refuse_evaluating(head, all, n, distances, times, run);
-    if number != 0 {
-        return Evaluation::Refused(number);
-    }
-    match route::route_eval(run, all, distances, times, head.places, head.limits) {
-        Evaluated::NotAllowed => Evaluation::NotAllowed,
-        Evaluated::Allowed(e) => Evaluation::Allowed(e),
-    }
+    checked::evaluating::effective_cost(head, all, n, distances, times, run)
 }
 
 // What a run comes to, with its break, if it is allowed.
@@ -125,5 +51,5 @@ pub fn route_eval(
 {
     let n = count(customers);
     let all = gathered(customers);
-    eval_core(head, all, n, distances, times, run)
+    checked::evaluating::route_eval(head, all, n, distances, times, run)
 }

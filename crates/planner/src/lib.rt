@@ -1,4 +1,4 @@
-// The public calls: thin functions over lent slices above the proved cores.
+// The public calls: thin functions over lent slices, above the checked calls on arrays.
 pub mod cutting;
 pub mod eliminating;
 pub mod evaluating;

@@ -2,14 +2,14 @@
 ghost use mathlib.Core.Path.{_≡_};
 ghost use Rattle.definitions.specs.Answers.{front};
 ghost use Rattle.definitions.specs.Room.{written};
-ghost use Rattle.planner.specs.Cutting.{cutOf, splitTwAnswer};
-ghost use Rattle.planner.specs.Evaluating.{evalAnswer};
+ghost use Rattle.checked.specs.Cutting.{cutOf, splitTwAnswer};
+ghost use Rattle.checked.specs.Evaluating.{evalAnswer};
+use checked::cutting::Cut;
+use checked::evaluating::Evaluation;
 use models::customer::Customer;
 use models::head::Head;
 use planner::cutting;
-use planner::cutting::Cut;
 use planner::evaluating;
-use planner::evaluating::Evaluation;
 
 pub fn split_tw(
     head: Head,

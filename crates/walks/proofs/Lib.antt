@@ -5,3 +5,6 @@ pub mod Keeping
 pub mod Tokens
 -- A walk's end.
 pub mod Leaving
+-- The locals as one item, and lent lists that are borrowed again.
+pub mod Locals
+pub mod Reborrowing
