@@ -5,6 +5,8 @@ use mathlib.Core.List.{List, [], _∷_}
 use lib.ListN.{length}
 use lib.Ieee.{Float}
 use Rattle.bounds.specs.Inside.{few-calls}
+use Rattle.stretch.specs.Stops.{Below64}
+use Rattle.exact.specs.Exact.{below-64}
 use Rattle.definitions.specs.Domain.{mostCalls}
 use Rattle.definitions.specs.Sheet.{Sheet, own}
 use Rattle.definitions.specs.Drop.{Result}
@@ -19,7 +21,7 @@ use Rattle.models.specs.declared.head.Head.{Head}
 use Rattle.lending.specs.Padding.{padded}
 use Rattle.checks.specs.Lent.{sheetOf, Gathered}
 use Rattle.checks.specs.Order.{Refuses, Images}
-use Rattle.ga.specs.Tariff.{ResultF, Counted}
+use Rattle.ga.specs.Answer.{ResultF, Counted}
 use Rattle.exact.specs.Image.{flResult}
 use Rattle.ga.specs.declared.split.SplitResult.{SplitResult}
 use Rattle.checked.specs.declared.cutting.Cut.the-variants as Cases
@@ -45,6 +47,13 @@ module _
         let cs = padded count array in
         let a = accepted cutting head array count distances times tour [] [] [] (length served ∷ length ends ∷ length dropped ∷ []) number refuses z cs (gathered-from array full count) in
         (few-calls (meant head cs distances times) tour (a .tour), (a .results .0, a .results .1 .0, a .results .1 .1 .0))
+
+    -- and its calls are places
+    pub cut-below : number ≡ 0 → length array ≡ 64 → Below64 tour
+    cut-below z full =
+        let cs = padded count array in
+        let a = accepted cutting head array count distances times tour [] [] [] (length served ∷ length ends ∷ length dropped ∷ []) number refuses z cs (gathered-from array full count) in
+        below-64 (meant head cs distances times) (a .within) tour (a .tour)
 
     module _ (cut : Sheet → Result) where
       abbrev answered : List Customer → Answer Result

@@ -10,6 +10,8 @@ use Rattle.definitions.specs.Lent.{marking}
 use Rattle.definitions.specs.Refusals.{endsFall}
 use Rattle.definitions.specs.Answers.{markOf}
 use Rattle.definitions.proofs.Accepted.{Accepted}
+use Rattle.stretch.specs.Stops.{Below64}
+use Rattle.exact.specs.Exact.{below-64}
 use Rattle.bounds.specs.Inside.{few-calls}
 use Rattle.whole.specs.Value.{value}
 use Rattle.models.specs.declared.customer.Customer.{Customer}
@@ -17,7 +19,7 @@ use Rattle.models.specs.declared.head.Head.{Head}
 use Rattle.lending.specs.Padding.{padded}
 use Rattle.checks.specs.Lent.{sheetOf}
 use Rattle.checks.specs.Order.{Refuses, Images}
-use Rattle.ga.specs.Tariff.{ResultF}
+use Rattle.ga.specs.Answer.{ResultF}
 use Rattle.marker.specs.declared.verdict.Verdict as Code
 use Rattle.marker.specs.RunMark.{groundOf}
 use Rattle.marker.specs.Marks.{markF}
@@ -49,6 +51,9 @@ module _
 
       pub tour-few : length array ≡ 64 → length tour ≤ mostCalls
       tour-few full = few-calls (meant head (padded count array) distances times) tour (lists-accepted full .tour)
+
+      pub tour-below : length array ≡ 64 → Below64 tour
+      tour-below full = let a = lists-accepted full in below-64 (meant head (padded count array) distances times) (a .within) tour (a .tour)
 
       pub runs-asked : length array ≡ 64 → ((length calls ≤ mostCalls) × (length ends ≤ length places)) × (endsFall 0 ends (length calls) ≡ false)
       runs-asked full = let a = lists-accepted full in ((few-calls (meant head (padded count array) distances times) calls (a .calls), a .breaks refl), a .runs .ends)

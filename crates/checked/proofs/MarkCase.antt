@@ -23,8 +23,9 @@ use Rattle.models.specs.declared.head.Head.{Head}
 use Rattle.checks.specs.Lent.{Gathered}
 use Rattle.evaluation.specs.Records as Evaluation
 use Rattle.evaluation.specs.Image as Tables
-use Rattle.ga.specs.Tariff.{ResultF}
-use Rattle.ga.specs.SplitTw.{lent, splitTwF}
+use Rattle.ga.specs.Answer.{ResultF}
+use Rattle.stretch.specs.Runs.{lent}
+use Rattle.ga.specs.SplitTw.{splitTwF}
 use Rattle.exact.specs.Image.{flResult}
 use Rattle.exact.specs.Exact.{split-tw-exact}
 use Rattle.marker.specs.RunMark.{groundOf}

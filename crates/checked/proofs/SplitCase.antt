@@ -20,7 +20,7 @@ use Rattle.checks.specs.Lent.{Gathered}
 use Rattle.evaluation.specs.Image as Evaluation
 use Rattle.ga.specs.Split as Split
 use Rattle.ga.specs.Split.{splitF}
-use Rattle.ga.specs.SplitTw as SplitTw
+use Rattle.stretch.specs.Runs as Runs
 use Rattle.ga.specs.SplitTw.{splitTwF}
 use Rattle.exact.specs.Image.{flResult}
 use Rattle.exact.specs.Exact.{split-exact, split-tw-exact}
@@ -37,8 +37,8 @@ module _ (head : Head) (array : List Customer) (count : ℕ) (distances times : 
   abbrev plain : Split.Instance
   plain = Split.lent array distances (head .places) (head .capacity) (head .«fixed_cost»)
 
-  abbrev timed : SplitTw.Instance
-  timed = SplitTw.lent array distances times (head .places) (head .capacity) (head .«fixed_cost») (head .limits)
+  abbrev timed : Runs.Instance
+  timed = Runs.lent array distances times (head .places) (head .capacity) (head .«fixed_cost») (head .limits)
 
   tables : Evaluation.Image s (timed .tables)
   tables = tables-hold head customers distances times count array G held (not-false (isPlaces (head .places)) (accepted .ranged .places)) (accepted .customers)

@@ -18,10 +18,9 @@ use Rattle.definitions.specs.Sort.{rising, sort}
 use Rattle.definitions.specs.Improver.{givenOf, total, load}
 use Rattle.definitions.specs.Elimination.{Put, beyond, inserts, candidates}
 use Rattle.whole.specs.Difference.{diff, diff-same, diff-le}
-use Rattle.elimination.specs.declared.insertion.Candidate.{Candidate}
 use Rattle.elimination.specs.RunLists.{runAt, insertAt, putIn}
-use Rattle.elimination.specs.Loads.{roomF}
-use Rattle.elimination.specs.Insertion.{TermsF, beforeOf, addsF, cheaper, candidateF, placesIn, placesOf, candidatesFrom, legF, candidatesF}
+use Rattle.elimination.specs.Loads.{demandsOf, roomF}
+use Rattle.elimination.specs.Insertion.{TermsF, Candidate, beforeOf, addsF, cheaper, candidateF, placesIn, placesOf, candidatesFrom, legF, candidatesF}
 use Rattle.elimination.specs.Image.{Image}
 use Rattle.elimination.proofs.Ordering.{sort-map, map-twice, count-next}
 use Rattle.elimination.proofs.Placing.{Within, candidates-within}
@@ -66,7 +65,7 @@ shifted-leb a b t =
 
 module _ (s : Sheet) (S : Sized s) (T : TermsF) (I : Image s T) (c : ℕ) (p : Place s c) where
   abbrev fits : ℕ → List ℕ → Bool
-  fits = roomF (T .tables .customers) (T .capacity)
+  fits = roomF (demandsOf (T .tables .customers)) (T .capacity)
 
   module _ (k : ℕ) (r : List ℕ) (rs : List (List ℕ)) where
     abbrev here : List ℕ → Put

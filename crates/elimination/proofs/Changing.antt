@@ -11,7 +11,7 @@ use Rattle.basics.specs.Lists.{without, length-without}
 use Rattle.definitions.specs.RunList.{callsOf, endsOf}
 use Rattle.definitions.proofs.RunListLaws.{ends-many}
 use Rattle.elimination.specs.declared.runs.Runs.{Runs}
-use Rattle.elimination.specs.RunLists.{room, Front, startIn, runsIn, Sound, runAt, putIn, shifted}
+use Rattle.elimination.specs.RunLists.{room, Front, startIn, runsIn, Sound, runAt, insertAt, putIn, shifted}
 use Rattle.elimination.proofs.Fronts.{front-same, front-part, part-is}
 use Rattle.elimination.proofs.Holding.{Held, held, startAt, start-is, start-next, within, run-part}
 use Rattle.elimination.proofs.RunParts.{length-put, calls-put, ends-put, calls-less, ends-less, ends-inside, ends-behind}
@@ -33,7 +33,7 @@ module _ (r : Runs) (S : Sound r) where
     start-here : startIn (r .ends) k ≡ startAt here k
     start-here = start-is here r (held r S) k (le-of-lt inside)
 
-    pub start-behind : startIn (r .ends) (k + 1) ≡ startIn (r .ends) k + length (runAt here k)
+    start-behind : startIn (r .ends) (k + 1) ≡ startIn (r .ends) k + length (runAt here k)
     start-behind = ap (startIn (r .ends)) (add-one k) ∙ start-is here r (held r S) (suc k) inside ∙ start-next here k inside ∙ ap (λ (n : ℕ). n + length (runAt here k)) (sym start-here)
 
     pub run-inside : startIn (r .ends) k + length (runAt here k) ≤ r .many
@@ -154,3 +154,13 @@ run-lent r k from to p ef et =
     ∙ sym (part-is (callsOf rs) from to)
     ∙ ap₂ (λ (m n : ℕ). take m (drop n (callsOf rs))) (b .2) (ef ∙ start-here r (p .0) k (p .1))
     ∙ run-part rs k (inside r (p .0) k (p .1))
+
+-- run k with a customer, at the front of an array
+pub grown-lent : (r : Runs) (k from to pos c : ℕ) → Sound r × (k < r .count) → from ≡ startIn (r .ends) k → to ≡ startIn (r .ends) (k + 1) → pos ≤ length (runAt (runsIn r) k)
+    → (trial : List ℕ) → Front (insertAt pos c (take (to - from) (drop from (r .calls)))) trial → take (to - from + 1) trial ≡ insertAt pos c (runAt (runsIn r) k)
+grown-lent r k from to pos c p ef et h trial F =
+    let run = runAt (runsIn r) k in
+    let part = run-lent r k from to p ef et in
+    let grown : length (insertAt pos c run) ≡ suc (length run) = omega (arith, length-append (take pos run) (c ∷ drop pos run), length-take-le pos run h, length-drop pos run) in
+    let many : to - from + 1 ≡ length (insertAt pos c (take (to - from) (drop from (r .calls)))) = omega (arith, run-bound r k from to p ef et .2, grown, ap (λ (l : List ℕ). length (insertAt pos c l)) part) in
+    ap (λ (n : ℕ). take n trial) many ∙ F .is ∙ ap (insertAt pos c) part

@@ -1,11 +1,11 @@
 -- On a sheet of whole numbers within the limits: what a run asks for, what a customer adds in it, and how long the runs are. Assumes nothing.
 use Prim.Native.Nat.{ℕ, zero, suc, _+_, _*_, _<_, _≤_}
 use native.Mathlib.Omega.{arith}
-use native.Mathlib.Nat.{not-suc-le-zero, le-of-suc-le-suc, add-assoc}
+use native.Mathlib.Nat.{not-suc-le-zero, le-of-suc-le-suc}
 use mathlib.Core.Path.{_≡_, refl, sym, ap, ap₂, _∙_}
 use mathlib.Core.Bool.{true}
 use mathlib.Core.List.{List, [], _∷_, _++_}
-use lib.ListN.{length, getD, take, drop, length-append, List·getD-eq-default, drop-of-length-le}
+use lib.ListN.{length, getD, take, drop, length-append, List·getD-eq-default, List·getD-map, drop-of-length-le}
 use lib.Seq.{drop-cons, take-all, split-at}
 use lib.Dec.{ltb, leb}
 use lib.Ieee as Ieee
@@ -17,7 +17,6 @@ use Rattle.bounds.specs.Inside.{mostNumber, Sized, Place, depot-inside, call-in
 use Rattle.bounds.specs.Bounds.{distance-most}
 use Rattle.definitions.specs.Domain.{mostCalls}
 use Rattle.definitions.specs.Sheet.{Sheet, CustomerOf, customer, distance}
-use Rattle.definitions.specs.Run.{distanceFrom}
 use Rattle.definitions.specs.RunList.{callsOf}
 use Rattle.definitions.specs.Improver.{givenOf, distanceOf, total, load}
 use Rattle.definitions.proofs.LegLaws.{final, insertion-before, insertion-last}
@@ -25,12 +24,14 @@ use Rattle.definitions.proofs.EliminationLaws.{Calls}
 use Rattle.whole.specs.Whole.{fl, limit, Is, fl-add, fl-is}
 use Rattle.whole.specs.Difference.{diff, fl-diff}
 use Rattle.whole.specs.Infinity.{is-lt-inf}
-use Rattle.evaluation.specs.Tables.{recordF}
+use Rattle.evaluation.specs.Tables.{recordIndex, blank, recordF}
 use Rattle.evaluation.proofs.ClockExact.{record-exact, distance-exact}
+use Rattle.local_search.specs.Delta.{routeDistanceF}
+use Rattle.local_search.proofs.DeltaExact.{route-distance-exact}
 use Rattle.elimination.specs.RunLists.{runAt, insertAt, putIn}
-use Rattle.elimination.specs.Loads.{demandIn, roomF}
+use Rattle.elimination.specs.Loads.{demandsOf, demandAt, roomF}
 use Rattle.elimination.specs.Insertion.{TermsF, beforeOf, addsF, legF, demandF}
-use Rattle.elimination.specs.Elimination.{finiteF, onwardF, routeDistanceF, savedF}
+use Rattle.elimination.specs.Elimination.{finiteF, savedF}
 use Rattle.elimination.specs.Image.{Image}
 use Rattle.elimination.proofs.Fewer.{calls}
 
@@ -124,15 +125,15 @@ finite-exact n h = rw (is-lt-inf (fl n) n (fl-is n h), below-infinity (fl n) n (
 
 module _ (s : Sheet) (S : Sized s) (T : TermsF) (I : Image s T) where
   pub demand-exact : (c : ℕ) → Place s c → demandF T c ≡ customer s c .demand
-  unfolding demandIn recordF
-  demand-exact c p = ap (λ (x : CustomerOf Float). x .demand) (record-exact s S (T .tables) (I .tables-hold) c p)
+  unfolding demandAt recordF
+  demand-exact c p = List·getD-map (λ (x : CustomerOf Float). x .demand) (T .tables .customers) (recordIndex c) blank ∙ ap (λ (x : CustomerOf Float). x .demand) (record-exact s S (T .tables) (I .tables-hold) c p)
 
   load-exact : (run : List ℕ) → All (Place s) run → sum (demandF T) run ≡ load (givenOf s) run
   load-exact [] a = refl
   load-exact (c ∷ cs) a = ap₂ (λ (m n : ℕ). m + n) (demand-exact c (a .0)) (load-exact cs (a .1))
 
   pub room-exact : (c : ℕ) (run : List ℕ) → Place s c → All (Place s) run
-      → roomF (T .tables .customers) (T .capacity) c run ≡ leb (load (givenOf s) run + customer s c .demand) (s .capacity)
+      → roomF (demandsOf (T .tables .customers)) (T .capacity) c run ≡ leb (load (givenOf s) run + customer s c .demand) (s .capacity)
   unfolding roomF
   room-exact c run p a = rw (load-exact run a, demand-exact c p, I .capacity-holds)
 
@@ -158,18 +159,8 @@ module _ (s : Sheet) (S : Sized s) (T : TermsF) (I : Image s T) where
 
   -- ---- the distance of a run
 
-  onward-exact : (far a : ℕ) (cs : List ℕ) → Place s a → All (Place s) cs → far + distanceFrom s a cs ≤ limit → onwardF (legF T) (fl far) a cs ≡ fl (far + distanceFrom s a cs)
-  unfolding onwardF
-  onward-exact far a [] p i h = rw (leg-exact a 0 p (depot-inside s S)) (fl-add far (distance s a 0) (omega arith) (omega arith))
-  onward-exact far a (c ∷ cs) p i h =
-      rw (leg-exact a c p (i .0), fl-add far (distance s a c) (omega arith) (omega arith))
-      (onward-exact (far + distance s a c) c cs (i .0) (i .1) (omega arith) ∙ ap fl (add-assoc far (distance s a c) (distanceFrom s c cs)))
-
   distance-run-exact : (run : List ℕ) → All (Place s) run → length run ≤ mostCalls → routeDistanceF (legF T) run ≡ fl (distanceOf (givenOf s) run)
-  unfolding routeDistanceF
-  distance-run-exact [] a few = refl
-  distance-run-exact (c ∷ cs) a few =
-      rw (leg-exact 0 c (depot-inside s S) (a .0)) (onward-exact (distance s 0 c) c cs (a .0) (a .1) (omega (arith, distance-most s S 0 (c ∷ cs))))
+  distance-run-exact run a few = route-distance-exact s S (T .tables) (I .tables-hold) run few a
 
   -- what goes with a run
   pub saved-exact : (run : List ℕ) → All (Place s) run → length run ≤ mostCalls → savedF T run ≡ fl (distanceOf (givenOf s) run + s .fixed)

@@ -6,8 +6,8 @@ use native.Mathlib.Numerals.{add-one}
 use mathlib.Core.Path.{_≡_, sym, ap, ap₂, _∙_}
 use mathlib.Core.List.{List, [], _∷_, _++_, append-assoc, append-nil}
 use lib.ListN.{length, getD, set, take, drop, length-append, length-take, length-set}
-use lib.Seq.{take-suc, take-suc-set, take-all, length-take-le, getD-take, take-nil}
-use Rattle.elimination.specs.RunLists.{room, Front}
+use lib.Seq.{take-suc, take-suc-set, take-all, length-take-le, getD-take, take-nil, take-take, append-snoc}
+use Rattle.elimination.specs.RunLists.{room, Front, insertAt}
 
 module _ {A : Type 0} where
   -- one element more, at k
@@ -67,3 +67,15 @@ module _ {A : Type 0} where
 
   pub pasted-all : (to from new : List A) (at k : ℕ) → length from ≤ k → Front (take at to ++ take k from) new → Front (take at to ++ from) new
   pasted-all to from new at k h F = front-same (ap (λ (t : List A). take at to ++ t) (take-all k from h)) F
+
+-- c put before element number pos of a list, which is then copied behind it
+pub grown-front : (list new r : List ℕ) (pos : ℕ) (c : ℕ) → pos ≤ length list → length list < room → Front list new
+    → (part : List ℕ) → part ≡ drop pos list → Front (take (pos + 1) (set new pos c) ++ part) r → Front (insertAt pos c list) r
+grown-front list new r pos c h short F part e G =
+    let first : take pos new ≡ take pos list = sym (take-take pos (length list) new h) ∙ ap (take pos) (F .is) in
+    front-same
+    (ap (λ (n : ℕ). take n (set new pos c) ++ part) (add-one pos)
+    ∙ ap (λ (l : List ℕ). l ++ part) (take-suc-set new pos c (omega (arith, F .long)))
+    ∙ append-snoc (take pos new) c part
+    ∙ ap₂ (λ (l m : List ℕ). l ++ (c ∷ m)) first e)
+    G

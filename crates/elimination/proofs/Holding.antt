@@ -5,11 +5,11 @@ use native.Mathlib.Nat.{add-zero, zero-add, not-suc-le-zero, le-of-suc-le-suc}
 use mathlib.Core.Path.{_≡_, refl, sym, ap, ap₂, subst, _∙_}
 use mathlib.Core.Bool.{false}
 use mathlib.Core.List.{List, [], _∷_, _++_, append-nil, append-assoc}
-use lib.ListN.{length, getD, take, drop, length-append, List·getD-eq-default}
-use lib.Seq.{length-take-le, take-append-seam, drop-append-seam, take-suc, take-all, split-at}
+use lib.ListN.{length, getD, take, drop, length-append}
+use lib.Seq.{length-take-le, take-append-seam, drop-append-seam, take-suc, split-at}
 use lib.Dec.{ltb, eqb}
-use borrow.Author.Tests.{ltb-true, ltb-false, le-ltb, eqb-true, eq-eqb}
-use Rattle.basics.specs.Tests.{by-test, not-false, or-left, or-right, or-false}
+use borrow.Author.Tests.{ltb-false, le-ltb, eqb-true, eq-eqb}
+use Rattle.basics.specs.Tests.{not-false, or-left, or-right, or-false}
 use Rattle.definitions.specs.Refusals.{endsFall}
 use Rattle.definitions.specs.RunList.{runsOf, callsOf, endsFrom, endsOf}
 use Rattle.definitions.proofs.RunListLaws.{RiseTo, runs-back, calls-back, ends-back, ends-many}
@@ -108,14 +108,6 @@ unfolding startAt
 start-is rs r H zero h = refl
 start-is rs r H (suc j) h = front-at (H .ends-front) j 0 (omega (arith, ends-many 0 rs)) ∙ ends-at 0 rs j h ∙ zero-add _
 
-pub start-last : (r : Runs) → Sound r → startIn (r .ends) (r .count) ≡ r .many
-unfolding startAt
-start-last r S =
-    let H = held r S in
-    start-is (runsIn r) r H (r .count) (omega (arith, H .count-is))
-    ∙ ap (λ (l : List (List ℕ)). length (callsOf l)) (take-all (r .count) (runsIn r) (omega (arith, H .count-is)))
-    ∙ sym (H .many-is)
-
 module _ (rs : List (List ℕ)) (k : ℕ) (h : k < length rs) where
   abbrev before : List (List ℕ)
   before = take k rs
@@ -149,10 +141,3 @@ module _ (rs : List (List ℕ)) (k : ℕ) (h : k < length rs) where
   unfolding startAt
   within =
       omega (arith, ap length calls-parts, length-append (callsOf before) (runAt rs k ++ callsOf behind), length-append (runAt rs k) (callsOf behind))
-
--- no run has more calls than there is room for
-pub run-short : (r : Runs) → Sound r → (k : ℕ) → length (runAt (runsIn r) k) ≤ room
-run-short r S k =
-    by-test (ltb k (length (runsIn r)))
-    (λ t. omega (arith, within (runsIn r) k (ltb-true k (length (runsIn r)) t), held r S .many-is, S .calls-fit))
-    (λ f. omega (arith, ap length (List·getD-eq-default (runsIn r) [] {n = k} (ltb-false k (length (runsIn r)) f))))

@@ -1,12 +1,12 @@
--- The runs without the empty ones, run by run: the ends of those that are kept. Assumes nothing.
-use Prim.Native.Nat.{ℕ, suc, _+_, _<_, _≤_}
+-- Run by run: the ends of those runs that are not empty, and how many calls each has. Assumes nothing.
+use Prim.Native.Nat.{ℕ, suc, _+_, _-_, _<_, _≤_}
 use native.Mathlib.Omega.{arith}
 use native.Mathlib.Nat.{le-refl}
 use native.Mathlib.Numerals.{add-one}
 use mathlib.Core.Path.{_≡_, refl, sym, ap, ap₂, subst, _∙_}
 use mathlib.Core.Bool.{cond}
-use mathlib.Core.List.{List, [], _∷_, _++_, append-nil}
-use lib.ListN.{length, getD, set, take, length-append, length-set}
+use mathlib.Core.List.{List, [], _∷_, _++_, map, map-append, append-nil}
+use lib.ListN.{length, getD, set, take, length-append, length-set, length-map}
 use lib.Seq.{take-suc, take-all, take-set-le, take-suc-set}
 use lib.Dec.{ltb}
 use borrow.Author.Tests.{lt-ltb, le-ltb}
@@ -14,7 +14,7 @@ use Rattle.definitions.specs.RunList.{callsOf, endsOf}
 use Rattle.definitions.specs.Elimination.{nonEmpty}
 use Rattle.definitions.proofs.RunListLaws.{ends-many}
 use Rattle.elimination.specs.declared.runs.Runs.{Runs}
-use Rattle.elimination.specs.RunLists.{room, runsIn, Sound, runAt}
+use Rattle.elimination.specs.RunLists.{room, Front, runsIn, Sound, runAt}
 use Rattle.elimination.proofs.Fronts.{front-same}
 use Rattle.elimination.proofs.Holding.{Held, held, startAt, start-next, start-is}
 use Rattle.elimination.proofs.RunParts.{ends-append}
@@ -118,3 +118,48 @@ pub end-read : (r : Runs) (S : Sound r) (i : ℕ) → i < r .count → (i < leng
 end-read r S i h =
     let b : i < length (runsIn r) = subst (λ (n : ℕ). i < n) (held r S .count-is) h in
     (b, subst (λ (n : ℕ). n ≤ room) (held r S .count-is) (S .runs-fit), start-is (runsIn r) r (held r S) (suc i) b)
+
+-- ---- how many calls each run has
+
+-- after k runs, of which the last ends at prev
+pub record Measured (rs : List (List ℕ)) (k prev : ℕ) (lengths : List ℕ) : Type 0 where
+  pub within : k ≤ length rs
+  pub last-end : prev ≡ startAt rs k
+  pub long : length lengths ≡ room
+  pub are : take k lengths ≡ map length (take k rs)
+
+pub measured-none : (rs : List (List ℕ)) (lengths : List ℕ) → length lengths ≡ room → Measured rs 0 0 lengths
+unfolding startAt
+measured-none rs lengths long = record { within = omega arith; last-end = refl; long = long; are = refl }
+
+module _ (r : Runs) (S : Sound r) (k prev : ℕ) (lengths : List ℕ) (M : Measured (runsIn r) k prev lengths) where
+  module _ (h : k < r .count) (end : ℕ) (e : end ≡ getD (r .ends) k 0) where
+    ends-at : end ≡ prev + length (runAt (runsIn r) k)
+    ends-at = e ∙ end-read r S k h .2 ∙ start-next (runsIn r) k (end-read r S k h .0) ∙ ap (λ (n : ℕ). n + length (runAt (runsIn r) k)) (sym (M .last-end))
+
+    pub measured-rises : prev ≤ end
+    measured-rises = omega (arith, ends-at)
+
+    pub measured-more : Measured (runsIn r) (k + 1) end (set lengths k (end - prev))
+    measured-more =
+        let inside = end-read r S k h .0 in
+        let here : end - prev ≡ length (runAt (runsIn r) k) = omega (arith, ends-at) in
+        record {
+          within = omega (arith, inside);
+          last-end = e ∙ end-read r S k h .2 ∙ ap (startAt (runsIn r)) (sym (add-one k));
+          long = length-set lengths k (end - prev) ∙ M .long;
+          are =
+              ap (λ (n : ℕ). take n (set lengths k (end - prev))) (add-one k)
+              ∙ take-suc-set lengths k (end - prev) (omega (arith, M .long, S .runs-fit))
+              ∙ ap₂ (λ (l : List ℕ) (n : ℕ). l ++ (n ∷ [])) (M .are) here
+              ∙ sym (ap (λ (n : ℕ). map length (take n (runsIn r))) (add-one k) ∙ ap (map length) (take-suc (runsIn r) k [] inside) ∙ map-append length (take k (runsIn r)) (runAt (runsIn r) k ∷ []));
+        }
+
+  pub measured-all : r .count ≤ k → Front (map length (runsIn r)) lengths
+  measured-all h =
+      let all : k ≡ length (map length (runsIn r)) = omega (arith, M .within, held r S .count-is, length-map (runsIn r) length) in
+      record {
+        long = M .long;
+        fits = omega (arith, M .within, held r S .count-is, S .runs-fit, length-map (runsIn r) length);
+        is = ap (λ (n : ℕ). take n lengths) (sym all) ∙ M .are ∙ ap (map length) (take-all k (runsIn r) (omega (arith, held r S .count-is)));
+      }

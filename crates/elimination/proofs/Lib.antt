@@ -5,15 +5,15 @@ pub mod Holding
 pub mod RunParts
 pub mod Changing
 pub mod Keeping
--- Sorting.
-pub mod Inserting
-pub mod Filling
+-- What customers ask for.
+pub mod Demands
+-- The first of the least, taken out.
+pub mod Least
 -- Candidates.
 pub mod Gathering
 pub mod Placing
 pub mod Going
 -- The search for a run that can go.
-pub mod Legs
 pub mod Ordering
 pub mod Emptying
 pub mod Fewer

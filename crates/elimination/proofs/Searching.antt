@@ -1,83 +1,95 @@
 -- The search for a run that can go, run by run, and the searches one after the other. Assumes nothing.
-use Prim.Native.Nat.{ℕ, zero, suc, _+_, _<_, _≤_}
+use Prim.Native.Nat.{ℕ, zero, suc, _-_, _<_, _≤_}
 use native.Mathlib.Omega.{arith}
-use native.Mathlib.Numerals.{add-one}
 use mathlib.Core.Path.{_≡_, sym, ap, subst, _∙_}
 use mathlib.Core.Bool.{true, false}
-use mathlib.Core.List.{List, _∷_, map}
+use mathlib.Core.List.{List, [], _∷_, map}
 use mathlib.Core.Option.{none, some}
-use lib.ListN.{length, getD, drop, drop-of-length-le}
-use lib.Seq.{drop-cons}
+use lib.ListN.{length, getD, take, length-map, List·getD-map}
 use Rattle.basics.specs.Options.{Holds}
-use Rattle.basics.specs.Lists.{count, All, all-map}
-use Rattle.definitions.specs.Elimination.{nonEmpty}
-use Rattle.definitions.proofs.SortLaws.{sort-all}
+use Rattle.basics.specs.Lists.{count, All, without, all-imp, length-count}
+use Rattle.definitions.specs.Room.{written}
+use Rattle.definitions.specs.Sort.{sort}
+use Rattle.definitions.specs.Elimination.{nonEmpty, Parted}
+use Rattle.table.proofs.Writing.{length-written, front-written}
 use Rattle.elimination.specs.declared.runs.Runs.{Runs}
-use Rattle.elimination.specs.declared.sorting.Keyed.{Keyed}
-use Rattle.elimination.specs.declared.sorting.Order.{Order}
 use Rattle.elimination.specs.declared.route_elimination.Tried.{Tried}
-use Rattle.elimination.specs.RunLists.{room, runsIn, Sound, runAt}
-use Rattle.elimination.specs.Sorted.{byKey, Ordered, keyedRun, byLength}
+use Rattle.elimination.specs.RunLists.{room, Front, runsIn, Sound, runAt}
+use Rattle.elimination.specs.Least.{leastAt, byLength}
 use Rattle.elimination.specs.Insertion.{TermsF}
 use Rattle.elimination.specs.Elimination.{partAt, emptiedF, firstEmptiedF, searchF, searchesF, eliminatedF, triedOf, Tries}
+use Rattle.elimination.proofs.Fronts.{front-at}
 use Rattle.elimination.proofs.Holding.{held}
-use Rattle.elimination.proofs.Placing.{all-count}
-use Rattle.elimination.proofs.Ordering.{order-is}
+use Rattle.elimination.proofs.Least.{none-left, picked-inside, picked, picked-all}
+use Rattle.elimination.proofs.Ordering.{count-below, order-is}
 use Rattle.elimination.proofs.Fewer.{Fewer, search-fewer, non-empty-fewer}
 
 -- ---- one search
 
-module _ (T : TermsF) (rs : List (List ℕ)) where
-  -- what is left from number i on decides
-  pub record Trying (list : List Keyed) (i : ℕ) : Type 0 where
-    pub long : length list ≡ room
-    pub inside : All (λ (x : Keyed). x .item < length rs) (drop i list)
-    pub same : firstEmptiedF T (map (λ (x : Keyed). partAt rs (x .item)) (drop i list)) ≡ searchF T rs
+module _ (T : TermsF) (rs : List (List ℕ)) (lengths : List ℕ) where
+  -- the n runs that are left decide
+  pub record Trying (pending : List ℕ) (n : ℕ) : Type 0 where
+    pub long : length pending ≡ room
+    pub fits : n ≤ room
+    pub few : length rs ≤ room
+    pub inside : All (λ (k : ℕ). k < length rs) (take n pending)
+    pub same : firstEmptiedF T (map (partAt rs) (sort (byLength lengths) (take n pending))) ≡ searchF T rs
 
-  pub trying-first : (o : Order) → Ordered (byLength rs) o → ((k : ℕ) → length (runAt rs k) ≤ room) → Trying (o .list) (o .at)
+  pub trying-first : Front (map length rs) lengths → (pending old : List ℕ) (n : ℕ) → n ≡ length rs → length old ≡ room → pending ≡ written (count 0 n) old → Trying pending n
   unfolding searchF
-  trying-first o O short =
-      let items = all-map (λ (x : Keyed). x .item < length rs) (keyedRun rs) (count 0 (length rs)) (all-count (λ (k : ℕ). k < length rs) 0 (length rs) (λ j h. omega arith)) in
+  trying-first F pending old n en long e =
+      let many : length (count 0 n) ≡ n = length-count 0 n in
+      let runs : length (map length rs) ≡ length rs = length-map rs length in
+      let fits : n ≤ room = omega (arith, F .fits) in
+      let front : take n pending ≡ count 0 (length rs) = ap (take n) e ∙ ap (λ (m : ℕ). take m (written (count 0 n) old)) (sym many) ∙ front-written (count 0 n) old ∙ ap (count 0) en in
+      let each : (k : ℕ) → k < length rs → getD lengths k 0 ≡ length (runAt rs k) = λ k h. front-at F k 0 (omega arith) ∙ List·getD-map length rs k [] in
       record {
-        long = O .long;
-        inside = rw (O .is) (sort-all byKey (λ (x : Keyed). x .item < length rs) (byLength rs) items);
-        same = ap (firstEmptiedF T) (ap (map (λ (x : Keyed). partAt rs (x .item))) (O .is) ∙ order-is rs short);
+        long = ap length e ∙ length-written (count 0 n) old (omega arith) ∙ long;
+        fits = fits;
+        few = omega (arith, F .fits);
+        inside = rw front (count-below (length rs));
+        same = rw front (ap (firstEmptiedF T) (order-is lengths rs each));
       }
 
-  module _ (list : List Keyed) (i : ℕ) (Y : Trying list i) where
-    trying-last : room ≤ i → searchF T rs ≡ none
+  module _ (pending : List ℕ) (n : ℕ) (Y : Trying pending n) where
+    trying-last : n ≤ 0 → searchF T rs ≡ none
     unfolding firstEmptiedF
-    trying-last h = sym (Y .same) ∙ ap (λ (l : List Keyed). firstEmptiedF T (map (λ (x : Keyed). partAt rs (x .item)) l)) (drop-of-length-le list {i = i} (omega (arith, Y .long)))
+    trying-last h = sym (Y .same) ∙ ap (λ (l : List ℕ). firstEmptiedF T (map (partAt rs) l)) (none-left (byLength lengths) pending n h)
 
-    module _ (h : i < room) where
-      abbrev x : Keyed
-      x = getD list i (record { key = 0; item = 0 })
+    pub trying-all : All (λ (k : ℕ). k < room) (take n pending)
+    trying-all = all-imp (λ (k : ℕ). k < length rs) (λ (k : ℕ). k < room) (λ k h. omega (arith, Y .few)) (take n pending) (Y .inside)
 
-      rest : drop i list ≡ x ∷ drop (suc i) list
-      rest = drop-cons list i (record { key = 0; item = 0 }) (omega (arith, Y .long))
+    module _ (h : 0 < n) (j : ℕ) (ej : j ≡ leastAt (byLength lengths) (take n pending)) where
+      short : n ≤ length pending
+      short = omega (arith, Y .fits, Y .long)
 
-      all-inside : All (λ (x : Keyed). x .item < length rs) (x ∷ drop (suc i) list)
-      all-inside = subst (All (λ (x : Keyed). x .item < length rs)) rest (Y .inside)
+      abbrev k : ℕ
+      k = getD pending j 0
 
-      pub trying-inside : x .item < length rs
-      trying-inside = all-inside .0
+      pub trying-picks : j < n
+      trying-picks = picked-inside (byLength lengths) pending n j short h ej
 
-      this : firstEmptiedF T (map (λ (x : Keyed). partAt rs (x .item)) (x ∷ drop (suc i) list)) ≡ searchF T rs
-      this = ap (λ (l : List Keyed). firstEmptiedF T (map (λ (x : Keyed). partAt rs (x .item)) l)) (sym rest) ∙ Y .same
+      parts : (k < length rs) × All (λ (i : ℕ). i < length rs) (without j (take n pending))
+      parts = picked-all (byLength lengths) pending n j short h ej (λ (i : ℕ). i < length rs) (Y .inside)
 
-      trying-found : (new : List (List ℕ)) → some new ≡ emptiedF T (partAt rs (x .item)) → searchF T rs ≡ some new
+      pub trying-inside : k < length rs
+      trying-inside = parts .0
+
+      abbrev later : List Parted
+      later = map (partAt rs) (sort (byLength lengths) (without j (take n pending)))
+
+      this : firstEmptiedF T (partAt rs k ∷ later) ≡ searchF T rs
+      this = ap (λ (l : List ℕ). firstEmptiedF T (map (partAt rs) l)) (sym (picked (byLength lengths) pending n j short h ej)) ∙ Y .same
+
+      trying-found : (new : List (List ℕ)) → some new ≡ emptiedF T (partAt rs k) → searchF T rs ≡ some new
       unfolding firstEmptiedF
       trying-found new e = sym this ∙ rw (← e)
 
-      trying-more : none ≡ emptiedF T (partAt rs (x .item)) → Trying list (i + 1)
+      trying-more : none ≡ emptiedF T (partAt rs k) → (less : List ℕ) → length less ≡ room → take (n - 1) less ≡ without j (take n pending) → Trying less (n - 1)
       unfolding firstEmptiedF
-      trying-more e =
-          let later : firstEmptiedF T (map (λ (x : Keyed). partAt rs (x .item)) (x ∷ drop (suc i) list)) ≡ firstEmptiedF T (map (λ (x : Keyed). partAt rs (x .item)) (drop (suc i) list)) = rw (← e) in
-          record {
-            long = Y .long;
-            inside = rw (add-one i) (all-inside .1);
-            same = ap (λ (n : ℕ). firstEmptiedF T (map (λ (x : Keyed). partAt rs (x .item)) (drop n list))) (add-one i) ∙ sym later ∙ this;
-          }
+      trying-more e less long el =
+          let next : firstEmptiedF T (partAt rs k ∷ later) ≡ firstEmptiedF T later = rw (← e) in
+          record { long = long; fits = omega (arith, Y .fits); few = Y .few; inside = rw el (parts .1); same = rw el (sym next ∙ this) }
 
 -- ---- the searches
 
@@ -127,16 +139,16 @@ module _ (T : TermsF) (given : List (List ℕ)) where
 
 -- ---- one run tried, of the runs that are not empty
 
-module _ (T : TermsF) (before kept left : Runs) (ek : runsIn kept ≡ nonEmpty (runsIn before)) (el : left ≡ kept) (list : List Keyed) (i : ℕ) (Y : Trying T (runsIn kept) list i) where
-  pub tried-all : room ≤ i → searchF T (nonEmpty (runsIn before)) ≡ none
-  tried-all h = ap (searchF T) (sym ek) ∙ trying-last T (runsIn kept) list i Y h
+module _ (T : TermsF) (before kept left : Runs) (ek : runsIn kept ≡ nonEmpty (runsIn before)) (el : left ≡ kept) (lengths pending : List ℕ) (n : ℕ) (Y : Trying T (runsIn kept) lengths pending n) where
+  pub tried-all : n ≤ 0 → searchF T (nonEmpty (runsIn before)) ≡ none
+  tried-all h = ap (searchF T) (sym ek) ∙ trying-last T (runsIn kept) lengths pending n Y h
 
-  module _ (h : i < room) (t : Tried) (R : Tries (emptiedF T (partAt (runsIn left) (getD list i (record { key = 0; item = 0 }) .item))) t) where
-    answer : triedOf t ≡ emptiedF T (partAt (runsIn kept) (getD list i (record { key = 0; item = 0 }) .item))
-    answer = R .is ∙ ap (λ (r : Runs). emptiedF T (partAt (runsIn r) (getD list i (record { key = 0; item = 0 }) .item))) el
+  module _ (h : 0 < n) (j : ℕ) (ej : j ≡ leastAt (byLength lengths) (take n pending)) (t : Tried) (R : Tries (emptiedF T (partAt (runsIn left) (getD pending j 0))) t) where
+    answer : triedOf t ≡ emptiedF T (partAt (runsIn kept) (getD pending j 0))
+    answer = R .is ∙ ap (λ (r : Runs). emptiedF T (partAt (runsIn r) (getD pending j 0))) el
 
     pub tried-found : t .found ≡ true → searchF T (nonEmpty (runsIn before)) ≡ some (runsIn (t .runs))
-    tried-found f = ap (searchF T) (sym ek) ∙ trying-found T (runsIn kept) list i Y h (runsIn (t .runs)) (rw f at answer)
+    tried-found f = ap (searchF T) (sym ek) ∙ trying-found T (runsIn kept) lengths pending n Y h j ej (runsIn (t .runs)) (rw f at answer)
 
-    pub tried-more : t .found ≡ false → Trying T (runsIn kept) list (i + 1)
-    tried-more f = trying-more T (runsIn kept) list i Y h (rw f at answer)
+    pub tried-more : t .found ≡ false → (less : List ℕ) → length less ≡ room → take (n - 1) less ≡ without j (take n pending) → Trying T (runsIn kept) lengths less (n - 1)
+    tried-more f less long el = trying-more T (runsIn kept) lengths pending n Y h j ej (rw f at answer) less long el

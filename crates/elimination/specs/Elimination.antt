@@ -13,6 +13,7 @@ use Rattle.definitions.specs.Sort.{rising, falling, sort}
 use Rattle.definitions.specs.RunList.{callsOf}
 use Rattle.definitions.specs.Elimination.{maybe, nonEmpty, Parted, parted}
 use Rattle.whole.specs.Whole.{fl}
+use Rattle.local_search.specs.Delta.{routeDistanceF}
 use Rattle.elimination.specs.declared.route_elimination.Tried.{Tried}
 use Rattle.elimination.specs.RunLists.{Sound, runsIn, runAt}
 use Rattle.elimination.specs.Insertion.{TermsF, legF, demandF, placeAllF}
@@ -20,16 +21,6 @@ use Rattle.elimination.specs.Insertion.{TermsF, legF, demandF, placeAllF
 -- neither infinite nor NaN
 abbrev pub finiteF : Float → Bool
 finiteF x = Ieee.lt x (inf false) && Ieee.lt (inf true) x
-
--- from place a through the calls and home, leg by leg, on top of what is gone already
-unfoldable pub onwardF : (ℕ → ℕ → Float) → Float → ℕ → List ℕ → Float
-onwardF leg far a [] = Ieee.add binary64 far (leg a 0)
-onwardF leg far a (c ∷ cs) = onwardF leg (Ieee.add binary64 far (leg a c)) c cs
-
--- the distance of a run; a run without calls has none
-unfoldable pub routeDistanceF : (ℕ → ℕ → Float) → List ℕ → Float
-routeDistanceF leg [] = fl 0
-routeDistanceF leg (c ∷ cs) = onwardF leg (leg 0 c) c cs
 
 -- run k, and the other runs in their order
 abbrev pub partAt : List (List ℕ) → ℕ → Parted

@@ -1,26 +1,24 @@
 -- Where a customer may go and what it adds there, on floats, as the code has it. Definitions only.
-use Prim.Native.Nat.{ℕ, zero, suc}
+use Prim.Native.Nat.{ℕ, zero, suc, _≤_}
 use mathlib.Core.Path.{_≡_}
 use mathlib.Core.Bool.{Bool, true, cond}
 use mathlib.Core.List.{List, [], _∷_, _++_, map}
 use mathlib.Core.Option.{Option, none, some}
-use lib.ListN.{length, getD, drop}
+use lib.ListN.{length, getD, take}
 use lib.Ieee as Ieee
 use lib.Ieee.{Float, binary64}
 use Rattle.basics.specs.Options.{_>>=_}
 use Rattle.basics.specs.Lists.{count}
-use Rattle.definitions.specs.Sort.{insert, sort}
+use Rattle.definitions.specs.Sort.{sort}
 use Rattle.models.specs.declared.customer.Customer.{Customer}
 use Rattle.models.specs.declared.limits.RouteLimits.{RouteLimits}
 use Rattle.evaluation.specs.Records.{Tables, LimitsF, limitsOf, lent}
 use Rattle.evaluation.specs.Tables.{distanceF}
 use Rattle.evaluation.specs.Route.{feasibleF}
 use Rattle.elimination.specs.declared.insertion.Terms.{Terms}
-use Rattle.elimination.specs.declared.insertion.Candidate.{Candidate}
-use Rattle.elimination.specs.declared.insertion.Listed.{Listed}
 use Rattle.elimination.specs.declared.insertion.Placed.{Placed}
 use Rattle.elimination.specs.RunLists.{Sound, runsIn, runAt, putIn}
-use Rattle.elimination.specs.Loads.{demandIn, roomF}
+use Rattle.elimination.specs.Loads.{demandsOf, demandAt, roomF}
 
 -- ---- what is lent
 
@@ -63,6 +61,12 @@ addsF leg run pos c =
     let next = getD run pos 0 in
     Ieee.sub binary64 (Ieee.add binary64 (leg prev c) (leg c next)) (leg prev next)
 
+-- a customer's place in a run, and what it adds there
+pub record Candidate : Type 0 where
+  pub cost : Float
+  pub run : ℕ
+  pub pos : ℕ
+
 abbrev pub candidateF : (ℕ → ℕ → Float) → ℕ → ℕ → List ℕ → ℕ → Candidate
 candidateF leg k c run pos = record { cost = addsF leg run pos c; run = k; pos = pos }
 
@@ -83,15 +87,16 @@ unfoldable pub candidatesFrom : (ℕ → ℕ → Float) → (ℕ → List ℕ �
 candidatesFrom leg room k c [] = []
 candidatesFrom leg room k c (r ∷ rs) = placesOf leg room k c r ++ candidatesFrom leg room (suc k) c rs
 
--- the elements of a list put into a sorted one
-unfoldable pub sortOnto : {A : Type 0} → (A → A → Bool) → List A → List A → List A
-sortOnto le sorted [] = sorted
-sortOnto le sorted (x ∷ xs) = insert le x (sortOnto le sorted xs)
-
--- the sorted candidates
-pub record Offers (l : List Candidate) (r : Listed) : Type 0 where
-  pub long : length (r .list) ≡ 256
-  pub is : drop (r .at) (r .list) ≡ l
+-- n candidates at the front of three lists of 256: what each adds, its run and its place in it
+pub record Listed (l : List Candidate) (n : ℕ) (costs : List Float) (runs spots : List ℕ) : Type 0 where
+  pub many : length l ≡ n
+  pub fits : n ≤ 256
+  pub costs-long : length costs ≡ 256
+  pub runs-long : length runs ≡ 256
+  pub spots-long : length spots ≡ 256
+  pub costs-are : take n costs ≡ map (λ (x : Candidate). x .cost) l
+  pub runs-are : take n runs ≡ map (λ (x : Candidate). x .run) l
+  pub spots-are : take n spots ≡ map (λ (x : Candidate). x .pos) l
 
 -- a customer has found a place: the runs with it, and what has been added so far
 pub record PlacedF : Type 0 where
@@ -113,10 +118,10 @@ module _ (T : TermsF) where
   legF = distanceF (T .tables)
 
   abbrev pub demandF : ℕ → ℕ
-  demandF = demandIn (T .tables .customers)
+  demandF = demandAt (demandsOf (T .tables .customers))
 
   abbrev pub candidatesF : ℕ → List (List ℕ) → List Candidate
-  candidatesF c runs = candidatesFrom legF (roomF (T .tables .customers) (T .capacity)) 0 c runs
+  candidatesF c runs = candidatesFrom legF (roomF (demandsOf (T .tables .customers)) (T .capacity)) 0 c runs
 
   -- feasible, where that is asked
   unfoldable pub allowedF : List ℕ → Bool

@@ -1,9 +1,9 @@
 -- Run lists by value.
 pub mod RunLists
--- What calls ask for.
+-- What customers ask for.
 pub mod Loads
--- Sorts by a key.
-pub mod Sorted
+-- The first of the least.
+pub mod Least
 -- Where a customer may go, and what it adds there.
 pub mod Insertion
 -- Elimination on floats.

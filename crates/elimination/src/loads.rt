@@ -1,49 +1,48 @@
-// What calls ask for, and whether a run has room for one more.
+// What customers ask for, and whether a run has room for one more.
 ghost use mathlib.Core.Path.{_≡_};
 ghost use mathlib.Core.List.{map};
-ghost use Prim.Native.Nat.{_*_, _<_, _≤_};
+ghost use Prim.Native.Nat.{_<_, _≤_};
 ghost use lib.ListN.{length};
-ghost use Rattle.basics.specs.Lists.{sum};
 ghost use Rattle.models.specs.Records.{customerOf};
-ghost use Rattle.elimination.specs.Loads.{demandIn, roomF};
+ghost use Rattle.elimination.specs.Loads.{demandsOf, demandAt, roomF};
 use evaluation::schedule::record_index;
 use models::customer::Customer;
+use models::load::fits;
+use models::load::wide;
 
-pub fn wide(x: u32) -> u64
-    ensures { λ r. ⌜ (r ≡ x) × (r < 4294967296) ⌝ }
+// What each customer asks for.
+pub fn demands_of(customers: [Customer; 64]) -> [u32; 64]
+    ensures { λ r. ⌜ r ≡ demandsOf (map customerOf customers) ⌝ }
 {
-    x as u64
+    let mut demands = [0u32; 64];
+    let mut i = 0;
+    while i < 64 {
+        let customer = customers[i];
+        demands[i] = customer.demand;
+        i += 1;
+    }
+    demands
 }
 
 // What a call asks for.
-pub fn demand_of(customers: [Customer; 64], c: usize) -> u64
-    ensures { λ r. ⌜ (r ≡ demandIn (map customerOf customers) c) × (r < 4294967296) ⌝ }
+pub fn demand_at(demands: &[u32; 64], c: usize) -> u64
+    ensures { λ r. ⌜ (r ≡ demandAt (now (demands .entry)) c) × (r < 4294967296) ⌝ }
 {
     let index = record_index(c);
-    let customer = customers[index];
-    wide(customer.demand)
-}
-
-// What the calls of a run ask for.
-pub fn load(route: &[usize], customers: [Customer; 64]) -> u64
-    requires { ⌜ length (now route) ≤ 128 ⌝ }
-    ensures { λ r. ⌜ (r ≡ sum (demandIn (map customerOf customers)) (now (route .entry))) × (r ≤ 128 * 4294967296) ⌝ }
-{
-    let mut load: u64 = 0;
-    let mut i = 0;
-    while i < route.len() {
-        let c = route[i];
-        load += demand_of(customers, c);
-        i += 1;
-    }
-    load
+    wide(demands[index])
 }
 
 // Whether the load of a run leaves room for c.
-pub fn has_room(route: &[usize], c: usize, customers: [Customer; 64], capacity: u32) -> bool
+pub fn has_room(route: &[usize], c: usize, demands: &[u32; 64], capacity: u32) -> bool
     requires { ⌜ length (now route) ≤ 128 ⌝ }
-    ensures { λ r. ⌜ r ≡ roomF (map customerOf customers) capacity c (now (route .entry)) ⌝ }
+    ensures { λ r. ⌜ r ≡ roomF (now (demands .entry)) capacity c (now (route .entry)) ⌝ }
 {
-    let demand = demand_of(customers, c);
-    load(route, customers) + demand <= wide(capacity)
+    let mut load = demand_at(demands, c);
+    let mut i = 0;
+    while i < route.len() {
+        let call = route[i];
+        load += demand_at(demands, call);
+        i += 1;
+    }
+    fits(load, capacity)
 }

@@ -1,27 +1,32 @@
 // Route elimination (local_search/route_elimination.rs): a run is emptied by inserting its customers into the others, where that adds less than the run costs.
 ghost use mathlib.Core.Path.{_≡_};
 ghost use mathlib.Core.Bool.{false};
+ghost use mathlib.Core.List.{map};
 ghost use Prim.Native.Nat.{_<_, _≤_};
 ghost use lib.ListN.{length};
 ghost use Rattle.definitions.specs.RunList.{runsOf, callsOf, endsOf};
 ghost use Rattle.definitions.specs.Room.{written};
 ghost use Rattle.definitions.specs.Refusals.{endsFall};
-ghost use Rattle.distance.specs.Lookup.{lookupF};
+ghost use Rattle.models.specs.Records.{customerOf};
 ghost use Rattle.elimination.specs.RunLists.{Sound, runsIn};
+ghost use Rattle.elimination.specs.Loads.{demandsOf};
 ghost use Rattle.elimination.specs.Insertion.{termsOf, lentTerms};
-ghost use Rattle.elimination.specs.Elimination.{finiteF, routeDistanceF, partAt, Tries, emptiedF, eliminatedF, Counts};
+ghost use Rattle.elimination.specs.Elimination.{finiteF, partAt, Tries, emptiedF, eliminatedF, Counts};
 use crate::insertion::Terms;
 use crate::insertion::place_all;
+use crate::loads::demands_of;
+use crate::picking::number;
+use crate::picking::shortest;
 use crate::runs::Runs;
 use crate::runs::gathered;
+use crate::runs::lengths_of;
 use crate::runs::non_empty;
 use crate::runs::start_of;
 use crate::runs::without_run;
-use crate::sorting::by_demand;
-use crate::sorting::by_length;
-use distance::matrix::get;
+use local_search::two_opt::route_distance;
 use models::customer::Customer;
 use models::limits::RouteLimits;
+use table::held::remove;
 use table::held::write_front;
 use whole::infinity;
 
@@ -45,33 +50,20 @@ pub fn is_finite(x: f64) -> bool
     x < top && -top < x
 }
 
-// The distance of a run, from the depot through its calls and back; a run without calls has none.
-pub fn route_distance(route: &[usize], distances: &[f64], size: usize) -> f64
-    ensures { λ r. ⌜ r ≡ routeDistanceF (lookupF (now (distances .entry)) size) (now (route .entry)) ⌝ }
-{
-    if route.len() == 0 {
-        return 0.0;
-    }
-    let mut prev = route[0];
-    let mut dist = get(distances, size, 0, prev);
-    let mut i = 1;
-    while i < route.len() {
-        let next = route[i];
-        dist = dist + get(distances, size, prev, next);
-        prev = next;
-        i += 1;
-    }
-    dist + get(distances, size, prev, 0)
-}
-
 // The runs without run r, if they take its customers for less than it costs.
-pub fn emptied(runs: Runs, r: usize, terms: Terms, distances: &[f64], times: &[f64]) -> Tried
-    requires { ⌜ Sound runs × (r < runs .count) ⌝ }
+pub fn emptied(
+    runs: Runs,
+    r: usize,
+    terms: Terms,
+    demands: &[u32; 64],
+    distances: &[f64],
+    times: &[f64],
+) -> Tried
+    requires { ⌜ Sound runs × (r < runs .count) × (now demands ≡ demandsOf (map customerOf (terms .customers))) ⌝ }
     ensures { λ t. ⌜ Tries (emptiedF (termsOf terms (now (distances .entry)) (now (times .entry))) (partAt (runsIn runs) r)) t ⌝ }
 {
     let calls = runs.calls;
     let ends = runs.ends;
-    let customers = terms.customers;
     let from = start_of(ends, r);
     let to = start_of(ends, r + 1);
     let run = &calls[from..to];
@@ -79,9 +71,8 @@ pub fn emptied(runs: Runs, r: usize, terms: Terms, distances: &[f64], times: &[f
     if !is_finite(saved) {
         return Tried { found: false, runs };
     }
-    let moving = by_demand(run, customers);
     let rest = without_run(runs, r);
-    let p = place_all(rest, moving, saved, terms, distances, times);
+    let p = place_all(rest, run, saved, terms, demands, distances, times);
     if !p.found {
         return Tried { found: false, runs };
     }
@@ -100,22 +91,27 @@ pub fn eliminate(runs: Runs, terms: Terms, distances: &[f64], times: &[f64]) -> 
     requires { ⌜ Sound runs ⌝ }
     ensures { λ r. ⌜ Sound r × (runsIn r ≡ eliminatedF (termsOf terms (now (distances .entry)) (now (times .entry))) (runsIn runs)) ⌝ }
 {
+    let customers = terms.customers;
+    let demands = demands_of(customers);
     let mut left = runs;
     'search: loop {
         let kept = non_empty(left);
         left = kept;
-        let order = by_length(left);
-        let list = order.list;
-        let mut i = order.at;
-        while i < 128 {
-            let x = list[i];
-            let t = emptied(left, x.item, terms, distances, times);
+        let lengths = lengths_of(left);
+        let mut pending = [0usize; 128];
+        let mut n = left.count;
+        number(&mut pending, n);
+        while 0 < n {
+            let j = shortest(&pending[..n], &lengths);
+            let r = pending[j];
+            let t = emptied(left, r, terms, &demands, distances, times);
             if t.found {
                 let fewer = t.runs;
                 left = fewer;
                 continue 'search;
             }
-            i += 1;
+            remove(&mut pending, n, j);
+            n -= 1;
         }
         break 'search;
     }

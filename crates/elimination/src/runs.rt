@@ -9,7 +9,7 @@ ghost use Rattle.basics.specs.Lists.{without};
 ghost use Rattle.definitions.specs.RunList.{runsOf};
 ghost use Rattle.definitions.specs.Refusals.{endsFall};
 ghost use Rattle.definitions.specs.Elimination.{nonEmpty};
-ghost use Rattle.elimination.specs.RunLists.{startIn, shifted, Front, Sound, runsIn, runAt, putIn};
+ghost use Rattle.elimination.specs.RunLists.{startIn, shifted, Front, Sound, runsIn, runAt, insertAt, putIn};
 
 pub struct Runs {
     // the calls of all runs, run after run
@@ -58,13 +58,23 @@ pub fn start_of(ends: [usize; 128], k: usize) -> usize
     if k == 0 { 0 } else { ends[k - 1] }
 }
 
-// How many calls run k has.
-pub fn run_length(runs: Runs, k: usize) -> usize
-    requires { ⌜ Sound runs × (k < runs .count) ⌝ }
-    ensures { λ r. ⌜ r ≡ length (runAt (runsIn runs) k) ⌝ }
+// How many calls each run has.
+pub fn lengths_of(runs: Runs) -> [usize; 128]
+    requires { ⌜ Sound runs ⌝ }
+    ensures { λ r. ⌜ Front (map length (runsIn runs)) r ⌝ }
 {
     let ends = runs.ends;
-    start_of(ends, k + 1) - start_of(ends, k)
+    let count = runs.count;
+    let mut lengths = [0usize; 128];
+    let mut prev = 0;
+    let mut k = 0;
+    while k < count {
+        let end = ends[k];
+        lengths[k] = end - prev;
+        prev = end;
+        k += 1;
+    }
+    lengths
 }
 
 // The lent run list.
@@ -79,6 +89,17 @@ pub fn gathered(calls: &[usize], ends: &[usize]) -> Runs
         many: calls.len(),
         count: ends.len(),
     }
+}
+
+// A run with c before its call number pos.
+pub fn grown(route: &[usize], pos: usize, c: usize) -> [usize; 128]
+    requires { ⌜ (length (now route) < 128) × (pos ≤ length (now route)) ⌝ }
+    ensures { λ r. ⌜ Front (insertAt pos c (now (route .entry))) r ⌝ }
+{
+    let none = [0usize; 128];
+    let mut new = pasted(none, 0, route);
+    new[pos] = c;
+    pasted(new, pos + 1, &route[pos..])
 }
 
 // Customer c put into run k, before its call number pos.

@@ -34,9 +34,9 @@ use Rattle.evaluation.specs.Image.{flTotals, Image}
 use Rattle.evaluation.proofs.ServingExact.{through}
 use Rattle.evaluation.proofs.ClockExact.{record-exact, distance-exact, time-exact, distance-from-exact, schedule-exact}
 use Rattle.evaluation.proofs.RouteExact.{plain-clock}
-use Rattle.ga.specs.declared.split_tw.Timed.{Timed}
-use Rattle.ga.specs.Stretch.{joinedF, placeOf, wayOf}
-use Rattle.ga.specs.SplitTw.{chargeF, enterF, visitF, timedOf, clockOf, End, endOf, backTime}
+use Rattle.stretch.specs.declared.rows.Timed.{Timed}
+use Rattle.stretch.specs.Stretch.{joinedF, placeOf, wayOf}
+use Rattle.stretch.specs.Runs.{chargeF, enterF, visitF, timedOf, clockOf, End, endOf, backTime}
 use Rattle.exact.specs.StretchExact.{place-last, place-inside, way-exact}
 
 -- ---- the images

@@ -20,7 +20,8 @@ use Rattle.definitions.specs.Drop.{callAt, callsAt, Held, dropAt, allHeld, drop
 use Rattle.definitions.proofs.Least.{best-of, best-reach}
 use Rattle.definitions.proofs.Shortest.{Cuttable, Stuck, never, at-call, stuck-is}
 use Rattle.evaluation.specs.Tables.{demandF}
-use Rattle.ga.specs.SplitTw.{Instance, haveF, stuckF, dropFromF, dropsF}
+use Rattle.stretch.specs.Runs.{Instance}
+use Rattle.ga.specs.SplitTw.{haveF, stuckF, dropFromF, dropsF}
 use Rattle.exact.specs.TableExact.{has-exact}
 use Rattle.exact.specs.SplitTwExact.{ImageTw, X, run-is}
 

@@ -27,10 +27,12 @@ use Rattle.definitions.proofs.Least.{Reach, start, more, reach-append, best-of}
 use Rattle.distance.proofs.Exact.{lookup-exact}
 use Rattle.distance.specs.Lookup.{lookupF}
 use Rattle.whole.specs.Whole.{fl}
-use Rattle.ga.specs.Tariff.{ResultF, planF, endsF, costF, distanceF}
+use Rattle.stretch.specs.Tariff.{endsF, costF, distanceF}
+use Rattle.ga.specs.Answer.{ResultF, planF}
 use Rattle.ga.specs.Split as Split
 use Rattle.ga.specs.Split.{lightF, sorted, removalsF, splitF}
-use Rattle.ga.specs.SplitTw as SplitTw
+use Rattle.stretch.specs.Stops.{Below64}
+use Rattle.stretch.specs.Runs.{Instance, tariff}
 use Rattle.ga.specs.SplitTw.{splitTwF}
 use Rattle.exact.specs.Image.{Image, flResult}
 use Rattle.evaluation.proofs.ClockExact.{demand-exact}
@@ -132,7 +134,12 @@ split-exact s W tour T I M =
     ∙ cut-exact (SplitExact.X s S I held ins few L D (M .capacity-holds) (M .fixed-holds)) (SplitExact.run-is s S I held ins few L D (M .capacity-holds) (M .fixed-holds)) (h .dropped) (m .0) (m .1)
     ∙ sym (ap (λ (o : Option Best). flResult (result s tour h (valueOr nothing o))) (m .1))
 
-pub split-tw-exact : (s : Sheet) → Within s → (tour : List ℕ) → WithinCalls s tour → (I : SplitTw.Instance) → ImageTw s I → splitTwF I tour ≡ flResult (splitTw s tour)
+-- a call is a place, of which a sheet has at most 64
+pub below-64 : (s : Sheet) → Within s → (tour : List ℕ) → WithinCalls s tour → Below64 tour
+unfolding Below64
+below-64 s w tour e k h = let S = sized s w in omega (arith, call-inside s S tour k (calls-inside s tour e), S .few-places)
+
+pub split-tw-exact : (s : Sheet) → Within s → (tour : List ℕ) → WithinCalls s tour → (I : Instance) → ImageTw s I → splitTwF I tour ≡ flResult (splitTw s tour)
 unfolding splitTwF splitTw
 split-tw-exact s W tour T I M =
     let S = sized s W in
@@ -145,6 +152,6 @@ split-tw-exact s W tour T I M =
     let ins = held-inside s S tour (h .held) inside in
     let D = demand-exact s S (I .tables .customers) (M .tables-hold .records-are) in
     let all : length (allHeld tour .held) ≤ mostCalls = omega (arith, length-count 1 (length tour), few-calls s tour T) in
-    ap (planF (SplitTw.tariff I) tour) (drops-exact s S I M D tour inside all)
+    ap (planF (tariff I) tour) (drops-exact s S I M D tour inside all)
     ∙ cut-exact (SplitTwExact.X s S I M held ins few D) (SplitTwExact.run-is s S I M held ins few D) (h .dropped) (m .0) (m .1)
     ∙ sym (ap (λ (o : Option Best). flResult (result s tour h (valueOr nothing o))) (m .1))

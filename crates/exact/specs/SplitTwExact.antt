@@ -25,9 +25,9 @@ use Rattle.evaluation.specs.Image as Evaluation
 use Rattle.evaluation.proofs.ClockExact.{distance-exact}
 use Rattle.evaluation.proofs.RouteExact.{small-limit}
 use Rattle.evaluation.specs.Tables.{demandF}
-use Rattle.ga.specs.Stretch.{fitsOf}
-use Rattle.ga.specs.Tariff.{legalOf, farOf, runsOf, stretches}
-use Rattle.ga.specs.SplitTw.{Instance, endOf, allowedF, payF, tariff}
+use Rattle.stretch.specs.Stretch.{fitsOf}
+use Rattle.stretch.specs.Tariff.{legalOf, farOf, runsOf, stretches}
+use Rattle.stretch.specs.Runs.{Instance, endOf, allowedF, payF, tariff}
 use Rattle.exact.specs.StretchExact.{fits-exact}
 use Rattle.exact.specs.SplitExact.{some-calls}
 use Rattle.exact.specs.ClocksExact.{flEnd, end-exact}

@@ -16,7 +16,7 @@ use Rattle.definitions.specs.Domain.{mostCalls}
 use Rattle.definitions.specs.Sheet.{Sheet, customer, distance}
 use Rattle.definitions.specs.Run.{lastOf, legsFrom, distanceFrom, load, fits}
 use Rattle.whole.specs.Whole.{fl, limit, fl-sum}
-use Rattle.ga.specs.Stretch.{joinedF, placeOf, loadOf, fitsOf, goneOf, wayOf}
+use Rattle.stretch.specs.Stretch.{joinedF, placeOf, loadOf, fitsOf, goneOf, wayOf}
 
 -- one call more at the end of a run
 last-snoc : (a : ℕ) (l : List ℕ) (c : ℕ) → lastOf a (l ++ (c ∷ [])) ≡ c

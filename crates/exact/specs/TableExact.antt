@@ -31,7 +31,7 @@ use Rattle.definitions.proofs.Least.{joined-append}
 use Rattle.whole.specs.Whole.{fl, limit, fl-is, fl-sum, fl-lt}
 use Rattle.whole.specs.Bits.{fl-zero}
 use Rattle.whole.specs.Infinity.{is-lt-inf}
-use Rattle.ga.specs.Tariff.{Tariff, farOf, priceOf, runsOf, farsOf, stretches, endsF, costF, distanceF}
+use Rattle.stretch.specs.Tariff.{Tariff, farOf, priceOf, runsOf, farsOf, stretches, endsF, costF, distanceF}
 use Rattle.exact.specs.StretchExact.{way-exact}
 use Rattle.exact.specs.SameTable.{Same, SameCarry, best-same, carried-to-same}
 

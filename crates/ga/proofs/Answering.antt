@@ -9,7 +9,8 @@ use Rattle.cutting.specs.Tab.{cells}
 use Rattle.definitions.specs.Drop.{callAt, callsAt, Held}
 use Rattle.definitions.specs.Room.{written}
 use Rattle.table.proofs.Writing.{front-written}
-use Rattle.ga.specs.Tariff.{Tariff, CutDone, planF, Counted}
+use Rattle.stretch.specs.Tariff.{Tariff, CutDone}
+use Rattle.ga.specs.Answer.{planF, Counted}
 use Rattle.ga.proofs.Cutting.{part-is, few-runs, runs-are}
 
 -- each call of the tour is held or dropped, and n are held

@@ -3,19 +3,17 @@ use Prim.Native.Nat.{ℕ, zero, suc, _+_, _-_, _<_, _≤_}
 use native.Mathlib.Nat.{le-refl, add-zero}
 use native.Mathlib.Omega.{arith}
 use mathlib.Core.Path.{_≡_, sym, ap, subst, _∙_}
-use mathlib.Core.Bool.{false}
 use mathlib.Core.List.{List, [], _∷_}
 use lib.ListN.{length, getD, take, drop, length-drop}
 use lib.Seq.{take-all}
-use lib.Ieee.{Float, nan, inf, lt}
-use Rattle.cutting.specs.Cut.{Rule, best, pred, backOf, ends}
+use lib.Ieee.{Float, nan}
+use Rattle.cutting.specs.Cut.{Rule, pred, backOf, ends}
 use Rattle.cutting.specs.Best.{pred-lt}
 use Rattle.cutting.specs.Back.{Falls}
-use Rattle.cutting.specs.First.{FirstOf, first-cong}
 use Rattle.cutting.specs.Tab.{cells}
-use Rattle.cutting.specs.Rows.{Legs, rule64, last-cost, last-falls, last-ends, last-has}
+use Rattle.cutting.specs.Rows.{Legs, rule64, last-cost, last-falls, last-ends}
 use Rattle.cutting.specs.Carried.{last-far}
-use Rattle.ga.specs.Tariff.{Tariff, stretches, runsOf, farsOf, TableOf, endsF, CutDone}
+use Rattle.stretch.specs.Tariff.{Tariff, stretches, runsOf, farsOf, TableOf, endsF, CutDone}
 
 -- ---- what is read from the table
 
@@ -39,11 +37,6 @@ module _ (T : Tariff) (held : List ℕ) (few : length held ≤ 128) (cost far : 
         inside = l .0;
         long = l .1;
       }
-
-  pub table-stuck : (r : ℕ) → FirstOf (λ k. lt (getD cost (k + 1) nan) (inf false)) (length held) r → FirstOf (λ k. lt (best (rule64 runs) (suc k)) (inf false)) (length held) r
-  table-stuck r F =
-      first-cong _ _ (length held) r
-      (λ k h. ap (λ (x : List Float). lt (getD x (k + 1) nan) (inf false)) (R .costs-are) ∙ last-has runs (length held) k inside h) F
 
 -- ---- there are no more runs than calls
 

@@ -1,16 +1,18 @@
--- Branches on what a call answers.
-pub mod Branches
--- Along a stretch of calls: which of its beginnings fit, and what a row of the table keeps.
-pub mod Fitting
-pub mod Along
+-- Numbers in order, whatever they are.
+pub mod LessThan
+-- What is gathered once for a cut by capacity alone.
+pub mod Gathered
 -- From the table to the cut, and to the answer.
 pub mod Cutting
 pub mod Answering
 -- The calls that are too heavy, removed.
 pub mod Sorting
--- The clocks along a stretch, and what a row keeps without a break and with one.
-pub mod Clocks
-pub mod PlainAlong
-pub mod RestAlong
+-- Rows that are filled again.
+pub mod Noting
+pub mod Refilling
+pub mod Clearing
+pub mod Again
 -- The calls that cannot be cut, dropped.
 pub mod Settling
+pub mod Turns
+pub mod Stayed

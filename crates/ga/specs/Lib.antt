@@ -1,6 +1,7 @@
--- A stretch of calls, and the runs along it, on floats.
-pub mod Stretch
-pub mod Tariff
+-- What a cutting gives.
+pub mod Answer
 -- The cut by capacity alone, and the cut by capacity, windows, limits and break.
 pub mod Split
 pub mod SplitTw
+-- What the drops do to the table.
+pub mod Refill

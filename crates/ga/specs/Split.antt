@@ -1,9 +1,10 @@
 -- The cut by capacity alone on floats, as the code has it: the price of a run, which calls are light, and the answer. Definitions only.
-use Prim.Native.Nat.{ℕ}
+use Prim.Native.Nat.{ℕ, suc, _<_, _≤_}
+use mathlib.Core.Path.{_≡_}
 use mathlib.Core.Bool.{Bool, true, not}
 use mathlib.Core.List.{List, [], map}
-use lib.ListN.{length}
-use lib.Ieee.{Float}
+use lib.ListN.{length, getD}
+use lib.Ieee.{Float, nan}
 use Rattle.basics.specs.Lists.{only, count}
 use Rattle.definitions.specs.Sheet.{CustomerOf}
 use Rattle.definitions.specs.Drop.{callAt, Held}
@@ -11,8 +12,9 @@ use Rattle.distance.specs.Lookup.{lookupF}
 use Rattle.models.specs.declared.customer.Customer.{Customer}
 use Rattle.models.specs.Records.{customerOf}
 use Rattle.models.specs.Load.{fitsLoad}
-use Rattle.evaluation.specs.Tables.{demandF}
-use Rattle.ga.specs.Tariff.{Tariff, ResultF, planF}
+use Rattle.evaluation.specs.Tables.{recordIndex, demandF}
+use Rattle.stretch.specs.Tariff.{Tariff}
+use Rattle.ga.specs.Answer.{ResultF, planF}
 
 -- ---- what is lent
 
@@ -28,17 +30,33 @@ abbrev pub lent : List Customer → List Float → ℕ → ℕ → Float → Ins
 lent customers distances size capacity fixed =
     record { customers = map customerOf customers; distances = distances; size = size; capacity = capacity; fixed = fixed }
 
--- runs that turn on their load alone, at no pay
-abbrev pub tariff : Instance → Tariff
-tariff I =
+-- runs that turn on their load alone, at no pay, by what a call asks for
+abbrev pub tariffBy : (ℕ → ℕ) → List Float → ℕ → ℕ → Float → Tariff
+tariffBy demand distances size capacity fixed =
     record {
-      demand = demandF (I .customers);
-      capacity = I .capacity;
-      leg = lookupF (I .distances) (I .size);
-      fixed = I .fixed;
+      demand = demand;
+      capacity = capacity;
+      leg = lookupF distances size;
+      fixed = fixed;
       allowed = λ _ _. true;
       pays = λ _ _. [];
     }
+
+abbrev pub tariff : Instance → Tariff
+tariff I = tariffBy (demandF (I .customers)) (I .distances) (I .size) (I .capacity) (I .fixed)
+
+-- ---- what is gathered once for a cut
+
+-- what a call asks for, from the list of what each record asks for
+abbrev pub askedF : List ℕ → ℕ → ℕ
+askedF demands c = getD demands (recordIndex c) 0
+
+-- the legs along calls: `ins` into each from the one before it, and `backs` from each to the depot
+pub record LegsOf (leg : ℕ → ℕ → Float) (calls : List ℕ) (ins backs : List Float) : Type 0 where
+  pub ins-long : length calls ≤ length ins
+  pub backs-long : length calls ≤ length backs
+  pub ins-are : (k : ℕ) → suc k < length calls → getD ins (suc k) nan ≡ leg (getD calls k 0) (getD calls (suc k) 0)
+  pub backs-are : (k : ℕ) → k < length calls → getD backs k nan ≡ leg (getD calls k 0) 0
 
 -- ---- the calls held
 
@@ -54,11 +72,18 @@ sorted light tour k =
       dropped = only (λ p. not (light (callAt tour p))) (count 1 k);
     }
 
+-- the same for the whole tour, by what a call asks for
+abbrev pub lightOnes : (ℕ → ℕ) → ℕ → List ℕ → Held
+lightOnes demand capacity tour = sorted (λ c. fitsLoad (demand c) capacity) tour (length tour)
+
 abbrev pub removalsF : List (CustomerOf Float) → ℕ → List ℕ → Held
-removalsF customers capacity tour = sorted (lightF customers capacity) tour (length tour)
+removalsF customers capacity tour = lightOnes (demandF customers) capacity tour
 
 -- ---- the answer
 
--- the calls that are too heavy are removed, and the others are cut
+-- the calls that are too heavy are removed, and the others are cut, by what a call asks for
+abbrev pub planBy : (ℕ → ℕ) → List Float → ℕ → ℕ → Float → List ℕ → ResultF
+planBy demand distances size capacity fixed tour = planF (tariffBy demand distances size capacity fixed) tour (lightOnes demand capacity tour)
+
 unfoldable pub splitF : Instance → List ℕ → ResultF
-splitF I tour = planF (tariff I) tour (removalsF (I .customers) (I .capacity) tour)
+splitF I tour = planBy (demandF (I .customers)) (I .distances) (I .size) (I .capacity) (I .fixed) tour

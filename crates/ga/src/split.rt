@@ -2,15 +2,19 @@
 ghost use mathlib.Core.Path.{_≡_};
 ghost use mathlib.Core.Bool.{cond};
 ghost use mathlib.Core.List.{map};
-ghost use Prim.Native.Nat.{_+_, _-_, _<_, _≤_};
+ghost use Prim.Native.Nat.{ℕ, _+_, _-_, _<_, _≤_};
 ghost use lib.ListN.{length, set};
 ghost use Rattle.definitions.specs.Drop.{callsAt};
 ghost use Rattle.definitions.specs.Room.{written};
 ghost use Rattle.models.specs.Records.{customerOf};
-ghost use Rattle.ga.specs.Tariff.{RowOf, TableOf, CutDone, Counted};
-ghost use Rattle.ga.specs.Split.{lent, tariff, removalsF, splitF};
-use crate::stretch::joined;
+ghost use Rattle.stretch.specs.Tariff.{RowOf, TableOf, CutDone};
+ghost use Rattle.ga.specs.Answer.{Counted};
+ghost use Rattle.distance.specs.Lookup.{lookupF};
+ghost use Rattle.evaluation.specs.Tables.{demandF};
+ghost use Rattle.ga.specs.Split.{lent, askedF, tariffBy, LegsOf, lightOnes, splitF};
+use stretch::way::joined;
 use distance::matrix::get;
+use evaluation::route::call_at;
 use evaluation::schedule::record_index;
 use models::customer::Customer;
 use models::load::fits;
@@ -20,13 +24,59 @@ use table::cells::read_back;
 use table::held::write_front;
 use whole::infinity;
 
+// What each record asks for.
+pub fn demands_of(customers: [Customer; 64]) -> [u32; 64]
+    ensures { λ r. ⌜ (length r ≡ 64) × ((c : ℕ) → askedF r c ≡ demandF (map customerOf customers) c) ⌝ }
+{
+    let mut demands = [0u32; 64];
+    let mut k = 0;
+    while k < 64 {
+        let customer = customers[k];
+        demands[k] = customer.demand;
+        k += 1;
+    }
+    demands
+}
+
+// The legs along the calls: into each from the one before it, and from each to the depot.
+fn write_legs(
+    held: &[usize],
+    distances: &[f64],
+    size: usize,
+    ins: &mut [f64; 128],
+    backs: &mut [f64; 128],
+)
+    requires { ⌜ (length (now held) ≤ 128) × (length (now ins) ≡ 128) × (length (now backs) ≡ 128) ⌝ }
+    ensures { λ _. ⌜ LegsOf (lookupF (now (distances .entry)) size) (now (held .entry)) (now (ins .exit)) (now (backs .exit)) ⌝ }
+    ensures { λ _. ⌜ (length (now (ins .exit)) ≡ 128) × (length (now (backs .exit)) ≡ 128) ⌝ }
+{
+    let mut prev = 0;
+    let mut k = 0;
+    while k < held.len() {
+        let cid = held[k];
+        ins[k] = get(distances, size, prev, cid);
+        backs[k] = get(distances, size, cid, 0);
+        prev = cid;
+        k += 1;
+    }
+}
+
+// The leg into a call of a run: from the depot into the first, and else from the call before it.
+pub fn leg_in(out: f64, leg: f64, first: bool) -> f64
+    ensures { λ r. ⌜ r ≡ cond first out leg ⌝ }
+{
+    if first { out } else { leg }
+}
+
 // Row i: the runs along the stretch that starts at call i, each after the best of the calls before it.
 pub fn row(
     cost: &mut [f64; 129],
     dist: &mut [f64; 129],
     pred: &mut [usize; 129],
     stretch: &[usize],
-    customers: [Customer; 64],
+    demands: &[u32],
+    ins: &[f64],
+    backs: &[f64],
     distances: &[f64],
     size: usize,
     capacity: u32,
@@ -34,26 +84,25 @@ pub fn row(
     i: usize,
 )
     requires { ⌜ (length (now cost) ≡ 129) × (length (now dist) ≡ 129) × (length (now pred) ≡ 129) ⌝ }
-    requires { ⌜ i + length (now stretch) ≤ 128 ⌝ }
-    ensures { λ _. ⌜ RowOf (tariff (lent customers (now (distances .entry)) size capacity fixed)) (now (stretch .entry)) i (now (cost .entry)) (now (dist .entry)) (now (pred .entry)) (now (cost .exit)) (now (dist .exit)) (now (pred .exit)) ⌝ }
+    requires { ⌜ (i + length (now stretch) ≤ 128) × (length (now demands) ≡ 64) ⌝ }
+    requires { ⌜ LegsOf (lookupF (now distances) size) (now stretch) (now ins) (now backs) ⌝ }
+    ensures { λ _. ⌜ RowOf (tariffBy (askedF (now (demands .entry))) (now (distances .entry)) size capacity fixed) (now (stretch .entry)) i (now (cost .entry)) (now (dist .entry)) (now (pred .entry)) (now (cost .exit)) (now (dist .exit)) (now (pred .exit)) ⌝ }
 {
     let base = cost[i] + fixed;
     let before = dist[i];
+    let out = get(distances, size, 0, call_at(stretch, 0));
     let mut load: u64 = 0;
     let mut gone = 0.0;
-    let mut prev = 0;
     let mut m = 0;
     while m < stretch.len() {
-        let cid = stretch[m];
-        let index = record_index(cid);
-        let customer = customers[index];
-        load += wide(customer.demand);
+        let index = record_index(stretch[m]);
+        load += wide(demands[index]);
         if !fits(load, capacity) {
             return;
         }
-        gone = joined(gone, get(distances, size, prev, cid), m == 0);
-        prev = cid;
-        let total = gone + get(distances, size, cid, 0);
+        let first = m == 0;
+        gone = joined(gone, leg_in(out, ins[m], first), first);
+        let total = gone + backs[m];
         m += 1;
         let new = base + total;
         let far = before + total;
@@ -67,7 +116,9 @@ pub fn reached_row(
     dist: &mut [f64; 129],
     pred: &mut [usize; 129],
     stretch: &[usize],
-    customers: [Customer; 64],
+    demands: &[u32],
+    ins: &[f64],
+    backs: &[f64],
     distances: &[f64],
     size: usize,
     capacity: u32,
@@ -75,8 +126,9 @@ pub fn reached_row(
     i: usize,
 )
     requires { ⌜ (length (now cost) ≡ 129) × (length (now dist) ≡ 129) × (length (now pred) ≡ 129) ⌝ }
-    requires { ⌜ i + length (now stretch) ≤ 128 ⌝ }
-    ensures { λ _. ⌜ RowOf (tariff (lent customers (now (distances .entry)) size capacity fixed)) (now (stretch .entry)) i (now (cost .entry)) (now (dist .entry)) (now (pred .entry)) (now (cost .exit)) (now (dist .exit)) (now (pred .exit)) ⌝ }
+    requires { ⌜ (i + length (now stretch) ≤ 128) × (length (now demands) ≡ 64) ⌝ }
+    requires { ⌜ LegsOf (lookupF (now distances) size) (now stretch) (now ins) (now backs) ⌝ }
+    ensures { λ _. ⌜ RowOf (tariffBy (askedF (now (demands .entry))) (now (distances .entry)) size capacity fixed) (now (stretch .entry)) i (now (cost .entry)) (now (dist .entry)) (now (pred .entry)) (now (cost .exit)) (now (dist .exit)) (now (pred .exit)) ⌝ }
 {
     if cost[i] == infinity() {
         return;
@@ -86,7 +138,9 @@ pub fn reached_row(
         &mut *dist,
         &mut *pred,
         stretch,
-        customers,
+        demands,
+        ins,
+        backs,
         distances,
         size,
         capacity,
@@ -101,16 +155,19 @@ pub fn rows(
     dist: &mut [f64; 129],
     pred: &mut [usize; 129],
     held: &[usize],
-    customers: [Customer; 64],
+    demands: &[u32],
     distances: &[f64],
     size: usize,
     capacity: u32,
     fixed: f64,
 )
-    requires { ⌜ length (now held) ≤ 128 ⌝ }
-    requires { ⌜ TableOf (tariff (lent customers (now distances) size capacity fixed)) (now held) 0 (now cost) (now dist) (now pred) ⌝ }
-    ensures { λ _. ⌜ TableOf (tariff (lent customers (now (distances .entry)) size capacity fixed)) (now (held .entry)) (length (now (held .entry))) (now (cost .exit)) (now (dist .exit)) (now (pred .exit)) ⌝ }
+    requires { ⌜ (length (now held) ≤ 128) × (length (now demands) ≡ 64) ⌝ }
+    requires { ⌜ TableOf (tariffBy (askedF (now demands)) (now distances) size capacity fixed) (now held) 0 (now cost) (now dist) (now pred) ⌝ }
+    ensures { λ _. ⌜ TableOf (tariffBy (askedF (now (demands .entry))) (now (distances .entry)) size capacity fixed) (now (held .entry)) (length (now (held .entry))) (now (cost .exit)) (now (dist .exit)) (now (pred .exit)) ⌝ }
 {
+    let mut ins = [0.0; 128];
+    let mut backs = [0.0; 128];
+    write_legs(held, distances, size, &mut ins, &mut backs);
     let mut i: usize = 0;
     while i < held.len() {
         reached_row(
@@ -118,7 +175,9 @@ pub fn rows(
             &mut *dist,
             &mut *pred,
             &held[i..],
-            customers,
+            demands,
+            &ins[i..],
+            &backs[i..],
             distances,
             size,
             capacity,
@@ -140,15 +199,15 @@ pub struct Cutting {
 // The calls held, cut at least cost. The ends of the runs stand at the end of `ends`, from `at` on.
 pub fn cut(
     held: &[usize],
-    customers: [Customer; 64],
+    demands: &[u32],
     distances: &[f64],
     size: usize,
     capacity: u32,
     fixed: f64,
     ends: &mut [usize; 129],
 ) -> Cutting
-    requires { ⌜ (length (now held) ≤ 128) × (length (now ends) ≡ 129) ⌝ }
-    ensures { λ r. ⌜ CutDone (tariff (lent customers (now (distances .entry)) size capacity fixed)) (now (held .entry)) (r .cost) (r .distance) (r .at) (now (ends .exit)) ⌝ }
+    requires { ⌜ (length (now held) ≤ 128) × (length (now demands) ≡ 64) × (length (now ends) ≡ 129) ⌝ }
+    ensures { λ r. ⌜ CutDone (tariffBy (askedF (now (demands .entry))) (now (distances .entry)) size capacity fixed) (now (held .entry)) (r .cost) (r .distance) (r .at) (now (ends .exit)) ⌝ }
 {
     let n = held.len();
     let top = infinity();
@@ -161,7 +220,7 @@ pub fn cut(
         &mut dist,
         &mut pred,
         held,
-        customers,
+        demands,
         distances,
         size,
         capacity,
@@ -203,23 +262,22 @@ pub fn sort_call(
 // Calls whose demand exceeds capacity are dropped, and the others are held. Gives the number held.
 pub fn hold_light(
     tour: &[usize],
-    customers: [Customer; 64],
+    demands: &[u32],
     capacity: u32,
     served: &mut [usize],
     dropped: &mut [usize],
 ) -> usize
-    requires { ⌜ (length (now tour) ≤ length (now served)) × (length (now tour) ≤ length (now dropped)) ⌝ }
-    ensures { λ r. ⌜ r ≡ length (removalsF (map customerOf customers) capacity (now (tour .entry)) .held) ⌝ }
-    ensures { λ _. ⌜ now (served .exit) ≡ written (callsAt (now (tour .entry)) (removalsF (map customerOf customers) capacity (now (tour .entry)) .held)) (now (served .entry)) ⌝ }
-    ensures { λ _. ⌜ now (dropped .exit) ≡ written (removalsF (map customerOf customers) capacity (now (tour .entry)) .dropped) (now (dropped .entry)) ⌝ }
+    requires { ⌜ (length (now demands) ≡ 64) × (length (now tour) ≤ length (now served)) × (length (now tour) ≤ length (now dropped)) ⌝ }
+    ensures { λ r. ⌜ r ≡ length (lightOnes (askedF (now (demands .entry))) capacity (now (tour .entry)) .held) ⌝ }
+    ensures { λ _. ⌜ now (served .exit) ≡ written (callsAt (now (tour .entry)) (lightOnes (askedF (now (demands .entry))) capacity (now (tour .entry)) .held)) (now (served .entry)) ⌝ }
+    ensures { λ _. ⌜ now (dropped .exit) ≡ written (lightOnes (askedF (now (demands .entry))) capacity (now (tour .entry)) .dropped) (now (dropped .entry)) ⌝ }
 {
     let mut n = 0;
     let mut k = 0;
     while k < tour.len() {
         let cid = tour[k];
         let index = record_index(cid);
-        let customer = customers[index];
-        let light = fits(wide(customer.demand), capacity);
+        let light = fits(wide(demands[index]), capacity);
         n = sort_call(&mut *served, &mut *dropped, n, k, cid, light);
         k += 1;
     }
@@ -254,11 +312,12 @@ pub fn split(
     ensures { λ _. ⌜ now («run_ends» .exit) ≡ written (splitF (lent customers (now (distances .entry)) size capacity fixed) (now (tour .entry)) .ends) (now («run_ends» .entry)) ⌝ }
     ensures { λ _. ⌜ now (dropped .exit) ≡ written (splitF (lent customers (now (distances .entry)) size capacity fixed) (now (tour .entry)) .dropped) (now (dropped .entry)) ⌝ }
 {
-    let n = hold_light(tour, customers, capacity, &mut *served, &mut *dropped);
+    let demands = demands_of(customers);
+    let n = hold_light(tour, &demands, capacity, &mut *served, &mut *dropped);
     let mut ends = [0usize; 129];
     let c = cut(
         &served[..n],
-        customers,
+        &demands,
         distances,
         size,
         capacity,

@@ -1,384 +1,27 @@
 // The cut of a tour by capacity, windows, limits and break (ga/split_tw.rs): row i of the table tries the runs that start at call i.
 ghost use mathlib.Core.Path.{_≡_};
-ghost use mathlib.Core.Option.{none, some};
-ghost use Prim.Native.Nat.{_+_, _≤_};
-ghost use lib.ListN.{length};
+ghost use mathlib.Core.Bool.{false};
+ghost use Prim.Native.Nat.{_+_, _<_, _≤_};
+ghost use lib.Ieee.{nan, inf};
+ghost use lib.ListN.{length, take};
 ghost use Rattle.definitions.specs.Room.{written};
-ghost use Rattle.models.specs.Records.{openingOf, penaltyOf, customerOf, breakOf};
-ghost use Rattle.ga.specs.Tariff.{RowOf, TableOf, Counted};
-ghost use Rattle.ga.specs.SplitTw.{visitedOf, enterF, visitF, lentBy, lent, tariff, PassDone, Settled, dropsF, splitTwF};
+ghost use Rattle.whole.specs.Whole.{fl};
+ghost use Rattle.ga.specs.Answer.{Counted};
+ghost use Rattle.stretch.specs.Runs.{over, lent};
+ghost use Rattle.ga.specs.SplitTw.{Settled, dropsF, splitTwF};
+ghost use Rattle.stretch.specs.Stops.{Below64};
+ghost use Rattle.ga.specs.Refill.{Cleared, Listed, Noted, Refilled, Unfilled, SomeLists, Holds};
 use crate::split::SplitResult;
-use crate::stretch::joined;
-use distance::matrix::get;
-use distance::matrix::travel_time;
-use evaluation::schedule::BreakClock;
-use evaluation::schedule::Finished;
-use evaluation::schedule::record_index;
+use stretch::rows::row;
+use stretch::stops::work_out;
+use stretch::stops::write_legs;
 use models::customer::Customer;
-use models::customer::Opening;
-use models::customer::Penalty;
 use models::limits::RouteLimits;
-use models::load::fits;
-use models::load::wide;
-use models::vehicle::Rest;
-use models::vehicle::VehicleBreak;
-use table::cells::first_stuck;
-use table::cells::offer;
 use table::cells::read_back;
 use table::held::drop_call;
 use table::held::number;
 use table::held::write_front;
 use whole::infinity;
-use whole::later;
-
-// The time on the way through a run without a break, and what its lateness costs so far.
-pub struct Timed {
-    pub time: f64,
-    pub late_cost: f64,
-}
-
-// A window that ends the run, or the way on.
-pub enum Visited {
-    Shut,
-    Open(Timed),
-}
-
-// Late ends the run without a penalty, and costs with one; then the window's opening is waited for.
-pub fn enter(opening: Opening, penalty: Penalty, time: f64, late_cost: f64) -> Visited
-    ensures { λ r. ⌜ visitedOf r ≡ enterF (openingOf opening) (penaltyOf penalty) time «late_cost» ⌝ }
-{
-    let Opening::Window(window) = opening else {
-        return Visited::Open(Timed { time, late_cost });
-    };
-    let start = later(time, window.ready);
-    if !window.is_violated(time) {
-        return Visited::Open(Timed {
-            time: start,
-            late_cost,
-        });
-    }
-    match penalty {
-        Penalty::Hard => Visited::Shut,
-        Penalty::Soft(p) => Visited::Open(Timed {
-            time: start,
-            late_cost: late_cost + p * (time - window.due),
-        }),
-    }
-}
-
-// A call that is reached at this time: its window, and its service.
-pub fn visit(customer: Customer, time: f64, late_cost: f64) -> Visited
-    ensures { λ r. ⌜ visitedOf r ≡ visitF (customerOf customer) time «late_cost» ⌝ }
-{
-    let opening = customer.time_window;
-    let penalty = customer.lateness_penalty;
-    let Visited::Open(v) = enter(opening, penalty, time, late_cost) else {
-        return Visited::Shut;
-    };
-    Visited::Open(Timed {
-        time: v.time + customer.service_duration,
-        late_cost: v.late_cost,
-    })
-}
-
-// Row i without a break: the runs along the stretch that starts at call i, each after the best of the calls before it.
-pub fn plain_row(
-    cost: &mut [f64; 129],
-    dist: &mut [f64; 129],
-    pred: &mut [usize; 129],
-    stretch: &[usize],
-    customers: [Customer; 64],
-    distances: &[f64],
-    times: &[f64],
-    size: usize,
-    capacity: u32,
-    fixed: f64,
-    limits: RouteLimits,
-    i: usize,
-)
-    requires { ⌜ (length (now cost) ≡ 129) × (length (now dist) ≡ 129) × (length (now pred) ≡ 129) ⌝ }
-    requires { ⌜ i + length (now stretch) ≤ 128 ⌝ }
-    ensures { λ _. ⌜ RowOf (tariff (lentBy customers (now (distances .entry)) (now (times .entry)) size capacity fixed limits none)) (now (stretch .entry)) i (now (cost .entry)) (now (dist .entry)) (now (pred .entry)) (now (cost .exit)) (now (dist .exit)) (now (pred .exit)) ⌝ }
-{
-    let base = cost[i] + fixed;
-    let before = dist[i];
-    let mut load: u64 = 0;
-    let mut gone = 0.0;
-    let mut time = 0.0;
-    let mut late_cost = 0.0;
-    let mut prev = 0;
-    let mut m = 0;
-    while m < stretch.len() {
-        let cid = stretch[m];
-        let index = record_index(cid);
-        let customer = customers[index];
-        load += wide(customer.demand);
-        if !fits(load, capacity) {
-            return;
-        }
-        gone = joined(gone, get(distances, size, prev, cid), m == 0);
-        let arrival = joined(time, travel_time(distances, times, size, prev, cid), m == 0);
-        let Visited::Open(v) = visit(customer, arrival, late_cost) else {
-            return;
-        };
-        time = v.time;
-        late_cost = v.late_cost;
-        prev = cid;
-        m += 1;
-        let total = gone + get(distances, size, cid, 0);
-        if !limits.allow(total, time + travel_time(distances, times, size, cid, 0)) {
-            continue;
-        }
-        let new = base + total + late_cost;
-        let far = before + total;
-        offer(&mut *cost, &mut *dist, &mut *pred, i + m, i, new, far);
-    }
-}
-
-// Row i with a break: the clock grows along the stretch, a call at a time.
-pub fn rest_row(
-    cost: &mut [f64; 129],
-    dist: &mut [f64; 129],
-    pred: &mut [usize; 129],
-    stretch: &[usize],
-    customers: [Customer; 64],
-    distances: &[f64],
-    times: &[f64],
-    size: usize,
-    capacity: u32,
-    fixed: f64,
-    limits: RouteLimits,
-    rest: VehicleBreak,
-    i: usize,
-)
-    requires { ⌜ (length (now cost) ≡ 129) × (length (now dist) ≡ 129) × (length (now pred) ≡ 129) ⌝ }
-    requires { ⌜ i + length (now stretch) ≤ 128 ⌝ }
-    ensures { λ _. ⌜ RowOf (tariff (lentBy customers (now (distances .entry)) (now (times .entry)) size capacity fixed limits (some (breakOf rest)))) (now (stretch .entry)) i (now (cost .entry)) (now (dist .entry)) (now (pred .entry)) (now (cost .exit)) (now (dist .exit)) (now (pred .exit)) ⌝ }
-{
-    let base = cost[i] + fixed;
-    let before = dist[i];
-    let mut load: u64 = 0;
-    let mut gone = 0.0;
-    let mut clock = BreakClock::new(rest);
-    let mut m = 0;
-    while m < stretch.len() {
-        let cid = stretch[m];
-        let index = record_index(cid);
-        let customer = customers[index];
-        load += wide(customer.demand);
-        if !fits(load, capacity) {
-            return;
-        }
-        let prev = clock.prev;
-        gone = joined(gone, get(distances, size, prev, cid), m == 0);
-        clock = clock.push(
-            cid,
-            customer,
-            travel_time(distances, times, size, prev, cid),
-        );
-        if !clock.alive() {
-            return;
-        }
-        m += 1;
-        let total = gone + get(distances, size, cid, 0);
-        let back = travel_time(distances, times, size, cid, 0);
-        let Finished::Home(done) = clock.finish(total, back) else {
-            continue;
-        };
-        if !limits.allow(total, done.duration) {
-            continue;
-        }
-        let new = base + total + done.cost;
-        let far = before + total;
-        offer(&mut *cost, &mut *dist, &mut *pred, i + m, i, new, far);
-    }
-}
-
-// Row i, with the break of the limits or without one.
-pub fn row(
-    cost: &mut [f64; 129],
-    dist: &mut [f64; 129],
-    pred: &mut [usize; 129],
-    stretch: &[usize],
-    customers: [Customer; 64],
-    distances: &[f64],
-    times: &[f64],
-    size: usize,
-    capacity: u32,
-    fixed: f64,
-    limits: RouteLimits,
-    i: usize,
-)
-    requires { ⌜ (length (now cost) ≡ 129) × (length (now dist) ≡ 129) × (length (now pred) ≡ 129) ⌝ }
-    requires { ⌜ i + length (now stretch) ≤ 128 ⌝ }
-    ensures { λ _. ⌜ RowOf (tariff (lent customers (now (distances .entry)) (now (times .entry)) size capacity fixed limits)) (now (stretch .entry)) i (now (cost .entry)) (now (dist .entry)) (now (pred .entry)) (now (cost .exit)) (now (dist .exit)) (now (pred .exit)) ⌝ }
-{
-    let rest = limits.rest;
-    match rest {
-        Rest::Unbroken => plain_row(
-            &mut *cost,
-            &mut *dist,
-            &mut *pred,
-            stretch,
-            customers,
-            distances,
-            times,
-            size,
-            capacity,
-            fixed,
-            limits,
-            i,
-        ),
-        Rest::Break(b) => rest_row(
-            &mut *cost,
-            &mut *dist,
-            &mut *pred,
-            stretch,
-            customers,
-            distances,
-            times,
-            size,
-            capacity,
-            fixed,
-            limits,
-            b,
-            i,
-        ),
-    }
-}
-
-// Row i where the calls before i can be cut at all; else there is nothing to do.
-pub fn reached_row(
-    cost: &mut [f64; 129],
-    dist: &mut [f64; 129],
-    pred: &mut [usize; 129],
-    stretch: &[usize],
-    customers: [Customer; 64],
-    distances: &[f64],
-    times: &[f64],
-    size: usize,
-    capacity: u32,
-    fixed: f64,
-    limits: RouteLimits,
-    i: usize,
-)
-    requires { ⌜ (length (now cost) ≡ 129) × (length (now dist) ≡ 129) × (length (now pred) ≡ 129) ⌝ }
-    requires { ⌜ i + length (now stretch) ≤ 128 ⌝ }
-    ensures { λ _. ⌜ RowOf (tariff (lent customers (now (distances .entry)) (now (times .entry)) size capacity fixed limits)) (now (stretch .entry)) i (now (cost .entry)) (now (dist .entry)) (now (pred .entry)) (now (cost .exit)) (now (dist .exit)) (now (pred .exit)) ⌝ }
-{
-    if cost[i] == infinity() {
-        return;
-    }
-    row(
-        &mut *cost,
-        &mut *dist,
-        &mut *pred,
-        stretch,
-        customers,
-        distances,
-        times,
-        size,
-        capacity,
-        fixed,
-        limits,
-        i,
-    );
-}
-
-// Every row, in order.
-pub fn rows(
-    cost: &mut [f64; 129],
-    dist: &mut [f64; 129],
-    pred: &mut [usize; 129],
-    held: &[usize],
-    customers: [Customer; 64],
-    distances: &[f64],
-    times: &[f64],
-    size: usize,
-    capacity: u32,
-    fixed: f64,
-    limits: RouteLimits,
-)
-    requires { ⌜ length (now held) ≤ 128 ⌝ }
-    requires { ⌜ TableOf (tariff (lent customers (now distances) (now times) size capacity fixed limits)) (now held) 0 (now cost) (now dist) (now pred) ⌝ }
-    ensures { λ _. ⌜ TableOf (tariff (lent customers (now (distances .entry)) (now (times .entry)) size capacity fixed limits)) (now (held .entry)) (length (now (held .entry))) (now (cost .exit)) (now (dist .exit)) (now (pred .exit)) ⌝ }
-{
-    let mut i: usize = 0;
-    while i < held.len() {
-        reached_row(
-            &mut *cost,
-            &mut *dist,
-            &mut *pred,
-            &held[i..],
-            customers,
-            distances,
-            times,
-            size,
-            capacity,
-            fixed,
-            limits,
-            i,
-        );
-        i += 1;
-    }
-}
-
-// What a pass over the calls held gives.
-pub struct Passed {
-    // what they cost, cut at the best; infinity where they cannot be cut
-    pub cost: f64,
-    pub distance: f64,
-    // where the ends of the runs start in `ends`
-    pub at: usize,
-    // the place of the last call of the shortest beginning that has no cutting, or the number of calls
-    pub stuck: usize,
-}
-
-// The calls held, cut at least cost. The ends of the runs stand at the end of `ends`, from `at` on.
-pub fn pass(
-    held: &[usize],
-    customers: [Customer; 64],
-    distances: &[f64],
-    times: &[f64],
-    size: usize,
-    capacity: u32,
-    fixed: f64,
-    limits: RouteLimits,
-    ends: &mut [usize; 129],
-) -> Passed
-    requires { ⌜ (length (now held) ≤ 128) × (length (now ends) ≡ 129) ⌝ }
-    ensures { λ r. ⌜ PassDone (lent customers (now (distances .entry)) (now (times .entry)) size capacity fixed limits) (now (held .entry)) (r .cost) (r .distance) (r .at) (r .stuck) (now (ends .exit)) ⌝ }
-{
-    let n = held.len();
-    let top = infinity();
-    let mut cost = [top; 129];
-    let mut dist = [0.0; 129];
-    let mut pred = [0usize; 129];
-    cost[0] = 0.0;
-    rows(
-        &mut cost,
-        &mut dist,
-        &mut pred,
-        held,
-        customers,
-        distances,
-        times,
-        size,
-        capacity,
-        fixed,
-        limits,
-    );
-    let stuck = first_stuck(&cost, n);
-    let at = read_back(&pred, n, &mut *ends);
-    let total = cost[n];
-    let far = dist[n];
-    Passed {
-        cost: total,
-        distance: far,
-        at,
-        stuck,
-    }
-}
 
 // What the drops come to: how many calls are held at the end, and their cut.
 pub struct Settlement {
@@ -389,7 +32,198 @@ pub struct Settlement {
     pub at: usize,
 }
 
-// While some beginning of the calls held has no cutting, the last call of the shortest such beginning is dropped, and all starts over. The calls held at the end stand at the front of `held`.
+// Row i of the calls held, and in `reach` how far it went: the place of the call that ended it, or the number of calls.
+pub fn noted_row(
+    cost: &mut [f64; 129],
+    dist: &mut [f64; 129],
+    pred: &mut [usize; 129],
+    reach: &mut [usize; 129],
+    held: &[usize],
+    legs: &[f64],
+    time_legs: &[f64],
+    codes: &[u32],
+    figures: &[f64],
+    capacity: u32,
+    fixed: f64,
+    limits: RouteLimits,
+    i: usize,
+)
+    requires { ⌜ (length (now cost) ≡ 129) × (length (now dist) ≡ 129) × (length (now pred) ≡ 129) × (length (now reach) ≡ 129) ⌝ }
+    requires { ⌜ (i ≤ length (now held)) × (length (now held) ≤ 128) × Below64 (now held) ⌝ }
+    requires { ⌜ (length (now legs) ≡ 128) × (length (now «time_legs») ≡ 128) × (length (now codes) ≡ 192) × (length (now figures) ≡ 512) ⌝ }
+    ensures { λ _. ⌜ Noted (λ t. over t capacity fixed limits) (now (held .entry)) (now (legs .entry)) (now («time_legs» .entry)) (now (codes .entry)) (now (figures .entry)) i (now (cost .entry)) (now (dist .entry)) (now (pred .entry)) (now (reach .entry)) (now (cost .exit)) (now (dist .exit)) (now (pred .exit)) (now (reach .exit)) ⌝ }
+{
+    let m = row(
+        &mut *cost,
+        &mut *dist,
+        &mut *pred,
+        &held[i..],
+        &legs[i..],
+        &time_legs[i..],
+        codes,
+        figures,
+        capacity,
+        fixed,
+        limits,
+        i,
+    );
+    reach[i] = i + m;
+}
+
+// Clears the cells from `from` on.
+pub fn clear(cost: &mut [f64; 129], dist: &mut [f64; 129], pred: &mut [usize; 129], from: usize)
+    requires { ⌜ (length (now cost) ≡ 129) × (length (now dist) ≡ 129) × (length (now pred) ≡ 129) ⌝ }
+    ensures { λ _. ⌜ Cleared from (inf false) nan (now (cost .entry)) (now (cost .exit)) × Cleared from (fl 0) nan (now (dist .entry)) (now (dist .exit)) × Cleared from 0 0 (now (pred .entry)) (now (pred .exit)) ⌝ }
+{
+    let top = infinity();
+    let mut k = from;
+    while k < 129 {
+        cost[k] = top;
+        dist[k] = 0.0;
+        pred[k] = 0;
+        k += 1;
+    }
+}
+
+// The table of the rows below q, after the call at q was dropped: the cells up to q stay, and of the rows only those that had gone as far as that call are filled again.
+pub fn refill(
+    cost: &mut [f64; 129],
+    dist: &mut [f64; 129],
+    pred: &mut [usize; 129],
+    reach: &mut [usize; 129],
+    held: &[usize],
+    legs: &[f64],
+    time_legs: &[f64],
+    codes: &[u32],
+    figures: &[f64],
+    capacity: u32,
+    fixed: f64,
+    limits: RouteLimits,
+    q: usize,
+)
+    requires { ⌜ (length (now cost) ≡ 129) × (length (now dist) ≡ 129) × (length (now pred) ≡ 129) × (length (now reach) ≡ 129) ⌝ }
+    requires { ⌜ (q ≤ length (now held)) × (length (now held) ≤ 128) × Below64 (now held) ⌝ }
+    requires { ⌜ (length (now legs) ≡ 128) × (length (now «time_legs») ≡ 128) × (length (now codes) ≡ 192) × (length (now figures) ≡ 512) ⌝ }
+    requires { ⌜ Listed (now held) (now legs) (now «time_legs») (now codes) (now figures) ⌝ }
+    ensures { λ _. ⌜ Refilled (λ t. over t capacity fixed limits) (now (held .entry)) (now (legs .entry)) (now («time_legs» .entry)) (now (codes .entry)) (now (figures .entry)) q (now (cost .entry)) (now (dist .entry)) (now (pred .entry)) (now (reach .entry)) (now (cost .exit)) (now (dist .exit)) (now (pred .exit)) (now (reach .exit)) ⌝ }
+{
+    clear(&mut *cost, &mut *dist, &mut *pred, q + 1);
+    let mut s = 0;
+    while s < q {
+        if reach[s] < q {
+            s += 1;
+            continue;
+        }
+        noted_row(
+            &mut *cost,
+            &mut *dist,
+            &mut *pred,
+            &mut *reach,
+            held,
+            legs,
+            time_legs,
+            codes,
+            figures,
+            capacity,
+            fixed,
+            limits,
+            s,
+        );
+        s += 1;
+    }
+}
+
+// Of the n calls at the front of `held` those that stay, row by row. A beginning whose cell stays empty has no cutting: its last call is dropped, and the rows go on from there, since nothing before the dropped call changes. Gives how many stay; they stand at the front.
+pub fn hold(
+    held: &mut [usize],
+    n: usize,
+    dropped: &mut [usize],
+    distances: &[f64],
+    times: &[f64],
+    size: usize,
+    codes: &[u32],
+    figures: &[f64],
+    capacity: u32,
+    fixed: f64,
+    limits: RouteLimits,
+    cost: &mut [f64; 129],
+    dist: &mut [f64; 129],
+    pred: &mut [usize; 129],
+) -> usize
+    requires { ⌜ (n ≤ 128) × (n ≤ length (now held)) × (n ≤ length (now dropped)) × Below64 (take n (now held)) ⌝ }
+    requires { ⌜ Unfilled (now cost) (now dist) (now pred) ⌝ }
+    requires { ⌜ SomeLists (now distances) (now times) size (now codes) (now figures) ⌝ }
+    ensures { λ r. ⌜ Holds (now (distances .entry)) (now (times .entry)) size (now (codes .entry)) (now (figures .entry)) capacity fixed limits (take n (now (held .entry))) (now (dropped .entry)) r (now (held .exit)) (now (dropped .exit)) (now (cost .exit)) (now (dist .exit)) (now (pred .exit)) ⌝ }
+    ensures { λ r. ⌜ r ≤ n ⌝ }
+{
+    let mut positions = [0usize; 128];
+    number(&mut positions, n);
+    let mut legs = [0.0; 128];
+    let mut time_legs = [0.0; 128];
+    write_legs(
+        distances,
+        times,
+        size,
+        &held[..n],
+        0,
+        &mut legs,
+        &mut time_legs,
+    );
+    let mut reach = [0usize; 129];
+    let top = infinity();
+    let mut left = n;
+    let mut i: usize = 0;
+    while i < left {
+        noted_row(
+            &mut *cost,
+            &mut *dist,
+            &mut *pred,
+            &mut reach,
+            &held[..left],
+            &legs,
+            &time_legs,
+            codes,
+            figures,
+            capacity,
+            fixed,
+            limits,
+            i,
+        );
+        if cost[i + 1] < top {
+            i += 1;
+            continue;
+        }
+        drop_call(&mut *held, &mut positions, left, i, &mut *dropped, n - left);
+        left -= 1;
+        write_legs(
+            distances,
+            times,
+            size,
+            &held[..left],
+            i,
+            &mut legs,
+            &mut time_legs,
+        );
+        refill(
+            &mut *cost,
+            &mut *dist,
+            &mut *pred,
+            &mut reach,
+            &held[..left],
+            &legs,
+            &time_legs,
+            codes,
+            figures,
+            capacity,
+            fixed,
+            limits,
+            i,
+        );
+    }
+    left
+}
+
+// The calls that stay and their cut. They stand at the front of `held`, and the ends of their runs at the end of `ends`.
 pub fn settle(
     tour: &[usize],
     customers: [Customer; 64],
@@ -403,53 +237,42 @@ pub fn settle(
     ends: &mut [usize; 129],
     dropped: &mut [usize],
 ) -> Settlement
-    requires { ⌜ (length (now tour) ≤ 128) × (length (now ends) ≡ 129) ⌝ }
+    requires { ⌜ (length (now tour) ≤ 128) × Below64 (now tour) × (length (now ends) ≡ 129) ⌝ }
     requires { ⌜ (length (now tour) ≤ length (now held)) × (length (now tour) ≤ length (now dropped)) ⌝ }
     ensures { λ r. ⌜ Settled (lent customers (now (distances .entry)) (now (times .entry)) size capacity fixed limits) (now (tour .entry)) (r .held) (r .cost) (r .distance) (r .at) (now (held .exit)) (now (ends .exit)) ⌝ }
     ensures { λ _. ⌜ now (dropped .exit) ≡ written (dropsF (lent customers (now (distances .entry)) (now (times .entry)) size capacity fixed limits) (now (tour .entry)) .dropped) (now (dropped .entry)) ⌝ }
 {
-    let mut n = tour.len();
-    let mut positions = [0usize; 128];
+    let mut codes = [0u32; 192];
+    let mut figures = [0.0; 512];
+    work_out(customers, distances, times, size, &mut codes, &mut figures);
+    let top = infinity();
+    let mut cost = [top; 129];
+    let mut dist = [0.0; 129];
+    let mut pred = [0usize; 129];
+    cost[0] = 0.0;
     write_front(tour, &mut *held);
-    number(&mut positions, n);
-    let mut p = pass(
-        &held[..n],
-        customers,
+    let n = hold(
+        &mut *held,
+        tour.len(),
+        &mut *dropped,
         distances,
         times,
         size,
+        &codes,
+        &figures,
         capacity,
         fixed,
         limits,
-        &mut *ends,
+        &mut cost,
+        &mut dist,
+        &mut pred,
     );
-    while p.stuck < n {
-        drop_call(
-            &mut *held,
-            &mut positions,
-            n,
-            p.stuck,
-            &mut *dropped,
-            tour.len() - n,
-        );
-        n -= 1;
-        p = pass(
-            &held[..n],
-            customers,
-            distances,
-            times,
-            size,
-            capacity,
-            fixed,
-            limits,
-            &mut *ends,
-        );
-    }
+    let at = read_back(&pred, n, &mut *ends);
     Settlement {
         held: n,
-        cost: p.cost,
-        distance: p.distance,
-        at: p.at,
+        cost: cost[n],
+        distance: dist[n],
+        at,
     }
 }
 
@@ -467,7 +290,7 @@ pub fn split_tw(
     run_ends: &mut [usize],
     dropped: &mut [usize],
 ) -> SplitResult
-    requires { ⌜ length (now tour) ≤ 128 ⌝ }
+    requires { ⌜ (length (now tour) ≤ 128) × Below64 (now tour) ⌝ }
     requires { ⌜ (length (now tour) ≤ length (now served)) × (length (now tour) ≤ length (now «run_ends»)) × (length (now tour) ≤ length (now dropped)) ⌝ }
     ensures { λ r. ⌜ Counted (splitTwF (lent customers (now (distances .entry)) (now (times .entry)) size capacity fixed limits) (now (tour .entry))) (r .served) (r .runs) (r .dropped) (r .cost) (r .distance) ⌝ }
     ensures { λ _. ⌜ now (served .exit) ≡ written (splitTwF (lent customers (now (distances .entry)) (now (times .entry)) size capacity fixed limits) (now (tour .entry)) .served) (now (served .entry)) ⌝ }

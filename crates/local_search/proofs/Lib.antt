@@ -4,6 +4,8 @@ pub mod Turning
 -- Sums over what is left of a list, and the windows among the first customers.
 pub mod Reckoning
 pub mod Asking
+-- A run whose first calls are fixed.
+pub mod Leading
 -- One reversal, and the search for reversals, step by step.
 pub mod Trying
 pub mod Passing

@@ -2,14 +2,18 @@
 use Prim.Native.Nat.{ℕ, zero, suc, _+_, _-_, _<_, _≤_}
 use native.Mathlib.Nat.{lt-irrefl}
 use native.Mathlib.Omega.{arith}
-use mathlib.Core.Path.{_≡_, sym}
-use mathlib.Core.Bool.{true, false}
-use mathlib.Core.List.{List}
+use mathlib.Core.Path.{_≡_, refl, sym}
+use mathlib.Core.Bool.{Bool, true, false}
+use mathlib.Core.List.{List, [], _∷_, _++_, reverse}
+use lib.ListN.{take, drop}
+use Rattle.basics.specs.Tests.{by-test}
 use Rattle.basics.specs.Lists.{count}
+use Rattle.definitions.specs.TwoOpt.{turned}
 use Rattle.evaluation.specs.Records.{Tables}
 use Rattle.evaluation.specs.Tables.{distanceF}
+use Rattle.evaluation.specs.Route.{feasibleF}
 use Rattle.local_search.specs.Search.{SearchF}
-use Rattle.local_search.specs.TwoOpt.{State, state, gainsF, reversedF, triedF, triedEachF, triedAllF, passFromF, passF, passesF}
+use Rattle.local_search.specs.TwoOpt.{State, state, gainsF, allowedF, reversedF, triedF, triedEachF, triedAllF, passFromF, passF, passesF}
 use Rattle.local_search.proofs.Counting.{count-more, count-done}
 
 module _ (t : Tables) (s : SearchF) where
@@ -34,6 +38,16 @@ module _ (t : Tables) (s : SearchF) where
     pub each-done : n ≤ j → triedEachF t s i (count j (n - j)) x ≡ x
     unfolding triedEachF
     each-done h = rw (count-done n j h)
+
+  -- where no run that begins so is feasible, none is taken
+  pub none-taken : (i : ℕ) (run : List ℕ) (b : Bool) → s .constrained ≡ true → ((rest : List ℕ) → feasibleF t (s .limits) (take i run ++ rest) ≡ false)
+      → (js : List ℕ) → triedEachF t s i js (state run b) ≡ state run b
+  unfolding triedEachF triedF reversedF
+  none-taken i run b y bar [] = refl
+  none-taken i run b y bar (j ∷ js) =
+      let n = suc j - i in
+      let barred : allowedF t s (turned i j run) ≡ false = rw y (bar (reverse (take n (drop i run)) ++ drop n (drop i run))) in
+      by-test (gainsF (distanceF t) s i j run) (λ g. rw (g, barred) (none-taken i run b y bar js)) (λ g. rw g (none-taken i run b y bar js))
 
   -- ---- the first calls from i on
 

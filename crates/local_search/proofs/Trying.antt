@@ -1,18 +1,18 @@
 -- A reversal inside the lent list: it makes a run that is allowed, or is turned back. Assumes nothing.
-use Prim.Native.Nat.{ℕ, suc, _+_, _-_, _<_}
+use Prim.Native.Nat.{ℕ, suc, _+_, _-_, _<_, _≤_}
 use native.Mathlib.Numerals.{add-one}
 use native.Mathlib.Omega.{arith}
 use mathlib.Core.Path.{_≡_, sym, ap, _∙_}
 use mathlib.Core.Bool.{Bool, true, false}
 use mathlib.Core.List.{List, _++_, reverse, reverse-reverse}
-use lib.ListN.{length, take, drop, length-append, length-drop, length-reverse, take-append-drop}
+use lib.ListN.{length, take, drop, length-append, length-take, length-drop, length-reverse, take-append-drop}
 use lib.Seq.{take-at, drop-at, length-take-le}
 use Rattle.basics.specs.Tests.{by-test}
 use Rattle.definitions.specs.TwoOpt.{turned}
 use Rattle.evaluation.specs.Records.{Tables}
 use Rattle.evaluation.specs.Route.{feasibleF}
 use Rattle.local_search.specs.Search.{SearchF}
-use Rattle.local_search.specs.TwoOpt.{state, allowedF, reversedF}
+use Rattle.local_search.specs.TwoOpt.{State, state, allowedF, reversedF}
 
 -- ---- the stretch inside the lent list
 
@@ -24,7 +24,7 @@ put i j run part = take i run ++ (part ++ drop (j + 1 - i) (drop i run))
 abbrev pub turnedPart : ℕ → ℕ → List ℕ → List ℕ
 turnedPart i j run = reverse (take (j + 1 - i) (drop i run))
 
-put-turned : (i j : ℕ) (run part : List ℕ) → part ≡ turnedPart i j run → put i j run part ≡ turned i j run
+pub put-turned : (i j : ℕ) (run part : List ℕ) → part ≡ turnedPart i j run → put i j run part ≡ turned i j run
 put-turned i j run part e = rw (e, add-one j)
 
 module _ (i j : ℕ) (run : List ℕ) (h : i < j) (l : j < length run) where
@@ -77,3 +77,18 @@ module _ (t : Tables) (s : SearchF) (i j : ℕ) (run : List ℕ) (b : Bool) wher
         put-turned i j (put i j run part) again k ∙ ap (turned i j) (put-turned i j run part e) ∙ turned-back i j run h l in
         let no : feasibleF t (s .limits) (turned i j run) ≡ false = ap (feasibleF t (s .limits)) (sym (put-turned i j run part e)) ∙ n in
         ap (λ (r : List ℕ). state r b) back ∙ rw (y, no)
+
+  -- either way the calls before i stay
+  pub kept : i ≤ length run → (new : List ℕ) (c : Bool) → state new c ≡ reversedF t s i j (state run b) → take i new ≡ take i run
+  unfolding reversedF
+  kept h new c e =
+      let turn : take i (turned i j run) ≡ take i run = take-at (take i run) (reverse (take (suc j - i) (drop i run)) ++ drop (suc j - i) (drop i run)) i (length-take-le i run h) in
+      by-test (allowedF t s (turned i j run)) (λ y. ap (λ (x : State). take i (x .run)) (rw y at e) ∙ turn) (λ n. ap (λ (x : State). take i (x .run)) (rw n at e))
+
+-- how much is left of a run from call i on, once the calls from i up to and with j are turned
+pub left-long : (i j : ℕ) (run part : List ℕ) → part ≡ turnedPart i j run → i < j → j < length run
+    → length (take (length (put i j run part) - i) (drop i (put i j run part))) ≡ length run - i
+left-long i j run part e h l =
+    let new = put i j run part in
+    let long : length new ≡ length run = ap length (put-turned i j run part e) ∙ length-turned i j run h l in
+    omega (arith, length-take (length new - i) (drop i new), length-drop i new, long)

@@ -26,6 +26,10 @@ module _ (leg : ℕ → ℕ → Float) where
   unfoldable pub reversalDeltaF : Bool → List ℕ → Float
   reversalDeltaF symmetric segment = cond symmetric (fl 0) (turnedLegsF (fl 0) (getD segment 0 0) (drop 1 segment))
 
+  -- the leg into call number i, from 0
+  abbrev pub intoF : ℕ → List ℕ → Float
+  intoF i route = leg (placeBefore route i) (getD route i 0)
+
   -- the legs on both sides of the stretch from x to y, between p and q
   abbrev pub endsF : ℕ → ℕ → ℕ → ℕ → Float
   endsF p x y q = Ieee.add binary64 (leg p x) (leg y q)

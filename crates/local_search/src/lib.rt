@@ -1,4 +1,5 @@
 // The improvers of runs, and what they are told of a sheet.
+pub mod begun;
 pub mod gain;
 pub mod reverse;
 pub mod search;

@@ -1,18 +1,25 @@
 // The reversal of stretches of a run (local_search/two_opt.rs): while one lowers the distance and makes a run that is allowed, it is taken. Only sheets without lateness pay come here.
 ghost use mathlib.Core.Path.{_≡_};
 ghost use Prim.Native.Nat.{_<_, _≤_};
-ghost use lib.ListN.{length};
+ghost use mathlib.Core.Bool.{_&&_};
+ghost use lib.ListN.{length, take};
 ghost use Rattle.definitions.specs.Room.{written};
 ghost use Rattle.distance.specs.Lookup.{lookupF};
-ghost use Rattle.evaluation.specs.Records.{lent};
+ghost use Rattle.evaluation.specs.Records.{limitsOf, lent};
 ghost use Rattle.local_search.specs.Search.{searchOf};
-ghost use Rattle.local_search.specs.Delta.{placeBefore, reversalDeltaF, deltaF, routeDistanceF};
+ghost use Rattle.local_search.specs.Begun.{begunOf, failedF, Leads};
+ghost use Rattle.local_search.specs.Delta.{placeBefore, intoF, reversalDeltaF, deltaF, routeDistanceF};
 ghost use Rattle.local_search.specs.TwoOpt.{state, gainsF, reversedF, triedAllF, passF, improvedF, improvedDistanceF};
+use crate::begun::Begun;
+use crate::begun::feasible_from;
+use crate::begun::go_on;
+use crate::begun::has_failed;
+use crate::begun::set_out;
 use crate::reverse::reverse;
 use crate::search::Search;
 use distance::matrix::get;
 use evaluation::route::call_at;
-use evaluation::route::route_feasible;
+use evaluation::schedule::record_index;
 use models::customer::Customer;
 use table::held::write_front;
 
@@ -44,16 +51,28 @@ pub fn place_before(route: &[usize], i: usize) -> usize
     if i == 0 { 0 } else { route[i - 1] }
 }
 
-// What turning the calls from i up to and with j changes in the distance.
+// The leg into call number i, from 0.
+pub fn leg_into(route: &[usize], distances: &[f64], size: usize, i: usize) -> f64
+    requires { ⌜ i < length (now route) ⌝ }
+    ensures { λ r. ⌜ r ≡ intoF (lookupF (now (distances .entry)) size) i (now (route .entry)) ⌝ }
+{
+    let first = route[i];
+    let prev_i = place_before(route, i);
+    get(distances, size, prev_i, first)
+}
+
+// What turning the calls from i up to and with j changes in the distance; `into` is the leg into call i.
 pub fn two_opt_delta(
     route: &[usize],
     distances: &[f64],
     size: usize,
     symmetric: bool,
+    into: f64,
     i: usize,
     j: usize,
 ) -> f64
     requires { ⌜ (i < j) × (j < length (now route)) ⌝ }
+    requires { ⌜ into ≡ intoF (lookupF (now distances) size) i (now route) ⌝ }
     ensures { λ r. ⌜ r ≡ deltaF (lookupF (now (distances .entry)) size) symmetric i j (now (route .entry)) ⌝ }
 {
     let first = route[i];
@@ -61,8 +80,7 @@ pub fn two_opt_delta(
     let prev_i = place_before(route, i);
     let end = j + 1;
     let next_j = call_at(route, end);
-    let old_in = get(distances, size, prev_i, first);
-    let old_cost = old_in + get(distances, size, last, next_j);
+    let old_cost = into + get(distances, size, last, next_j);
     let new_in = get(distances, size, prev_i, last);
     let new_cost = new_in + get(distances, size, first, next_j);
     new_cost - old_cost + reversal_delta(&route[i..end], distances, size, symmetric)
@@ -93,17 +111,19 @@ pub fn gains(
     distances: &[f64],
     size: usize,
     search: Search,
+    into: f64,
     i: usize,
     j: usize,
 ) -> bool
     requires { ⌜ (i < j) × (j < length (now route)) ⌝ }
+    requires { ⌜ into ≡ intoF (lookupF (now distances) size) i (now route) ⌝ }
     ensures { λ r. ⌜ r ≡ gainsF (lookupF (now (distances .entry)) size) (searchOf search) i j (now (route .entry)) ⌝ }
 {
-    let delta = two_opt_delta(route, distances, size, search.symmetric, i, j);
+    let delta = two_opt_delta(route, distances, size, search.symmetric, into, i, j);
     delta < -search.floor
 }
 
-// Turns the calls from i up to and with j, and turns them back where the run is not allowed. Gives whether a reversal is taken, here or before.
+// Turns the calls from i up to and with j, and turns them back where the run is not allowed; `begun` is where the calls before i leave the bus. Gives whether a reversal is taken, here or before.
 pub fn reverse_if_allowed(
     current: &mut [usize],
     customers: [Customer; 64],
@@ -111,18 +131,28 @@ pub fn reverse_if_allowed(
     times: &[f64],
     size: usize,
     search: Search,
+    begun: Begun,
     i: usize,
     j: usize,
     improved: bool,
 ) -> bool
     requires { ⌜ (i < j) × (j < length (now current)) ⌝ }
+    requires { ⌜ Leads (lent customers (now distances) (now times) size) (limitsOf (search .limits)) (take i (now current)) (begunOf begun) ⌝ }
     ensures { λ r. ⌜ state (now (current .exit)) r ≡ reversedF (lent customers (now (distances .entry)) (now (times .entry)) size) (searchOf search) i j (state (now (current .entry)) improved) ⌝ }
 {
     let end = j + 1;
     reverse(&mut current[i..end]);
     if search.constrained {
         let limits = search.limits;
-        if !route_feasible(&current[..], customers, distances, times, size, limits) {
+        if !feasible_from(
+            begun,
+            &current[i..],
+            customers,
+            distances,
+            times,
+            size,
+            limits,
+        ) {
             reverse(&mut current[i..end]);
             return improved;
         }
@@ -130,7 +160,17 @@ pub fn reverse_if_allowed(
     true
 }
 
-// For the first call i of the stretch, each last call in turn: a reversal that gains is made where it is allowed.
+// Whether no run that begins so may be made.
+pub fn no_run(search: Search, begun: Begun) -> bool
+    ensures { λ r. ⌜ r ≡ search .constrained && failedF (begunOf begun) ⌝ }
+{
+    if search.constrained {
+        return has_failed(begun);
+    }
+    false
+}
+
+// For the first call i of the stretch, each last call in turn: a reversal that gains is made where it is allowed. The calls before i stay, so where they cannot be served, none is.
 pub fn try_all(
     current: &mut [usize],
     customers: [Customer; 64],
@@ -138,18 +178,25 @@ pub fn try_all(
     times: &[f64],
     size: usize,
     search: Search,
+    begun: Begun,
     i: usize,
     improved: bool,
 ) -> bool
     requires { ⌜ i < length (now current) ⌝ }
+    requires { ⌜ Leads (lent customers (now distances) (now times) size) (limitsOf (search .limits)) (take i (now current)) (begunOf begun) ⌝ }
     ensures { λ r. ⌜ state (now (current .exit)) r ≡ triedAllF (lent customers (now (distances .entry)) (now (times .entry)) size) (searchOf search) (length (now (current .entry))) i (state (now (current .entry)) improved) ⌝ }
+    ensures { λ _. ⌜ take i (now (current .exit)) ≡ take i (now (current .entry)) ⌝ }
 {
+    if no_run(search, begun) {
+        return improved;
+    }
     let mut any = improved;
     let mut next = i + 1;
+    let mut into = leg_into(&current[..], distances, size, i);
     while next < current.len() {
         let j = next;
         next += 1;
-        if !gains(&current[..], distances, size, search, i, j) {
+        if !gains(&current[..], distances, size, search, into, i, j) {
             continue;
         }
         any = reverse_if_allowed(
@@ -159,10 +206,12 @@ pub fn try_all(
             times,
             size,
             search,
+            begun,
             i,
             j,
             any,
         );
+        into = leg_into(&current[..], distances, size, i);
     }
     any
 }
@@ -179,6 +228,9 @@ pub fn pass(
     ensures { λ r. ⌜ state (now (current .exit)) r ≡ passF (lent customers (now (distances .entry)) (now (times .entry)) size) (searchOf search) (now (current .entry)) ⌝ }
 {
     let mut improved = false;
+    let limits = search.limits;
+    let rest = limits.rest;
+    let mut begun = set_out(rest);
     let mut i: usize = 0;
     while i + 1 < current.len() {
         improved = try_all(
@@ -188,9 +240,13 @@ pub fn pass(
             times,
             size,
             search,
+            begun,
             i,
             improved,
         );
+        let cid = current[i];
+        let index = record_index(cid);
+        begun = go_on(begun, cid, customers[index], distances, times, size);
         i += 1;
     }
     improved

@@ -2,11 +2,10 @@
 use bench::full::full;
 use bench::sheets::Sheet;
 use bench::sheets::base;
-use checks::runs::ends_fall;
-use ga::split_tw::split_tw;
+use checked::marking::Marking;
+use checked::marking::mark;
 use io::print_decimal;
 use io::write_all;
-use marker::mark::mark;
 use marker::verdict::Verdict;
 use models::customer::Customer;
 use models::customer::Penalty;
@@ -96,51 +95,7 @@ fn show_verdict(verdict: Verdict) {
     }
 }
 
-// Lists that the marker does not take, or its verdict.
-enum Judged {
-    Refused,
-    Given(Verdict),
-}
-
-// The verdict on a cutting, where the first n of `served` are the planner's calls. The tests are what the marker asks.
-fn judge_against(
-    served: &[usize],
-    n: usize,
-    cost: f64,
-    head: Head,
-    customers: [Customer; 64],
-    distances: &[f64],
-    calls: &[usize],
-    ends: &[usize],
-    places: &[usize],
-) -> Judged {
-    if n > served.len() {
-        return Judged::Refused;
-    }
-    if calls.len() > 128 {
-        return Judged::Refused;
-    }
-    if ends.len() > places.len() {
-        return Judged::Refused;
-    }
-    if ends_fall(ends, calls.len()) {
-        return Judged::Refused;
-    }
-    let times = [0.0];
-    Judged::Given(mark(
-        &served[0..n],
-        cost,
-        calls,
-        ends,
-        places,
-        customers,
-        distances,
-        &times[..0],
-        head,
-    ))
-}
-
-// The verdict on a cutting of a tour of at most 8 calls, against the planner's.
+// The mark of a cutting of a tour, on a sheet without a time table.
 fn judge(
     head: Head,
     customers: [Customer; 64],
@@ -149,46 +104,27 @@ fn judge(
     calls: &[usize],
     ends: &[usize],
     places: &[usize],
-) -> Judged {
-    if tour.len() > 8 {
-        return Judged::Refused;
-    }
+) -> Marking {
     let times = [0.0];
-    let mut served = [0; 8];
-    let mut run_ends = [0; 8];
-    let mut dropped = [0; 8];
-    let cut = split_tw(
-        tour,
-        customers,
-        distances,
-        &times[..0],
-        head.places,
-        head.capacity,
-        head.fixed_cost,
-        head.limits,
-        &mut served,
-        &mut run_ends,
-        &mut dropped,
-    );
-    judge_against(
-        &served,
-        cut.served,
-        cut.cost,
+    mark(
         head,
         customers,
+        head.places,
         distances,
+        &times[..0],
+        tour,
         calls,
         ends,
         places,
     )
 }
 
-fn show(name: &[u8], judged: Judged) {
+fn show(name: &[u8], marking: Marking) {
     text(name);
     text(b": ");
-    match judged {
-        Judged::Refused => text(b"refused"),
-        Judged::Given(verdict) => show_verdict(verdict),
+    match marking {
+        Marking::Refused(number) => numbered(b"refused ", number as u64),
+        Marking::Verdict(verdict) => show_verdict(verdict),
     }
     text(b"\n");
 }
@@ -205,8 +141,8 @@ fn show_cutting(
     let head = sheet.head;
     let customers = sheet.customers;
     let distances = sheet.distances;
-    let judged = judge(head, customers, &distances, tour, calls, ends, places);
-    show(name, judged);
+    let marking = judge(head, customers, &distances, tour, calls, ends, places);
+    show(name, marking);
 }
 
 // The mark of the tour as one run on a bench sheet.
@@ -235,8 +171,8 @@ fn show_full_cutting(
     let head = sheet.head;
     let customers = sheet.customers;
     let distances = sheet.distances;
-    let judged = judge(head, customers, &distances, tour, calls, ends, places);
-    show(name, judged);
+    let marking = judge(head, customers, &distances, tour, calls, ends, places);
+    show(name, marking);
 }
 
 // The mark of the tour as one run on the full sheet.

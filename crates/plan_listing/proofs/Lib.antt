@@ -2,4 +2,5 @@
 pub mod Fronts
 pub mod Planned
 pub mod Reading
+pub mod Loading
 pub mod FirstBytes

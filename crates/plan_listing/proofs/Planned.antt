@@ -1,5 +1,5 @@
 -- The cut of a sheet that is held, as the text of its plan asks for it and shows it. Assumes nothing.
-use Prim.Native.Nat.{ℕ, _+_, _*_, _≤_}
+use Prim.Native.Nat.{ℕ, _+_, _*_, _≤_, _<_}
 use mathlib.Core.Path.{_≡_, ap}
 use mathlib.Core.List.{List}
 use lib.ListN.{length}
@@ -17,11 +17,13 @@ use Rattle.evaluation.specs.Records.{LimitsF}
 use Rattle.report.specs.Plan.{planF}
 use Rattle.report.proofs.PlanExact.{plan-whole}
 use Rattle.report.proofs.PlanRoom.{plan-rises, plan-room}
-use Rattle.ga.specs.Tariff.{ResultF}
-use Rattle.ga.specs.SplitTw.{lent, splitTwF}
+use Rattle.ga.specs.Answer.{ResultF}
+use Rattle.stretch.specs.Stops.{Below64}
+use Rattle.stretch.specs.Runs.{lent}
+use Rattle.ga.specs.SplitTw.{splitTwF}
 use Rattle.exact.specs.Image.{flResult}
 use Rattle.plan_listing.specs.Held.{InMemory}
-use Rattle.exact.specs.Exact.{split-tw-exact}
+use Rattle.exact.specs.Exact.{below-64, split-tw-exact}
 
 -- what the cut is lent
 abbrev pub cutOf : Head → List Customer → List Float → List Float → List ℕ → ResultF
@@ -31,13 +33,17 @@ module _ (s : Sheet) (tour : List ℕ) (head : Head) (customers : List Customer)
   abbrev cut : ResultF
   cut = cutOf head customers distances times tour
 
-  same : cut ≡ flResult (splitTw s tour)
+  pub same : cut ≡ flResult (splitTw s tour)
   same =
       split-tw-exact s (H .within) tour (H .calls) (lent customers distances times (head .places) (head .capacity) (head .«fixed_cost») (head .limits))
       (record { tables-hold = H .tables; capacity-holds = H .capacity; fixed-holds = H .fixed; limits-hold = H .limits })
 
   pub few : length tour ≤ 128
   few = few-calls s tour (H .calls)
+
+  -- a call is a place, of which a sheet has at most 64
+  pub below : Below64 tour
+  below = below-64 s (H .within) tour (H .calls)
 
   module _ (served ends dropped : List ℕ) (is-served : served ≡ cut .served) (are-ends : ends ≡ cut .ends) (are-dropped : dropped ≡ cut .dropped) where
     pub rises : RiseTo 0 ends (length served)

@@ -35,13 +35,16 @@ is-accepted bytes c e = go (read bytes) refl e
     go (sheet s tour) q h = (s, tour, q)
     go (refusedAt n w) q h = let z : _≡_ {A = ℕ} 0 1 = cc in absurd (omega arith)
 
-pub is-refused : (bytes : List ℕ) (number word : ℕ) → Summary.refused number word ≡ summaryOf (read bytes) → refusalText number word ≡ listing bytes
-unfolding listing
-is-refused bytes number word e = go (read bytes) refl e
+pub refused-is : (bytes : List ℕ) (number word : ℕ) → Summary.refused number word ≡ summaryOf (read bytes) → read bytes ≡ refusedAt number word
+refused-is bytes number word e = go (read bytes) refl e
   where
-    go : (r : Reading) → read bytes ≡ r → Summary.refused number word ≡ summaryOf r → refusalText number word ≡ readingText (read bytes)
+    go : (r : Reading) → read bytes ≡ r → Summary.refused number word ≡ summaryOf r → read bytes ≡ refusedAt number word
     go (sheet s tour) q h = let z : _≡_ {A = ℕ} 0 1 = cc in absurd (omega arith)
     go (refusedAt n w) q h = let a : number ≡ n = cc in let b : word ≡ w = cc in rw (q, a, b) refl
+
+pub is-refused : (bytes : List ℕ) (number word : ℕ) → Summary.refused number word ≡ summaryOf (read bytes) → refusalText number word ≡ listing bytes
+unfolding listing
+is-refused bytes number word e = sym (ap readingText (refused-is bytes number word e))
 
 -- ---- accepted bytes
 

@@ -1,2 +1,3 @@
 -- What the contracts of the listing cite.
 pub mod Held
+pub mod Loaded

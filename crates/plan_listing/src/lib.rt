@@ -1,2 +1,3 @@
 // What the listing program prints for any bytes, as a function on lent memory.
+pub mod held;
 pub mod text;

@@ -6,17 +6,14 @@ ghost use Rattle.definitions.specs.Drop.{splitTw};
 ghost use Rattle.definitions.specs.Listing.{planText, listing};
 ghost use Rattle.report.specs.Put.{Put};
 ghost use Rattle.plan_listing.specs.Held.{InMemory, Held, Accepted};
+use crate::held::load;
 use ga::split_tw::split_tw;
 use models::customer::Customer;
 use models::head::Head;
 use report::lines::refusal_line;
 use report::plan::plan_text;
-use sheet::customers::customers_of;
-use sheet::head::head_of;
 use sheet::read::Reading;
 use sheet::read::read;
-use sheet::values::write_tour;
-use sheet::values::write_values;
 
 // The plan of the tour on the sheet that is held.
 fn cut_text(
@@ -80,11 +77,12 @@ fn sheet_text(out: &mut [u8], bytes: &[u8]) -> usize
     let mut distances = [0.0; 4096];
     let mut times = [0.0; 4096];
     let mut tour = [0usize; 128];
-    let far = write_values(bytes, 0xC, &mut distances);
-    let long = write_values(bytes, 0xD, &mut times);
-    let calls = write_tour(bytes, &mut tour);
-    let head = head_of(bytes);
-    let customers = customers_of(bytes);
+    let l = load(bytes, &mut distances, &mut times, &mut tour);
+    let far = l.far;
+    let long = l.long;
+    let calls = l.calls;
+    let head = l.head;
+    let customers = l.customers;
     cut_text(
         &mut *out,
         &tour[..calls],

@@ -1,15 +1,11 @@
 // The table of costs, distances and starts that a cutting fills, and its read-back. It has a cell for each beginning of at most 128 calls, the empty one included.
 ghost use mathlib.Core.Path.{_≡_};
-ghost use mathlib.Core.Bool.{false};
 ghost use mathlib.Core.List.{[]};
 ghost use Prim.Native.Nat.{_+_, _<_, _≤_};
 ghost use lib.ListN.{length, getD, drop};
-ghost use lib.Ieee.{nan, inf, lt};
 ghost use Rattle.cutting.specs.Cut.{backOf};
 ghost use Rattle.cutting.specs.Back.{Falls};
-ghost use Rattle.cutting.specs.First.{FirstOf};
 ghost use Rattle.table.specs.Table.{Offered};
-use whole::infinity;
 
 // Puts a cost and a distance at j, with the start i of the last run, where the cost is lower than what stands there.
 pub fn offer(
@@ -46,21 +42,4 @@ pub fn read_back(pred: &[usize; 129], n: usize, ends: &mut [usize; 129]) -> usiz
         j = pred[j];
     }
     at
-}
-
-// The place of the last call of the shortest beginning that has no cutting, and n where each has one.
-pub fn first_stuck(cost: &[f64; 129], n: usize) -> usize
-    requires { ⌜ n ≤ 128 ⌝ }
-    ensures { λ r. ⌜ FirstOf (λ k. lt (getD (now (cost .entry)) (k + 1) nan) (inf false)) n r ⌝ }
-{
-    let top = infinity();
-    let mut k: usize = 0;
-    while k < n {
-        if cost[k + 1] < top {
-            k += 1;
-        } else {
-            return k;
-        }
-    }
-    k
 }

@@ -1,7 +1,8 @@
 -- `cutting::split_tw` meets its contract. Assumes nothing.
 use Rattle.definitions.specs.Drop.{splitTw}
-use Rattle.ga.specs.SplitTw.{lent, splitTwF}
-use Rattle.checked.proofs.CutAnswers.{cut-room, refused-cut, given-cut}
+use Rattle.stretch.specs.Runs.{lent}
+use Rattle.ga.specs.SplitTw.{splitTwF}
+use Rattle.checked.proofs.CutAnswers.{cut-room, cut-below, refused-cut, given-cut}
 use Rattle.checked.proofs.SplitCase.{split-tw-holds}
 use borrow.Author.Needs.{needs}
 use Rattle.checked.proofs.cutting.split_tw.Statement.{statement}
@@ -21,7 +22,8 @@ split-tw-requires c κs =
     let s = c .before .before .before .before .before .before .before .before .before .before .before in
     let a = s .args in
     let told = c .before .before .before .before .refuse-cutting in
-    cut-room (a .head) (a .all) (a .n) (a .distances .now) (a .times .now) (a .tour .now) (a .served .now) (a .run-ends .now) (a .dropped .now) (told .result) (told .ensures .0) (c .before .before .before .if1 .left) (s .good .1 .0 .1 .0 .1)
+    let room = cut-room (a .head) (a .all) (a .n) (a .distances .now) (a .times .now) (a .tour .now) (a .served .now) (a .run-ends .now) (a .dropped .now) (told .result) (told .ensures .0) (c .before .before .before .if1 .left) (s .good .1 .0 .1 .0 .1) in
+    ((room .0, cut-below (a .head) (a .all) (a .n) (a .distances .now) (a .times .now) (a .tour .now) (a .served .now) (a .run-ends .now) (a .dropped .now) (told .result) (told .ensures .0) (c .before .before .before .if1 .left) (s .good .1 .0 .1 .0 .1)), room .1)
 
 same-length : tie.Need-same-length
 same-length c = search needs

@@ -4,7 +4,7 @@ use mathlib.Core.List.{List}
 use lib.ListN.{replicate, take}
 use Rattle.checked.proofs.Fronts.{front, inside, counted}
 use Rattle.checked.proofs.MarkCase.{cutF}
-use Rattle.checked.proofs.MarkAnswers.{refused-mark, tour-few, runs-asked, given-mark}
+use Rattle.checked.proofs.MarkAnswers.{refused-mark, tour-few, tour-below, runs-asked, given-mark}
 use borrow.Author.Needs.{needs}
 use Rattle.checked.proofs.marking.mark.Statement.{statement}
 use Rattle.checked.proofs.marking.mark.Tie as tie
@@ -37,7 +37,7 @@ split-tw-requires c κs =
     let a = s .args in
     let told = c .before .before .before .before .refuse-marking in
     let few = tour-few (a .head) (a .all) (a .n) (a .distances .now) (a .times .now) (a .tour .now) (a .calls .now) (a .ends .now) (a .places .now) (told .result) (told .ensures .0) (c .before .before .before .if1 .left) (s .good .1 .0 .1 .0 .1) in
-    (few, (few, few, few))
+    ((few, tour-below (a .head) (a .all) (a .n) (a .distances .now) (a .times .now) (a .tour .now) (a .calls .now) (a .ends .now) (a .places .now) (told .result) (told .ensures .0) (c .before .before .before .if1 .left) (s .good .1 .0 .1 .0 .1)), (few, few, few))
 
 array-share-prefix-served : tie.Need-array-share-prefix-served
 array-share-prefix-served c =

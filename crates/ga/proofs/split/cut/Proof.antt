@@ -4,8 +4,8 @@ use lib.Ieee.{ofBits}
 use denote.Ref.{now}
 use Rattle.whole.specs.Bits.{fl-zero}
 use Rattle.cutting.specs.Carried.{none-done}
-use Rattle.ga.specs.Tariff.{stretches, runsOf, farsOf}
-use Rattle.ga.specs.Split.{lent, tariff}
+use Rattle.stretch.specs.Tariff.{stretches, runsOf, farsOf}
+use Rattle.ga.specs.Split.{tariffBy, askedF}
 use Rattle.ga.proofs.Cutting.{table-falls, table-cut}
 use borrow.Author.Needs.{needs}
 use Rattle.ga.proofs.split.cut.Statement.{statement}
@@ -19,18 +19,18 @@ array-write-cost c = search needs
 
 rows-requires : tie.Need-rows-requires
 rows-requires c κs =
-    let s = c .before .before .before .before .before .before in
+    let s = c .before .before .before .before .before .before .before in
     let a = s .args in
-    let T = tariff (lent (a .customers) (now (a .distances)) (a .size) (a .capacity) (a .fixed)) in
+    let T = tariffBy (askedF (now (a .demands))) (now (a .distances)) (a .size) (a .capacity) (a .fixed) in
     let held = now (a .held) in
-    (s .pre .0, none-done (runsOf T (stretches held)) (farsOf T (stretches held)) _ _ _ (c .before .before .before .infinity .ensures) (unfold ofBits in refl) (sym fl-zero))
+    ((s .pre .0, s .pre .1), none-done (runsOf T (stretches held)) (farsOf T (stretches held)) _ _ _ (c .before .before .before .infinity .ensures) (unfold ofBits in refl) (sym fl-zero))
 
 read-back-requires : tie.Need-read-back-requires
 read-back-requires c κs =
-    let s = c .before .before .before .before .before .before .before .before .before in
+    let s = c .before .before .before .before .before .before .before .before .before .before in
     let a = s .args in
-    let T = tariff (lent (a .customers) (now (a .distances)) (a .size) (a .capacity) (a .fixed)) in
-    (s .pre, table-falls T (now (a .held)) (s .pre .0) _ _ _ (c .before .before .rows .ensures))
+    let T = tariffBy (askedF (now (a .demands))) (now (a .distances)) (a .size) (a .capacity) (a .fixed) in
+    ((s .pre .0, s .pre .2), table-falls T (now (a .held)) (s .pre .0) _ _ _ (c .before .before .rows .ensures))
 
 mul-total : tie.Need-mul-total
 mul-total c = search needs
@@ -46,9 +46,9 @@ array-read-far c = search needs
 
 returns : tie.Need-returns
 returns c =
-    let s = c .before .before .before .before .before .before .before .before .before .before in
+    let s = c .before .before .before .before .before .before .before .before .before .before .before in
     let a = s .args in
-    let T = tariff (lent (a .customers) (now (a .distances)) (a .size) (a .capacity) (a .fixed)) in
+    let T = tariffBy (askedF (now (a .demands))) (now (a .distances)) (a .size) (a .capacity) (a .fixed) in
     table-cut T (now (a .held)) (s .pre .0) _ _ _ (c .before .before .before .rows .ensures) _ _ (c .read-back .ensures .0) (c .read-back .ensures .1)
 
 pub cut-spec : {M : Type 1} → statement M

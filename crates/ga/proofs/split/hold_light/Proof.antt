@@ -1,25 +1,22 @@
--- `split::hold_light` meets its contract. The loop's invariant: the first k calls are sorted. Assumes nothing.
+-- `split::hold_light` meets its contract. Assumes nothing.
 use Prim.Native.Nat.{ℕ, _-_}
 use native.Mathlib.Omega.{arith}
 use mathlib.Core.Path.{_≡_, ap, subst, _∙_}
-use mathlib.Core.List.{map}
-use lib.ListN.{length}
-use lib.Dec.{leb}
+use lib.ListN.{length, getD}
 use denote.Ref.{now}
 use borrow.Author.Needs.{needs}
-use Rattle.models.specs.Records.{customerOf}
-use Rattle.ga.specs.Split.{lightF}
-use Rattle.evaluation.proofs.Reading.{read-demand}
+use Rattle.models.specs.Load.{fitsLoad}
+use Rattle.ga.specs.Split.{askedF}
 use Rattle.ga.proofs.Sorting.{Sorted, none-sorted, few-held, one-sorted}
 use Rattle.ga.proofs.split.hold_light.Statement.{statement}
 use Rattle.ga.proofs.split.hold_light.Tie as tie
 
 abbrev Inv-loop : tie.InvT-loop
-Inv-loop tour capacity served₀ dropped₀ customers n₀ k₀ served dropped n k =
-    Sorted (lightF (map customerOf customers) capacity) tour served₀ dropped₀ served dropped n k
+Inv-loop tour demands capacity served₀ dropped₀ n₀ k₀ served dropped n k =
+    Sorted (λ c. fitsLoad (askedF demands c) capacity) tour served₀ dropped₀ served dropped n k
 
 abbrev μ-loop : tie.MeasureT-loop
-μ-loop tour capacity served₀ dropped₀ customers n₀ k₀ served dropped n k = length tour - k
+μ-loop tour demands capacity served₀ dropped₀ n₀ k₀ served dropped n k = length tour - k
 
 loop-holds : tie.Need-loop-holds Inv-loop μ-loop
 loop-holds c = none-sorted _ _ _ _
@@ -33,11 +30,11 @@ shared-slice-read-cid c = search needs
 record-index-requires : tie.Need-record-index-requires Inv-loop μ-loop
 record-index-requires c κs = search needs
 
-mul-customer : tie.Need-mul-customer Inv-loop μ-loop
-mul-customer c = search needs
+mul-wide : tie.Need-mul-wide Inv-loop μ-loop
+mul-wide c = search needs
 
-array-copy-out-customer : tie.Need-array-copy-out-customer Inv-loop μ-loop
-array-copy-out-customer c = search needs
+shared-slice-read-wide : tie.Need-shared-slice-read-wide Inv-loop μ-loop
+shared-slice-read-wide c = search needs
 
 wide-requires : tie.Need-wide-requires Inv-loop μ-loop
 wide-requires c κs = search needs
@@ -59,12 +56,10 @@ loop-less c = search needs
 loop-again : tie.Need-loop-again Inv-loop μ-loop
 loop-again c =
     let l = c .before .before .before .before .before .before .before .before .before .before .before .before .before .loop in
-    let s = c .before .before .before .before .before .before .before .before .before .before .before .before .before .before .before .before .before in
-    let a = s .args in
-    let d = read-demand (a .t2) _ _ _ (s .good .1 .0 .1 .0 .1) (c .before .before .before .before .before .before .before .before .before .before .record-index .ensures) in
+    let a = c .before .before .before .before .before .before .before .before .before .before .before .before .before .before .before .before .before .before .args in
     let o = c .before .before .before .before .sort-call .ensures in
-    one-sorted (lightF (map customerOf (a .t2)) (a .capacity)) (now (a .tour)) (now (a .served)) (now (a .dropped)) (l .served) (l .dropped) (l .n) (l .k) (l .inv) _ _ _ _
-    (c .before .before .before .before .before .before .before .before .before .before .before .before .loop-test .taken) (s .pre .0) (s .pre .1) (c .before .before .before .before .before .before .before .fits2 .ensures ∙ ap (λ (x : ℕ). leb x (a .capacity)) (c .before .before .before .before .before .before .before .before .wide .ensures .0 ∙ d)) (o .0) (o .1 .0) (o .1 .1)
+    one-sorted (λ c. fitsLoad (askedF (now (a .demands)) c) (a .capacity)) (now (a .tour)) (now (a .served)) (now (a .dropped)) (l .served) (l .dropped) (l .n) (l .k) (l .inv) _ _ _ _ (c .before .before .before .before .before .before .before .before .before .before .before .before .loop-test .taken) (c .before .before .before .before .before .before .before .before .before .before .before .before .before .before .before .before .before .before .pre .1) (c .before .before .before .before .before .before .before .before .before .before .before .before .before .before .before .before .before .before .pre .2)
+    (c .before .before .before .before .before .before .before .fits2 .ensures ∙ ap (λ (x : ℕ). fitsLoad x (a .capacity)) (c .before .before .before .before .before .before .before .before .wide .ensures .0 ∙ ap (λ (j : ℕ). getD (now (a .demands)) j 0) (c .before .before .before .before .before .before .before .before .before .before .record-index .ensures .0))) (o .0) (o .1 .0) (o .1 .1)
 
 same-length : tie.Need-same-length Inv-loop μ-loop
 same-length c = c .before .loop .inv .served-long
@@ -75,9 +70,9 @@ same-length-2 c = c .before .loop .inv .dropped-long
 returns : tie.Need-returns Inv-loop μ-loop
 returns c =
     let l = c .before .loop in
-    let a = c .before .before .before .before .before .args in
+    let a = c .before .before .before .before .before .before .args in
     let e : l .k ≡ length (now (a .tour)) = omega arith in
-    let S = subst (λ (k : ℕ). Sorted (lightF (map customerOf (a .t2)) (a .capacity)) (now (a .tour)) (now (a .served)) (now (a .dropped)) (l .served) (l .dropped) (l .n) k) e (l .inv) in
+    let S = subst (λ (k : ℕ). Sorted (λ c. fitsLoad (askedF (now (a .demands)) c) (a .capacity)) (now (a .tour)) (now (a .served)) (now (a .dropped)) (l .served) (l .dropped) (l .n) k) e (l .inv) in
     (S .held-count, (S .served-are, S .dropped-are))
 
 pub hold-light-spec : {M : Type 1} → statement M
@@ -90,8 +85,8 @@ hold-light-spec =
     mul-cid
     shared-slice-read-cid
     record-index-requires
-    mul-customer
-    array-copy-out-customer
+    mul-wide
+    shared-slice-read-wide
     wide-requires
     fits-requires
     sort-call-requires

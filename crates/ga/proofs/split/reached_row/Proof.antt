@@ -1,8 +1,8 @@
 -- `split::reached_row` meets its contract: a row whose start is not reached would win no cell. Assumes nothing.
 use denote.Ref.{now}
-use Rattle.ga.specs.Split.{lent, tariff}
-use Rattle.ga.proofs.Along.{unreached}
 use borrow.Author.Needs.{needs}
+use Rattle.ga.specs.Split.{tariffBy, askedF}
+use Rattle.stretch.proofs.Along.{unreached}
 use Rattle.ga.proofs.split.reached_row.Statement.{statement}
 use Rattle.ga.proofs.split.reached_row.Tie as tie
 
@@ -17,9 +17,9 @@ infinity-requires c κs = search needs
 
 returns : tie.Need-returns
 returns c =
-    let s = c .before .before .before .before .before in
+    let s = c .before .before .before .before .before .before .before .before in
     let a = s .args in
-    unreached (tariff (lent (a .customers) (now (a .distances)) (a .size) (a .capacity) (a .fixed))) (now (a .stretch)) (a .i) (now (a .cost)) (now (a .dist)) (now (a .pred)) _ (c .before .infinity .ensures) (c .if1 .taken) (s .pre .0 .0) (s .pre .0 .1) (s .pre .0 .2)
+    unreached (tariffBy (askedF (now (a .demands))) (now (a .distances)) (a .size) (a .capacity) (a .fixed)) (now (a .stretch)) (a .i) (now (a .cost)) (now (a .dist)) (now (a .pred)) _ (c .before .infinity .ensures) (c .if1 .taken) (s .pre .0 .0) (s .pre .0 .1) (s .pre .0 .2)
 
 row-requires : tie.Need-row-requires
 row-requires c κs = search needs

@@ -1,24 +1,26 @@
--- `split::row` meets its contract. The loop's invariant is `Along`: after m calls of the stretch, the load, the way gone and the place are those of the first m calls, and the cells up to i + m are as the row leaves them.
--- The measure is what is left of the stretch. Assumes nothing.
-use Prim.Native.Nat.{_-_}
-use mathlib.Core.Path.{refl, sym, _∙_}
-use lib.ListN.{length}
+-- `split::row` meets its contract. Assumes nothing.
+use Prim.Native.Nat.{ℕ, _-_}
+use mathlib.Core.Path.{_≡_, refl, sym, ap, _∙_}
+use lib.ListN.{length, getD}
 use denote.Ref.{now}
-use Rattle.ga.proofs.Branches.{fails, holds}
 use borrow.Author.Needs.{needs}
 use Rattle.whole.specs.Bits.{fl-zero}
-use Rattle.ga.specs.Split.{lent, tariff}
-use Rattle.evaluation.proofs.Reading.{read-demand}
-use Rattle.ga.proofs.Along.{Along, setout, overfull, at-end, onward}
+use Rattle.distance.specs.Lookup.{lookupF}
+use Rattle.stretch.specs.Stretch.{placeOf}
+use Rattle.ga.specs.Split.{tariffBy, askedF}
+use Rattle.stretch.proofs.Branches.{fails, holds}
+use Rattle.stretch.proofs.Along.{Along, setout, overfull, at-end, onward}
+use Rattle.ga.proofs.Gathered.{leg-into, at-place}
 use Rattle.ga.proofs.split.row.Statement.{statement}
 use Rattle.ga.proofs.split.row.Tie as tie
 
 abbrev Inv-loop : tie.InvT-loop
-Inv-loop cost₀ dist₀ pred₀ stretch distances size capacity fixed i customers base before load₀ gone₀ prev₀ m₀ cost dist pred load gone prev m =
-    Along (tariff (lent customers distances size capacity fixed)) stretch i cost₀ dist₀ pred₀ base before cost dist pred load gone prev m
+Inv-loop cost₀ dist₀ pred₀ stretch demands ins backs distances size capacity fixed i base before out load₀ gone₀ m₀ cost dist pred load gone m =
+    (out ≡ lookupF distances size 0 (getD stretch 0 0))
+    × Along (tariffBy (askedF demands) distances size capacity fixed) stretch i cost₀ dist₀ pred₀ base before cost dist pred load gone (placeOf stretch m) m
 
 abbrev μ-loop : tie.MeasureT-loop
-μ-loop cost₀ dist₀ pred₀ stretch distances size capacity fixed i customers base before load₀ gone₀ prev₀ m₀ cost dist pred load gone prev m =
+μ-loop cost₀ dist₀ pred₀ stretch demands ins backs distances size capacity fixed i base before out load₀ gone₀ m₀ cost dist pred load gone m =
     length stretch - m
 
 mul-base : tie.Need-mul-base Inv-loop μ-loop
@@ -33,27 +35,32 @@ mul-before c = search needs
 element-copy-out-before : tie.Need-element-copy-out-before Inv-loop μ-loop
 element-copy-out-before c = search needs
 
+call-at-requires : tie.Need-call-at-requires Inv-loop μ-loop
+call-at-requires c κs = search needs
+
+get-requires : tie.Need-get-requires Inv-loop μ-loop
+get-requires c κs = search needs
+
 loop-holds : tie.Need-loop-holds Inv-loop μ-loop
 loop-holds c =
-    let s = c .before .before .before .before in
-    let a = s .args in
-    let T = tariff (lent (a .t5) (now (a .distances)) (a .size) (a .capacity) (a .fixed)) in
-    setout T (now (a .stretch)) (a .i) (now (a .cost)) (now (a .dist)) (now (a .pred)) _ _ _ (sym fl-zero) (s .pre .0 .0) (s .pre .0 .1) (s .pre .0 .2) refl refl
+    let a = c .before .before .before .before .before .before .before .before .before .args in
+    let T = tariffBy (askedF (now (a .demands))) (now (a .distances)) (a .size) (a .capacity) (a .fixed) in
+    (c .get .ensures ∙ ap (lookupF (now (a .distances)) (a .size) 0) (c .before .call-at .ensures), at-place (setout T (now (a .stretch)) (a .i) (now (a .cost)) (now (a .dist)) (now (a .pred)) _ _ _ (sym fl-zero) (c .before .before .before .before .before .before .before .before .before .pre .0 .0) (c .before .before .before .before .before .before .before .before .before .pre .0 .1) (c .before .before .before .before .before .before .before .before .before .pre .0 .2) refl refl))
 
-mul-cid : tie.Need-mul-cid Inv-loop μ-loop
-mul-cid c = search needs
+mul-record-index : tie.Need-mul-record-index Inv-loop μ-loop
+mul-record-index c = search needs
 
-shared-slice-read-cid : tie.Need-shared-slice-read-cid Inv-loop μ-loop
-shared-slice-read-cid c = search needs
+shared-slice-read-record-index : tie.Need-shared-slice-read-record-index Inv-loop μ-loop
+shared-slice-read-record-index c = search needs
 
 record-index-requires : tie.Need-record-index-requires Inv-loop μ-loop
 record-index-requires c κs = search needs
 
-mul-customer : tie.Need-mul-customer Inv-loop μ-loop
-mul-customer c = search needs
+mul-wide : tie.Need-mul-wide Inv-loop μ-loop
+mul-wide c = search needs
 
-array-copy-out-customer : tie.Need-array-copy-out-customer Inv-loop μ-loop
-array-copy-out-customer c = search needs
+shared-slice-read-wide : tie.Need-shared-slice-read-wide Inv-loop μ-loop
+shared-slice-read-wide c = search needs
 
 wide-requires : tie.Need-wide-requires Inv-loop μ-loop
 wide-requires c κs = search needs
@@ -66,21 +73,27 @@ fits-requires c κs = search needs
 
 returns : tie.Need-returns Inv-loop μ-loop
 returns c =
-    let s = c .before .before .before .before .before .before .before .before .before .before .before .before in
-    let a = s .args in
-    let T = tariff (lent (a .t5) (now (a .distances)) (a .size) (a .capacity) (a .fixed)) in
-    let d = read-demand (a .t5) _ _ _ (s .good .1 .1 .1 .1 .0 .1 .0 .1) (c .before .before .before .before .record-index .ensures) in
-    overfull T (now (a .stretch)) (a .i) (now (a .cost)) (now (a .dist)) (now (a .pred)) _ _
-    _ _ _ _ _ _ _ (c .before .before .before .before .before .before .before .loop .inv) _ (c .before .before .wide .ensures .0 ∙ d) (fails _ _ (c .before .fits2 .ensures) (c .if1 .taken))
+    let a = c .before .before .before .before .before .before .before .before .before .before .before .before .before .before .before .before .before .args in
+    let T = tariffBy (askedF (now (a .demands))) (now (a .distances)) (a .size) (a .capacity) (a .fixed) in
+    overfull T (now (a .stretch)) (a .i) (now (a .cost)) (now (a .dist)) (now (a .pred)) _ _ _ _ _ _ _ _ _ (c .before .before .before .before .before .before .before .loop .inv .1) _ (c .before .before .wide .ensures .0 ∙ ap (λ (j : ℕ). getD (now (a .demands)) j 0) (c .before .before .before .before .record-index .ensures .0)) (fails _ _ (c .before .fits2 .ensures) (c .if1 .taken))
 
-get-requires : tie.Need-get-requires Inv-loop μ-loop
-get-requires c κs = search needs
+mul-leg-in : tie.Need-mul-leg-in Inv-loop μ-loop
+mul-leg-in c = search needs
+
+shared-slice-read-leg-in : tie.Need-shared-slice-read-leg-in Inv-loop μ-loop
+shared-slice-read-leg-in c = search needs
+
+leg-in-requires : tie.Need-leg-in-requires Inv-loop μ-loop
+leg-in-requires c κs = search needs
 
 joined-requires : tie.Need-joined-requires Inv-loop μ-loop
 joined-requires c κs = search needs
 
-get-requires-2 : tie.Need-get-requires-2 Inv-loop μ-loop
-get-requires-2 c κs = search needs
+mul-total : tie.Need-mul-total Inv-loop μ-loop
+mul-total c = search needs
+
+shared-slice-read-total : tie.Need-shared-slice-read-total Inv-loop μ-loop
+shared-slice-read-total c = search needs
 
 add-m : tie.Need-add-m Inv-loop μ-loop
 add-m c = search needs
@@ -96,20 +109,21 @@ loop-less c = search needs
 
 loop-again : tie.Need-loop-again Inv-loop μ-loop
 loop-again c =
-    let s = c .before .before .before .before .before .before .before .before .before .before .before .before .before .before .before .before .before .before .before in
-    let a = s .args in
-    let T = tariff (lent (a .t5) (now (a .distances)) (a .size) (a .capacity) (a .fixed)) in
-    let d = read-demand (a .t5) _ _ _ (s .good .1 .1 .1 .1 .0 .1 .0 .1) (c .before .before .before .before .before .before .before .before .before .before .before .record-index .ensures) in
-    onward T (now (a .stretch)) (a .i) (now (a .cost)) (now (a .dist)) (now (a .pred)) _ _
-    _ _ _ _ _ _ _ (c .before .before .before .before .before .before .before .before .before .before .before .before .before .before .loop .inv) _ _ _ (c .before .before .before .before .before .before .before .before .before .before .before .before .before .loop-test .taken) (s .pre .1) (c .before .before .before .before .before .before .before .before .before .wide .ensures .0 ∙ d) (holds _ _ (c .before .before .before .before .before .before .before .before .fits2 .ensures) (c .before .before .before .before .before .before .before .if1 .left))
-    (c .before .before .before .before .before .before .get .ensures) (c .before .before .before .before .before .joined .ensures) _ _ _ _ _ (c .before .before .before .before .get2 .ensures) refl refl (c .offer .ensures)
+    let a = c .before .before .before .before .before .before .before .before .before .before .before .before .before .before .before .before .before .before .before .before .before .before .before .before .before .args in
+    let T = tariffBy (askedF (now (a .demands))) (now (a .distances)) (a .size) (a .capacity) (a .fixed) in
+    let L = c .before .before .before .before .before .before .before .before .before .before .before .before .before .before .before .before .before .before .before .before .before .before .before .before .before .pre .1 .1 in
+    let in-is = c .before .before .before .before .before .before .leg-in .ensures ∙ leg-into (lookupF (now (a .distances)) (a .size)) (now (a .stretch)) (now (a .ins)) (now (a .backs)) _ _ L (c .before .before .before .before .before .before .before .before .before .before .before .before .before .before .loop-test .taken) (c .before .before .before .before .before .before .before .before .before .before .before .before .before .before .before .loop .inv .0) in (
+      c .before .before .before .before .before .before .before .before .before .before .before .before .before .before .before .loop .inv .0,
+      at-place
+          (onward T (now (a .stretch)) (a .i) (now (a .cost)) (now (a .dist)) (now (a .pred)) _ _ _ _ _ _ _ _ _ (c .before .before .before .before .before .before .before .before .before .before .before .before .before .before .before .loop .inv .1) _ _ _ (c .before .before .before .before .before .before .before .before .before .before .before .before .before .before .loop-test .taken) (c .before .before .before .before .before .before .before .before .before .before .before .before .before .before .before .before .before .before .before .before .before .before .before .before .before .pre .1 .0 .0) (c .before .before .before .before .before .before .before .before .before .before .wide .ensures .0 ∙ ap (λ (j : ℕ). getD (now (a .demands)) j 0) (c .before .before .before .before .before .before .before .before .before .before .before .before .record-index .ensures .0)) (holds _ _ (c .before .before .before .before .before .before .before .before .before .fits2 .ensures) (c .before .before .before .before .before .before .before .before .if1 .left)) in-is (c .before .before .before .before .before .joined .ensures) _ _ _ _ _
+          (L .backs-are _ (c .before .before .before .before .before .before .before .before .before .before .before .before .before .before .loop-test .taken)) refl refl (c .offer .ensures)),
+    )
 
 returns-2 : tie.Need-returns-2 Inv-loop μ-loop
 returns-2 c =
-    let s = c .before .before .before .before .before .before in
-    let a = s .args in
-    let T = tariff (lent (a .t5) (now (a .distances)) (a .size) (a .capacity) (a .fixed)) in
-    at-end T (now (a .stretch)) (a .i) (now (a .cost)) (now (a .dist)) (now (a .pred)) _ _ _ _ _ _ _ _ _ (c .before .loop .inv) (c .loop-test .left)
+    let a = c .before .before .before .before .before .before .before .before .before .before .before .args in
+    let T = tariffBy (askedF (now (a .demands))) (now (a .distances)) (a .size) (a .capacity) (a .fixed) in
+    at-end T (now (a .stretch)) (a .i) (now (a .cost)) (now (a .dist)) (now (a .pred)) _ _ _ _ _ _ _ _ _ (c .before .loop .inv .1) (c .loop-test .left)
 
 pub row-spec : {M : Type 1} → statement M
 row-spec =
@@ -121,19 +135,24 @@ row-spec =
     element-copy-out-base
     mul-before
     element-copy-out-before
+    call-at-requires
+    get-requires
     loop-holds
-    mul-cid
-    shared-slice-read-cid
+    mul-record-index
+    shared-slice-read-record-index
     record-index-requires
-    mul-customer
-    array-copy-out-customer
+    mul-wide
+    shared-slice-read-wide
     wide-requires
     add-load
     fits-requires
     returns
-    get-requires
+    mul-leg-in
+    shared-slice-read-leg-in
+    leg-in-requires
     joined-requires
-    get-requires-2
+    mul-total
+    shared-slice-read-total
     add-m
     add-offer
     offer-requires

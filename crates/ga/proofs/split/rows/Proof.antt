@@ -1,27 +1,33 @@
 -- `split::rows` meets its contract. The loop's invariant: after i rows the three arrays are the table after the rows below i. Assumes nothing.
 use Prim.Native.Nat.{ℕ, _-_, _≤_}
 use native.Mathlib.Omega.{arith}
-use mathlib.Core.Path.{_≡_, ap, subst, _∙_}
+use mathlib.Core.Path.{_≡_, refl, ap, subst, _∙_}
 use lib.ListN.{length, length-drop}
 use denote.Ref.{now}
 use borrow.Author.Needs.{needs}
 use Rattle.cutting.specs.Tab.{cells, length-tab}
 use Rattle.cutting.specs.Carried.{next}
-use Rattle.ga.specs.Tariff.{stretches, runsOf, farsOf, TableOf}
-use Rattle.ga.specs.Split.{lent, tariff}
-use Rattle.ga.proofs.Along.{lent-part, held-row}
+use Rattle.distance.specs.Lookup.{lookupF}
+use Rattle.stretch.specs.Tariff.{stretches, runsOf, farsOf, TableOf}
+use Rattle.ga.specs.Split.{tariffBy, askedF}
+use Rattle.stretch.proofs.Along.{lent-part, held-row}
+use Rattle.ga.proofs.Gathered.{legs-from, part-from}
 use Rattle.ga.proofs.split.rows.Statement.{statement}
 use Rattle.ga.proofs.split.rows.Tie as tie
 
 abbrev Inv-loop : tie.InvT-loop
-Inv-loop cost₀ dist₀ pred₀ held customers distances size capacity fixed i₀ cost dist pred i =
-    (i ≤ length held) × TableOf (tariff (lent customers distances size capacity fixed)) held i cost dist pred
+Inv-loop cost₀ dist₀ pred₀ held demands distances size capacity fixed ins backs i₀ cost dist pred i =
+    (i ≤ length held) × TableOf (tariffBy (askedF demands) distances size capacity fixed) held i cost dist pred
 
 abbrev μ-loop : tie.MeasureT-loop
-μ-loop cost₀ dist₀ pred₀ held customers distances size capacity fixed i₀ cost dist pred i = length held - i
+μ-loop cost₀ dist₀ pred₀ held demands distances size capacity fixed ins backs i₀ cost dist pred i =
+    length held - i
+
+write-legs-requires : tie.Need-write-legs-requires Inv-loop μ-loop
+write-legs-requires c κs = (c .before .before .before .before .before .pre .0 .0, refl, refl)
 
 loop-holds : tie.Need-loop-holds Inv-loop μ-loop
-loop-holds c = (omega arith, c .before .before .pre .1)
+loop-holds c = (omega arith, c .before .before .before .before .before .before .pre .1)
 
 mul-reached-row : tie.Need-mul-reached-row Inv-loop μ-loop
 mul-reached-row c = search needs
@@ -35,11 +41,43 @@ part-reached-row-start c = search needs
 part-reached-row-end : tie.Need-part-reached-row-end Inv-loop μ-loop
 part-reached-row-end c = search needs
 
+mul-reached-row-2 : tie.Need-mul-reached-row-2 Inv-loop μ-loop
+mul-reached-row-2 c = search needs
+
+sub-reached-row-2 : tie.Need-sub-reached-row-2 Inv-loop μ-loop
+sub-reached-row-2 c = search needs
+
+part-reached-row-start-2 : tie.Need-part-reached-row-start-2 Inv-loop μ-loop
+part-reached-row-start-2 c = search needs
+
+part-reached-row-end-2 : tie.Need-part-reached-row-end-2 Inv-loop μ-loop
+part-reached-row-end-2 c = omega (arith, c .before .before .before .before .before .before .before .write-legs .ensures .1 .0)
+
+mul-reached-row-3 : tie.Need-mul-reached-row-3 Inv-loop μ-loop
+mul-reached-row-3 c = search needs
+
+sub-reached-row-3 : tie.Need-sub-reached-row-3 Inv-loop μ-loop
+sub-reached-row-3 c = search needs
+
+part-reached-row-start-3 : tie.Need-part-reached-row-start-3 Inv-loop μ-loop
+part-reached-row-start-3 c = search needs
+
+part-reached-row-end-3 : tie.Need-part-reached-row-end-3 Inv-loop μ-loop
+part-reached-row-end-3 c = omega (arith, c .before .before .before .before .before .before .before .before .before .write-legs .ensures .1 .1)
+
 reached-row-requires : tie.Need-reached-row-requires Inv-loop μ-loop
 reached-row-requires c κs =
-    let T = c .before .before .before .before .before .loop .inv .1 in
-    let a = c .before .before .before .before .before .before .before .before .args in
-    ((ap length (T .costs-are) ∙ length-tab _ cells, ap length (T .fars-are) ∙ length-tab _ cells, ap length (T .preds-are) ∙ length-tab _ cells), omega (arith, ap length (lent-part (now (a .held)) (c .before .before .before .before .before .loop .i)), length-drop (c .before .before .before .before .before .loop .i) (now (a .held))))
+    let l = c .before .before .before .before .before .before .before .before .before .loop in
+    let T = l .inv .1 in
+    let a = c .before .before .before .before .before .before .before .before .before .before .before .before .before .before .before .before .args in
+    let W = c .before .before .before .before .before .before .before .before .before .before .write-legs .ensures in
+    let held = now (a .held) in (
+      (ap length (T .costs-are) ∙ length-tab _ cells, ap length (T .fars-are) ∙ length-tab _ cells, ap length (T .preds-are) ∙ length-tab _ cells),
+      (
+        (omega (arith, ap length (lent-part held (l .i)), length-drop (l .i) held, c .before .before .before .before .before .before .before .before .before .before .before .before .before .before .before .before .pre .0 .0), c .before .before .before .before .before .before .before .before .before .before .before .before .before .before .before .before .pre .0 .1),
+        legs-from (lookupF (now (a .distances)) (a .size)) held _ _ (l .i) _ _ _ (lent-part held (l .i)) (part-from _ (l .i) (W .1 .0)) (part-from _ (l .i) (W .1 .1)) (W .0),
+      ),
+    )
 
 add-i : tie.Need-add-i Inv-loop μ-loop
 add-i c = search needs
@@ -49,21 +87,21 @@ loop-less c = search needs
 
 loop-again : tie.Need-loop-again Inv-loop μ-loop
 loop-again c =
-    let l = c .before .before .before .before .before .before .loop in
-    let a = c .before .before .before .before .before .before .before .before .before .args in
-    let T = tariff (lent (a .customers) (now (a .distances)) (a .size) (a .capacity) (a .fixed)) in
+    let l = c .before .before .before .before .before .before .before .before .before .before .loop in
+    let a = c .before .before .before .before .before .before .before .before .before .before .before .before .before .before .before .before .before .args in
+    let T = tariffBy (askedF (now (a .demands))) (now (a .distances)) (a .size) (a .capacity) (a .fixed) in
     let held = now (a .held) in (
       omega arith,
-      next (runsOf T (stretches held)) (farsOf T (stretches held)) (l .i) (omega arith) (l .cost) (l .dist) (l .pred) (l .inv .1) _ _ _
+      next (runsOf T (stretches held)) (farsOf T (stretches held)) (l .i) (omega (arith, c .before .before .before .before .before .before .before .before .before .before .before .before .before .before .before .before .before .pre .0 .0)) (l .cost) (l .dist) (l .pred) (l .inv .1) _ _ _
           (held-row T held _ (l .i) (l .cost) (l .dist) (l .pred) _ _ _ (lent-part held (l .i)) (c .reached-row .ensures)),
     )
 
 returns : tie.Need-returns Inv-loop μ-loop
 returns c =
     let l = c .before .loop in
-    let a = c .before .before .before .before .args in
+    let a = c .before .before .before .before .before .before .before .before .args in
     let e : l .i ≡ length (now (a .held)) = omega arith in
-    subst (λ (k : ℕ). TableOf (tariff (lent (a .customers) (now (a .distances)) (a .size) (a .capacity) (a .fixed))) (now (a .held)) k (l .cost) (l .dist) (l .pred)) e (l .inv .1)
+    subst (λ (k : ℕ). TableOf (tariffBy (askedF (now (a .demands))) (now (a .distances)) (a .size) (a .capacity) (a .fixed)) (now (a .held)) k (l .cost) (l .dist) (l .pred)) e (l .inv .1)
 
 pub rows-spec : {M : Type 1} → statement M
 rows-spec =
@@ -71,11 +109,20 @@ rows-spec =
     (tie.spec
     Inv-loop
     μ-loop
+    write-legs-requires
     loop-holds
     mul-reached-row
     sub-reached-row
     part-reached-row-start
     part-reached-row-end
+    mul-reached-row-2
+    sub-reached-row-2
+    part-reached-row-start-2
+    part-reached-row-end-2
+    mul-reached-row-3
+    sub-reached-row-3
+    part-reached-row-start-3
+    part-reached-row-end-3
     reached-row-requires
     add-i
     loop-less

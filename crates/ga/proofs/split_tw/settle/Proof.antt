@@ -1,139 +1,119 @@
--- `split_tw::settle` meets its contract. The loop's invariant is `Settling`: the drops from the calls held on are those of the tour. The measure is the number held. Assumes nothing.
-use Prim.Native.Nat.{_-_}
+-- `split_tw::settle` meets its contract: the calls that stay, and their cut as it is read back from the table. Assumes nothing.
 use native.Mathlib.Omega.{arith}
-use mathlib.Core.Path.{_≡_, refl, sym}
-use lib.ListN.{length}
-use lib.Seq.{length-take-le}
+use mathlib.Core.Path.{sym, subst}
 use denote.Ref.{now}
-use Rattle.ga.specs.SplitTw.{lent}
-use Rattle.ga.proofs.Settling.{few-taken, Settling, all-settling, one-less, settled, dropped-settled}
+use Rattle.whole.specs.Bits.{fl-zero}
+use Rattle.stretch.specs.Stops.{Below64}
+use Rattle.stretch.specs.Runs.{lent}
+use Rattle.ga.proofs.Stayed.{tour-front, worked, stayed-of, stayed-falls, stayed-settled, unfilled}
 use borrow.Author.Needs.{needs}
 use Rattle.ga.proofs.split_tw.settle.Statement.{statement}
 use Rattle.ga.proofs.split_tw.settle.Tie as tie
 
-abbrev Inv-loop : tie.InvT-loop
-Inv-loop tour customers distances times size capacity fixed limits held₀ ends₀ dropped₀ n₀ positions₀ p₀ held ends dropped n positions p =
-    Settling (lent customers distances times size capacity fixed limits) tour dropped₀ held positions dropped n (p .cost) (p .distance) (p .at) (p .stuck) ends
-    × (length held ≡ length held₀)
-    × (length dropped ≡ length dropped₀)
-    × (length positions ≡ 128)
+work-out-requires : tie.Need-work-out-requires
+work-out-requires c κs = search needs
 
-abbrev μ-loop : tie.MeasureT-loop
-μ-loop tour customers distances times size capacity fixed limits held₀ ends₀ dropped₀ n₀ positions₀ p₀ held ends dropped n positions p = n
+infinity-requires : tie.Need-infinity-requires
+infinity-requires c κs = search needs
 
-write-front-requires : tie.Need-write-front-requires Inv-loop μ-loop
+array-write-cost : tie.Need-array-write-cost
+array-write-cost c = search needs
+
+write-front-requires : tie.Need-write-front-requires
 write-front-requires c κs = search needs
 
-slice-aggregate-number : tie.Need-slice-aggregate-number Inv-loop μ-loop
-slice-aggregate-number c = search needs
+slice-aggregate-hold : tie.Need-slice-aggregate-hold
+slice-aggregate-hold c =
+    sym (c .before .before .before .before .before .before .before .before .work-out .ensures .codes-long)
 
-number-requires : tie.Need-number-requires Inv-loop μ-loop
-number-requires c κs = search needs
+slice-aggregate-hold-2 : tie.Need-slice-aggregate-hold-2
+slice-aggregate-hold-2 c =
+    sym (c .before .before .before .before .before .before .before .before .before .work-out .ensures .figures-long)
 
-slice-reshare-prefix-pass : tie.Need-slice-reshare-prefix-pass Inv-loop μ-loop
-slice-reshare-prefix-pass c = search needs
-
-slice-aggregate-pass : tie.Need-slice-aggregate-pass Inv-loop μ-loop
-slice-aggregate-pass c = sym (length-take-le _ _ (omega (arith, c .before .before .before .before .before .before .before .before .before .before .before .before .before .pre .1 .0, c .before .before .before .before .before .before .write-front .kept)))
-
-pass-requires : tie.Need-pass-requires Inv-loop μ-loop
-pass-requires c κs =
-    let s = c .before .before .before .before .before .before .before .before .before .before .before .before .before .before in
-    (few-taken _ _ _ (s .pre .0 .0) (omega (arith, s .pre .1 .0, c .before .before .before .before .before .before .before .write-front .kept)), s .pre .0 .1)
-
-loop-holds : tie.Need-loop-holds Inv-loop μ-loop
-loop-holds c =
-    let s = c .before .before .before .before .before .before .before .before .before .before .before .before .before .before .before in
+hold-requires : tie.Need-hold-requires
+hold-requires c κs =
+    let f = c .before .before .before .before .before .before .before .before .before in
+    let o = f .before .before .before in
+    let s = o .before .before .before .before .before .before .before .before in
     let a = s .args in
-    let I = lent (a .customers) (now (a .distances)) (now (a .times)) (a .size) (a .capacity) (a .fixed) (a .limits) in (
-      all-settling I (now (a .tour)) (now (a .held)) _ (now (a .dropped)) _ _ _ _ _ _ _ (c .before .before .before .before .before .before .before .before .write-front .ensures) (c .before .before .before .before .number .ensures) (c .pass .ensures),
-      refl,
-      refl,
-      omega (arith, c .before .before .before .before .number .kept),
+    let I = lent (a .customers) (now (a .distances)) (now (a .times)) (a .size) (a .capacity) (a .fixed) (a .limits) in
+    let e = tour-front (now (a .tour)) (now (a .held)) _ (f .write-front .ensures) in
+    let k = f .write-front .kept in (
+      (s .pre .0 .0, omega (arith, s .pre .1 .0), s .pre .1 .1, subst Below64 (sym e) (s .pre .0 .1)),
+      (unfilled _ _ _ (c .before .before .before .before .before .before .before .before .before .before .before .infinity .ensures) (sym fl-zero) (sym fl-zero), worked (now (a .distances)) (now (a .times)) (a .size) _ _ (a .customers) (o .work-out .ensures)),
     )
 
-slice-aggregate-drop-call : tie.Need-slice-aggregate-drop-call Inv-loop μ-loop
-slice-aggregate-drop-call c = search needs
-
-sub-drop-call : tie.Need-sub-drop-call Inv-loop μ-loop
-sub-drop-call c = c .before .before .before .before .before .loop .inv .0 .few
-
-drop-call-requires : tie.Need-drop-call-requires Inv-loop μ-loop
-drop-call-requires c κs =
-    let s = c .before .before .before .before .before .before .before .before .before .before .before .before .before .before .before .before .before .before .before .before .before in
-    let v = c .before .before .before .before .before .loop .inv in
-    let t = c .before .before .before .if1 .taken in (
-      (t, omega (arith, v .0 .few, v .1, s .pre .1 .0, c .before .before .before .before .before .before .before .before .before .before .before .before .before .before .write-front .kept), omega (arith, v .0 .few, v .3, s .pre .0 .0)),
-      omega (arith, t, v .0 .few, v .2, s .pre .1 .1),
-    )
-
-sub-n : tie.Need-sub-n Inv-loop μ-loop
-sub-n c = search needs
-
-slice-reshare-prefix-pass-2 : tie.Need-slice-reshare-prefix-pass-2 Inv-loop μ-loop
-slice-reshare-prefix-pass-2 c = omega (arith, c .before .before .before .before .before .before .before .before .before .before .before .loop .inv .0 .few, c .before .before .before .before .before .before .before .before .before .before .before .loop .inv .1, c .before .before .before .before .before .drop-call .kept, c .before .before .before .before .before .before .before .before .before .before .before .before .before .before .before .before .before .before .before .before .write-front .kept, c .before .before .before .before .before .before .before .before .before .before .before .before .before .before .before .before .before .before .before .before .before .before .before .before .before .before .before .pre .1 .0)
-
-slice-aggregate-pass-2 : tie.Need-slice-aggregate-pass-2 Inv-loop μ-loop
-slice-aggregate-pass-2 c = sym (length-take-le _ _ (omega (arith, c .before .before .before .before .before .before .before .before .before .before .before .before .loop .inv .0 .few, c .before .before .before .before .before .before .before .before .before .before .before .before .loop .inv .1, c .before .before .before .before .before .before .drop-call .kept, c .before .before .before .before .before .before .before .before .before .before .before .before .before .before .before .before .before .before .before .before .before .write-front .kept, c .before .before .before .before .before .before .before .before .before .before .before .before .before .before .before .before .before .before .before .before .before .before .before .before .before .before .before .before .pre .1 .0)))
-
-pass-requires-2 : tie.Need-pass-requires-2 Inv-loop μ-loop
-pass-requires-2 c κs =
-    let s = c .before .before .before .before .before .before .before .before .before .before .before .before .before .before .before .before .before .before .before .before .before .before .before .before .before .before .before .before .before in
-    let v = c .before .before .before .before .before .before .before .before .before .before .before .before .before .loop .inv in
-    (few-taken (c .before .before .before .before .before .before .before .before .before .before .before .before .before .loop .n - 1) 128 (c .before .before .before .before .before .before .before .drop-call .last .0) (omega (arith, v .0 .few, s .pre .0 .0)) (omega (arith, c .before .before .before .before .before .before .before .before .before .before .before .before .before .loop .inv .0 .few, c .before .before .before .before .before .before .before .before .before .before .before .before .before .loop .inv .1, c .before .before .before .before .before .before .before .drop-call .kept, c .before .before .before .before .before .before .before .before .before .before .before .before .before .before .before .before .before .before .before .before .before .before .write-front .kept, c .before .before .before .before .before .before .before .before .before .before .before .before .before .before .before .before .before .before .before .before .before .before .before .before .before .before .before .before .before .pre .1 .0)), v .0 .passed .cut-done .long)
-
-loop-less : tie.Need-loop-less Inv-loop μ-loop
-loop-less c = search needs
-
-loop-again : tie.Need-loop-again Inv-loop μ-loop
-loop-again c =
-    let s = c .before .before .before .before .before .before .before .before .before .before .before .before .before .before .before .before .before .before .before .before .before .before .before .before .before .before .before .before .before .before in
+read-back-requires : tie.Need-read-back-requires
+read-back-requires c κs =
+    let h = c .before .before .before .before .before .before in
+    let f = h .before .before .before .before .before .before .before .before .before .before in
+    let o = f .before .before .before in
+    let s = o .before .before .before .before .before .before .before .before in
     let a = s .args in
-    let v = c .before .before .before .before .before .before .before .before .before .before .before .before .before .before .loop .inv in
-    let d = c .before .before .before .before .before .before .before .before .drop-call in
-    let I = lent (a .customers) (now (a .distances)) (now (a .times)) (a .size) (a .capacity) (a .fixed) (a .limits) in (
-      one-less I (now (a .tour)) (now (a .dropped)) _ _ _ _ _ _ _ _ _ (v .0) (c .before .before .before .before .before .before .before .before .before .before .before .before .if1 .taken) (s .pre .1 .1) _ _ _ _ _ _ _ _ (d .ensures) (c .pass2 .ensures),
-      omega (arith, d .kept, v .1),
-      omega (arith, d .kept, v .2),
-      omega (arith, d .kept, v .3),
-    )
+    let I = lent (a .customers) (now (a .distances)) (now (a .times)) (a .size) (a .capacity) (a .fixed) (a .limits) in
+    let e = tour-front (now (a .tour)) (now (a .held)) _ (f .write-front .ensures) in
+    let k = f .write-front .kept in
+    let m = h .hold .kept in
+    let S = stayed-of (now (a .distances)) (now (a .times)) (a .size) _ _ (a .customers) (o .work-out .ensures) (a .capacity) (a .fixed) (a .limits) _ (now (a .tour)) _ (h .hold .result) _ _ _ _ _ e (h .hold .ensures .0) in
+    ((omega (arith, S .few, s .pre .0 .0), s .pre .0 .2), stayed-falls I (now (a .tour)) _ (h .hold .result) _ _ _ _ _ (omega (arith, S .few, s .pre .0 .0)) (omega (arith, S .few, s .pre .1 .0)) S)
 
-same-length : tie.Need-same-length Inv-loop μ-loop
+mul-t29 : tie.Need-mul-t29
+mul-t29 c =
+    let h = c .before .before .before .before .before .before .before in
+    omega (arith, h .hold .ensures .1, h .before .before .before .before .before .before .before .before .before .before .before .before .before .before .before .before .before .before .before .before .before .pre .0 .0)
+
+array-read-t43 : tie.Need-array-read-t43
+array-read-t43 c =
+    let h = c .before .before .before .before .before .before .before in
+    omega (arith, h .hold .ensures .1, h .before .before .before .before .before .before .before .before .before .before .before .before .before .before .before .before .before .before .before .before .before .pre .0 .0)
+
+mul-t44 : tie.Need-mul-t44
+mul-t44 c =
+    let h = c .before .before .before .before .before .before .before in
+    omega (arith, h .hold .ensures .1, h .before .before .before .before .before .before .before .before .before .before .before .before .before .before .before .before .before .before .before .before .before .pre .0 .0)
+
+array-read-t47 : tie.Need-array-read-t47
+array-read-t47 c =
+    let h = c .before .before .before .before .before .before .before in
+    omega (arith, h .hold .ensures .1, h .before .before .before .before .before .before .before .before .before .before .before .before .before .before .before .before .before .before .before .before .before .pre .0 .0)
+
+same-length : tie.Need-same-length
 same-length c = search needs
 
-same-length-2 : tie.Need-same-length-2 Inv-loop μ-loop
+same-length-2 : tie.Need-same-length-2
 same-length-2 c = search needs
 
-returns : tie.Need-returns Inv-loop μ-loop
+returns : tie.Need-returns
 returns c =
-    let s = c .before .before .before .before .before .before .before .before .before .before .before .before .before .before .before .before .before .before in
+    let h = c .before .before .before .before .before .before .before in
+    let f = h .before .before .before .before .before .before .before .before .before .before in
+    let o = f .before .before .before in
+    let s = o .before .before .before .before .before .before .before .before in
     let a = s .args in
-    let v = c .before .before .loop .inv in
     let I = lent (a .customers) (now (a .distances)) (now (a .times)) (a .size) (a .capacity) (a .fixed) (a .limits) in
-    (settled I (now (a .tour)) (now (a .dropped)) _ _ _ _ _ _ _ _ _ (v .0) (c .if1 .left), dropped-settled I (now (a .tour)) (now (a .dropped)) _ _ _ _ _ _ _ _ _ (v .0) (c .if1 .left))
+    let e = tour-front (now (a .tour)) (now (a .held)) _ (f .write-front .ensures) in
+    let k = f .write-front .kept in
+    let m = h .hold .kept in
+    let S = stayed-of (now (a .distances)) (now (a .times)) (a .size) _ _ (a .customers) (o .work-out .ensures) (a .capacity) (a .fixed) (a .limits) _ (now (a .tour)) _ (h .hold .result) _ _ _ _ _ e (h .hold .ensures .0) in
+    let r = c .read-back .ensures in
+    (stayed-settled I (now (a .tour)) _ (h .hold .result) _ _ _ _ _ (omega (arith, S .few, s .pre .0 .0)) (omega (arith, S .few, s .pre .1 .0)) S _ _ (r .0) (r .1), S .dropped-are)
 
 pub settle-spec : {M : Type 1} → statement M
 settle-spec =
     tie.close
     (tie.spec
-    Inv-loop
-    μ-loop
+    work-out-requires
+    infinity-requires
+    array-write-cost
     write-front-requires
-    slice-aggregate-number
-    number-requires
-    slice-reshare-prefix-pass
-    slice-aggregate-pass
-    pass-requires
-    loop-holds
-    slice-aggregate-drop-call
-    sub-drop-call
-    drop-call-requires
-    sub-n
-    slice-reshare-prefix-pass-2
-    slice-aggregate-pass-2
-    pass-requires-2
-    loop-less
-    loop-again
+    slice-aggregate-hold
+    slice-aggregate-hold-2
+    hold-requires
+    read-back-requires
+    mul-t29
+    array-read-t43
+    mul-t44
+    array-read-t47
     same-length
     same-length-2
     returns)

@@ -6,7 +6,8 @@ use mathlib.Core.List.{List}
 use lib.Seq.{length-take-le}
 use denote.Ref.{now}
 use Rattle.definitions.specs.Room.{written}
-use Rattle.ga.specs.SplitTw.{lent, tariff, dropsF, splitTwF}
+use Rattle.stretch.specs.Runs.{lent, tariff}
+use Rattle.ga.specs.SplitTw.{dropsF, splitTwF}
 use Rattle.ga.proofs.Settling.{each-counted}
 use Rattle.ga.proofs.Answering.{lent-few, few-ends, ends-written, answered}
 use borrow.Author.Needs.{needs}

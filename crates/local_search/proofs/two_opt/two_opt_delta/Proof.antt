@@ -35,9 +35,6 @@ get-requires-2 c κs = search needs
 get-requires-3 : tie.Need-get-requires-3
 get-requires-3 c κs = search needs
 
-get-requires-4 : tie.Need-get-requires-4
-get-requires-4 c κs = search needs
-
 mul-reversal-delta : tie.Need-mul-reversal-delta
 mul-reversal-delta c = search needs
 
@@ -56,16 +53,16 @@ reversal-delta-requires c κs = search needs
 returns : tie.Need-returns
 unfolding deltaF
 returns c =
-    let a = c .before .before .before .before .before .before .before .before .before .before .before .before .args in
+    let s = c .before .before .before .before .before .before .before .before .before .before .before in
     rw (
       c .reversal-delta .ensures,
-      c .before .before .get4 .ensures,
-      c .before .before .before .get3 .ensures,
-      c .before .before .before .before .get2 .ensures,
-      c .before .before .before .before .before .get .ensures,
-      c .before .before .before .before .before .before .call-at .ensures,
-      c .before .before .before .before .before .before .before .place-before .ensures,
-      add-one (a .j),
+      c .before .before .get3 .ensures,
+      c .before .before .before .get2 .ensures,
+      c .before .before .before .before .get .ensures,
+      c .before .before .before .before .before .call-at .ensures,
+      c .before .before .before .before .before .before .place-before .ensures,
+      s .pre .1,
+      add-one (s .args .j),
     )
 
 pub two-opt-delta-spec : {M : Type 1} → statement M
@@ -82,7 +79,6 @@ two-opt-delta-spec =
     get-requires
     get-requires-2
     get-requires-3
-    get-requires-4
     mul-reversal-delta
     sub-reversal-delta
     part-reversal-delta-start

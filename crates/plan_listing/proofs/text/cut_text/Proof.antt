@@ -7,7 +7,7 @@ use lib.ListN.{replicate}
 use denote.Ref.{now}
 use Rattle.report.specs.Put.{Put}
 use Rattle.plan_listing.proofs.Fronts.{front, inside, counted}
-use Rattle.plan_listing.proofs.Planned.{cutOf, few, rises, room, planned}
+use Rattle.plan_listing.proofs.Planned.{below, cutOf, few, rises, room, planned}
 use borrow.Author.Needs.{needs}
 use Rattle.plan_listing.proofs.text.cut_text.Statement.{statement}
 use Rattle.plan_listing.proofs.text.cut_text.Tie as tie
@@ -30,7 +30,7 @@ split-tw-requires c κs =
     let s = c .before .before .before .before .before .before .before .before in
     let a = s .args in
     let h = few (s .pre .1 .0) (now (a .tour)) (a .head) (a .customers) (now (a .distances)) (now (a .times)) (s .pre .1 .1) in
-    (h, (h, h, h))
+    ((h, below (s .pre .1 .0) (now (a .tour)) (a .head) (a .customers) (now (a .distances)) (now (a .times)) (s .pre .1 .1)), (h, h, h))
 
 array-share-prefix-served : tie.Need-array-share-prefix-served
 array-share-prefix-served c =

@@ -1,0 +1,40 @@
+-- What customers ask for, gathered one by one. Assumes nothing.
+use Prim.Native.Nat.{ℕ, _+_, _<_, _≤_}
+use native.Mathlib.Omega.{arith}
+use native.Mathlib.Numerals.{add-one}
+use mathlib.Core.Path.{_≡_, sym, ap, ap₂, _∙_}
+use mathlib.Core.List.{List, [], _∷_, _++_, map}
+use lib.ListN.{length, getD, set, take, length-map}
+use lib.Seq.{take-suc, take-suc-set, take-all}
+use lib.Ieee.{Float}
+use Rattle.definitions.specs.Sheet.{CustomerOf}
+use Rattle.models.specs.declared.customer.Customer.{Customer}
+use Rattle.models.specs.Records.{customerOf}
+use Rattle.evaluation.specs.Tables.{blank}
+use Rattle.evaluation.proofs.Reading.{getD-of}
+use Rattle.elimination.specs.Loads.{demandsOf}
+
+module _ (customers : List Customer) (long : length customers ≡ 64) where
+  abbrev all : List ℕ
+  all = demandsOf (map customerOf customers)
+
+  records : length (map customerOf customers) ≡ 64
+  records = length-map customers customerOf ∙ long
+
+  all-long : length all ≡ 64
+  all-long = length-map (map customerOf customers) (λ (x : CustomerOf Float). x .demand) ∙ records
+
+  module _ (demands : List ℕ) (i : ℕ) (e : take i demands ≡ take i all) (d : length demands ≡ 64) where
+    pub demands-more : (x : Customer) → i < 64 → take (i + 1) (set demands i (getD customers i x .demand)) ≡ take (i + 1) all
+    demands-more x h =
+        let here : getD customers i x .demand ≡ getD all i 0 =
+        ap (λ (y : CustomerOf Float). y .demand) (getD-of customerOf customers i x blank (omega arith))
+        ∙ getD-of (λ (y : CustomerOf Float). y .demand) (map customerOf customers) i blank 0 (omega (arith, records)) in
+        ap (λ (n : ℕ). take n (set demands i (getD customers i x .demand))) (add-one i)
+        ∙ take-suc-set demands i (getD customers i x .demand) (omega arith)
+        ∙ ap₂ (λ (l : List ℕ) (y : ℕ). l ++ (y ∷ [])) e here
+        ∙ sym (take-suc all i 0 (omega (arith, all-long)))
+        ∙ ap (λ (n : ℕ). take n all) (sym (add-one i))
+
+    pub demands-all : 64 ≤ i → demands ≡ all
+    demands-all h = sym (take-all i demands (omega arith)) ∙ e ∙ take-all i all (omega (arith, all-long))

@@ -1,0 +1,65 @@
+-- `loads::demands_of` meets its contract. The loop's invariant: the demands of the first i customers are in. Assumes nothing.
+use Prim.Native.Nat.{_-_, _≤_}
+use native.Mathlib.Omega.{arith}
+use mathlib.Core.Path.{_≡_, refl, _∙_}
+use mathlib.Core.List.{map}
+use lib.ListN.{length, take, length-set}
+use Rattle.models.specs.Records.{customerOf}
+use Rattle.elimination.specs.Loads.{demandsOf}
+use Rattle.elimination.proofs.Demands.{demands-more, demands-all}
+use borrow.Author.Needs.{needs}
+use Rattle.elimination.proofs.loads.demands_of.Statement.{statement}
+use Rattle.elimination.proofs.loads.demands_of.Tie as tie
+
+abbrev Inv-loop : tie.InvT-loop
+Inv-loop customers demands₀ i₀ demands i =
+    (i ≤ 64) × (length demands ≡ 64) × (take i demands ≡ take i (demandsOf (map customerOf customers)))
+
+abbrev μ-loop : tie.MeasureT-loop
+μ-loop customers demands₀ i₀ demands i = 64 - i
+
+loop-holds : tie.Need-loop-holds Inv-loop μ-loop
+loop-holds c = (omega arith, refl, refl)
+
+mul-customer : tie.Need-mul-customer Inv-loop μ-loop
+mul-customer c = search needs
+
+array-copy-out-customer : tie.Need-array-copy-out-customer Inv-loop μ-loop
+array-copy-out-customer c = search needs
+
+mul-demands : tie.Need-mul-demands Inv-loop μ-loop
+mul-demands c = search needs
+
+array-write-demands : tie.Need-array-write-demands Inv-loop μ-loop
+array-write-demands c = search needs
+
+add-i : tie.Need-add-i Inv-loop μ-loop
+add-i c = search needs
+
+loop-less : tie.Need-loop-less Inv-loop μ-loop
+loop-less c = search needs
+
+loop-again : tie.Need-loop-again Inv-loop μ-loop
+loop-again c =
+    let l = c .before .before .loop in
+    let customers = c .before .before .before .args .t1 in
+    (omega arith, length-set (l .demands) (l .i) _ ∙ l .inv .1, demands-more customers (search needs) (l .demands) (l .i) (l .inv .2) (l .inv .1) _ (c .before .loop-test .taken))
+
+returns : tie.Need-returns Inv-loop μ-loop
+returns c = let l = c .before .loop in demands-all (c .before .before .args .t1) (search needs) (l .demands) (l .i) (l .inv .2) (l .inv .1) (c .loop-test .left)
+
+pub demands-of-spec : {M : Type 1} → statement M
+demands-of-spec =
+    tie.close
+    (tie.spec
+    Inv-loop
+    μ-loop
+    loop-holds
+    mul-customer
+    array-copy-out-customer
+    mul-demands
+    array-write-demands
+    add-i
+    loop-less
+    loop-again
+    returns)

@@ -1,0 +1,146 @@
+// The improvers on the sheet that bytes are: its bytes are read, and the runs given are improved.
+ghost use mathlib.Core.Path.{_≡_};
+ghost use mathlib.Core.List.{List, [], _∷_};
+ghost use mathlib.Core.Option.{some};
+ghost use Prim.Native.Nat.{ℕ};
+ghost use lib.ListN.{length};
+ghost use Rattle.whole.specs.Whole.{fl};
+ghost use Rattle.definitions.specs.Sheet.{Sheet};
+ghost use Rattle.definitions.specs.Reader as Reader;
+ghost use Rattle.definitions.specs.Answers.{twoOptOf, eliminateOf};
+ghost use Rattle.definitions.specs.Room.{written};
+ghost use Rattle.plan_listing.specs.Held.{Accepted};
+ghost use Rattle.exports.specs.Answer.{wordOf};
+ghost use Rattle.exports.specs.Called.{lentWith, callNumber, setBy, listBy};
+ghost use Rattle.exports.specs.Improve.{reverseAnswer, eliminateAnswer, countsLeft, RunLeft, RunsLeft};
+use checked::eliminating::Elimination;
+use checked::eliminating::eliminate_routes;
+use checked::improving::Reversed;
+use checked::improving::two_opt_improve;
+use plan_listing::held::load;
+use sheet::read::Reading;
+use sheet::read::read;
+
+// The reversal on an accepted sheet.
+fn reverse_sheet(bytes: &[u8], run: &[usize], improved: &mut [usize]) -> Reversed
+    requires { ⌜ Accepted (now bytes) ⌝ }
+    ensures { λ r. ⌜ ((s : Sheet) (tour : List ℕ) → Reader.read (now (bytes .entry)) ≡ Reader.sheet s tour → RunLeft (twoOptOf some (lentWith s [] (now (run .entry)) [] [] (length (now (improved .entry)) ∷ []))) (now (improved .entry)) r (now (improved .exit))) ⌝ }
+{
+    let mut distances = [0.0; 4096];
+    let mut times = [0.0; 4096];
+    let mut tour = [0usize; 128];
+    let l = load(bytes, &mut distances, &mut times, &mut tour);
+    let far = l.far;
+    let long = l.long;
+    let head = l.head;
+    let size = head.places;
+    let customers = l.customers;
+    two_opt_improve(
+        head,
+        customers,
+        size,
+        &distances[..far],
+        &times[..long],
+        run,
+        &mut *improved,
+    )
+}
+
+// The run given with stretches of its calls reversed, on the sheet that the bytes are: its calls at the front of the lent list, and its distance. The answer is
+// 0, or the number of a refusal: the reader's, whose word is written, or the call's, which leaves everything as it was.
+#[no_mangle]
+pub extern "C" fn lizsomdur_reverse(
+    sheet: &[u8],
+    run: &[usize],
+    improved: &mut [usize],
+    word: &mut usize,
+    distance: &mut f64,
+) -> u32
+    ensures result { λ r. ⌜ r ≡ callNumber (reverseAnswer (now (sheet .entry)) (now (run .entry)) (now (improved .entry))) ⌝ }
+    ensures word { λ _. ⌜ now (word .exit) ≡ wordOf (reverseAnswer (now (sheet .entry)) (now (run .entry)) (now (improved .entry))) (now (word .entry)) ⌝ }
+    ensures improved { λ _. ⌜ now (improved .exit) ≡ written (listBy (λ x. x .calls) (reverseAnswer (now (sheet .entry)) (now (run .entry)) (now (improved .entry)))) (now (improved .entry)) ⌝ }
+    ensures distance { λ _. ⌜ now (distance .exit) ≡ setBy (λ x. fl (x .distance)) (reverseAnswer (now (sheet .entry)) (now (run .entry)) (now (improved .entry))) (now (distance .entry)) ⌝ }
+{
+    match read(sheet) {
+        Reading::Refused(number, at) => {
+            *word = at;
+            number
+        }
+        Reading::Sheet(_) => match reverse_sheet(sheet, run, &mut *improved) {
+            Reversed::Refused(number) => number,
+            Reversed::Improved(left) => {
+                *distance = left.distance;
+                0
+            }
+        },
+    }
+}
+
+// The elimination on an accepted sheet.
+fn eliminate_sheet(
+    bytes: &[u8],
+    calls: &[usize],
+    ends: &[usize],
+    left_calls: &mut [usize],
+    left_ends: &mut [usize],
+) -> Elimination
+    requires { ⌜ Accepted (now bytes) ⌝ }
+    ensures { λ r. ⌜ ((s : Sheet) (tour : List ℕ) → Reader.read (now (bytes .entry)) ≡ Reader.sheet s tour → RunsLeft (eliminateOf some (lentWith s [] (now (calls .entry)) (now (ends .entry)) [] (length (now («left_calls» .entry)) ∷ length (now («left_ends» .entry)) ∷ []))) (now («left_calls» .entry)) (now («left_ends» .entry)) r (now («left_calls» .exit)) (now («left_ends» .exit))) ⌝ }
+{
+    let mut distances = [0.0; 4096];
+    let mut times = [0.0; 4096];
+    let mut tour = [0usize; 128];
+    let l = load(bytes, &mut distances, &mut times, &mut tour);
+    let far = l.far;
+    let long = l.long;
+    let head = l.head;
+    let size = head.places;
+    let customers = l.customers;
+    eliminate_routes(
+        head,
+        customers,
+        size,
+        &distances[..far],
+        &times[..long],
+        calls,
+        ends,
+        &mut *left_calls,
+        &mut *left_ends,
+    )
+}
+
+// The runs given with each that can be emptied into the others emptied, on the sheet that the bytes are: the calls and run ends that are left at the front of the
+// lent lists, and how many calls and runs these are. The answer is 0, or the number of a refusal: the reader's, whose word is written, or the call's, which
+// leaves everything as it was.
+#[no_mangle]
+pub extern "C" fn lizsomdur_eliminate(
+    sheet: &[u8],
+    calls: &[usize],
+    ends: &[usize],
+    left_calls: &mut [usize],
+    left_ends: &mut [usize],
+    word: &mut usize,
+    counts: &mut [usize; 2],
+) -> u32
+    ensures result { λ r. ⌜ r ≡ callNumber (eliminateAnswer (now (sheet .entry)) (now (calls .entry)) (now (ends .entry)) (now («left_calls» .entry)) (now («left_ends» .entry))) ⌝ }
+    ensures word { λ _. ⌜ now (word .exit) ≡ wordOf (eliminateAnswer (now (sheet .entry)) (now (calls .entry)) (now (ends .entry)) (now («left_calls» .entry)) (now («left_ends» .entry))) (now (word .entry)) ⌝ }
+    ensures calls { λ _. ⌜ now («left_calls» .exit) ≡ written (listBy (λ x. x .calls) (eliminateAnswer (now (sheet .entry)) (now (calls .entry)) (now (ends .entry)) (now («left_calls» .entry)) (now («left_ends» .entry)))) (now («left_calls» .entry)) ⌝ }
+    ensures ends { λ _. ⌜ now («left_ends» .exit) ≡ written (listBy (λ x. x .ends) (eliminateAnswer (now (sheet .entry)) (now (calls .entry)) (now (ends .entry)) (now («left_calls» .entry)) (now («left_ends» .entry)))) (now («left_ends» .entry)) ⌝ }
+    ensures counts { λ _. ⌜ now (counts .exit) ≡ setBy countsLeft (eliminateAnswer (now (sheet .entry)) (now (calls .entry)) (now (ends .entry)) (now («left_calls» .entry)) (now («left_ends» .entry))) (now (counts .entry)) ⌝ }
+{
+    match read(sheet) {
+        Reading::Refused(number, at) => {
+            *word = at;
+            number
+        }
+        Reading::Sheet(_) => {
+            match eliminate_sheet(sheet, calls, ends, &mut *left_calls, &mut *left_ends) {
+                Elimination::Refused(number) => number,
+                Elimination::Left(left) => {
+                    *counts = [left.calls, left.runs];
+                    0
+                }
+            }
+        }
+    }
+}

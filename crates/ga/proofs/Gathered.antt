@@ -1,0 +1,154 @@
+-- What is gathered once for a cut: what each record asks for, and the legs along the calls. Written one by one, and read along a stretch. Assumes nothing.
+use Prim.Native.Nat.{ℕ, zero, suc, _+_, _-_, _<_, _≤_}
+use native.Mathlib.Nat.{not-suc-le-zero}
+use native.Mathlib.Omega.{arith}
+use mathlib.Core.Path.{_≡_, refl, sym, ap, subst, fun-ext, _∙_}
+use mathlib.Core.Bool.{cond}
+use mathlib.Core.List.{List, map}
+use lib.ListN.{length, getD, set, take, drop, length-set, length-drop}
+use lib.Seq.{take-all, getD-set-same, getD-set-other, getD-drop}
+use lib.Dec.{eqb, ltb, eqb·suc-zero}
+use borrow.Author.Tests.{ltb-true, ltb-false}
+use lib.Ieee.{Float, nan}
+use Rattle.basics.specs.Tests.{by-test}
+use Rattle.models.specs.declared.customer.Customer.{Customer}
+use Rattle.models.specs.Records.{customerOf}
+use Rattle.definitions.specs.Sheet.{CustomerOf}
+use Rattle.evaluation.specs.Tables.{recordIndex, blank, demandF}
+use Rattle.evaluation.proofs.Reading.{getD-of}
+use Rattle.stretch.specs.Stretch.{placeOf}
+use Rattle.stretch.specs.Tariff.{Tariff}
+use Rattle.ga.specs.Split.{lent, askedF, planBy, splitF, LegsOf}
+use Rattle.stretch.proofs.Along.{Along}
+
+-- ---- lists written from the front
+
+-- one element more
+put : {A : Type 0} (d : A) (f : ℕ → A) (l : List A) (k : ℕ) (x : A) → k < length l → x ≡ f k
+    → ((j : ℕ) → j < k → getD l j d ≡ f j) → (j : ℕ) → j < k + 1 → getD (set l k x) j d ≡ f j
+put d f l k x h e F j b =
+    by-test (ltb j k) (λ t. let s : j < k = ltb-true j k t in getD-set-other l k j x d (λ q. omega arith) ∙ F j s) (λ t. let q : k ≡ j = omega (arith, ltb-false j k t) in
+    subst (λ (i : ℕ). getD (set l k x) i d ≡ f i) q (getD-set-same l k x d h ∙ e))
+
+-- ---- what the records ask for
+
+abbrev askedAt : List Customer → ℕ → ℕ
+askedAt customers k = getD (map customerOf customers) k blank .demand
+
+-- of the first k records
+pub record Gathered (customers : List Customer) (demands : List ℕ) (k : ℕ) : Type 0 where
+  pub within : k ≤ 64
+  pub long : length demands ≡ 64
+  pub are : (j : ℕ) → j < k → getD demands j 0 ≡ askedAt customers j
+
+pub none-gathered : (customers : List Customer) (demands : List ℕ) → length demands ≡ 64 → Gathered customers demands 0
+none-gathered customers demands l = record { within = omega arith; long = l; are = λ j h. absurd (not-suc-le-zero h) }
+
+pub one-gathered : (customers : List Customer) (demands : List ℕ) (k : ℕ) (d : Customer) → length customers ≡ 64 → k < 64 → Gathered customers demands k
+    → Gathered customers (set demands k (getD customers k d .demand)) (k + 1)
+one-gathered customers demands k d long h G =
+    record {
+      within = omega arith;
+      long = length-set demands k _ ∙ G .long;
+      are = put 0 (askedAt customers) demands k _ (omega (arith, G .long)) (ap (λ (x : CustomerOf Float). x .demand) (getD-of customerOf customers k d blank (omega arith))) (G .are);
+    }
+
+index-small : (c : ℕ) → recordIndex c < 64
+index-small c = by-test (ltb c 64) (λ t. rw t (ltb-true c 64 t)) (λ f. rw f (omega arith))
+
+pub all-gathered : (customers : List Customer) (demands : List ℕ) → Gathered customers demands 64 → (c : ℕ) → askedF demands c ≡ demandF (map customerOf customers) c
+unfolding demandF
+all-gathered customers demands G c = G .are (recordIndex c) (index-small c)
+
+-- the cut by what was gathered is the cut
+pub split-by : (customers : List Customer) (demands : List ℕ) (distances : List Float) (size capacity : ℕ) (fixed : Float) (tour : List ℕ) → ((c : ℕ) → askedF demands c ≡ demandF (map customerOf customers) c)
+    → splitF (lent customers distances size capacity fixed) tour ≡ planBy (askedF demands) distances size capacity fixed tour
+unfolding splitF
+split-by customers demands distances size capacity fixed tour e = ap (λ (d : ℕ → ℕ). planBy d distances size capacity fixed tour) (fun-ext (λ c. sym (e c)))
+
+-- ---- the legs along the calls
+
+module _ (leg : ℕ → ℕ → Float) (calls : List ℕ) where
+  abbrev into : ℕ → Float
+  into k = leg (placeOf calls k) (getD calls k 0)
+
+  abbrev back : ℕ → Float
+  back k = leg (getD calls k 0) 0
+
+-- after k calls
+pub record Laid (leg : ℕ → ℕ → Float) (calls : List ℕ) (ins backs : List Float) (prev k : ℕ) : Type 0 where
+  pub within : k ≤ length calls
+  pub ins-long : length ins ≡ 128
+  pub backs-long : length backs ≡ 128
+  pub is-prev : prev ≡ placeOf calls k
+  pub ins-are : (j : ℕ) → j < k → getD ins j nan ≡ into leg calls j
+  pub backs-are : (j : ℕ) → j < k → getD backs j nan ≡ back leg calls j
+
+module _ (leg : ℕ → ℕ → Float) (calls : List ℕ) where
+  pub none-laid : (ins backs : List Float) → length ins ≡ 128 → length backs ≡ 128 → Laid leg calls ins backs 0 0
+  unfolding placeOf
+  none-laid ins backs li lb =
+      record { within = omega arith; ins-long = li; backs-long = lb; is-prev = refl; ins-are = λ j h. absurd (not-suc-le-zero h); backs-are = λ j h. absurd (not-suc-le-zero h) }
+
+  pub one-laid : (ins backs : List Float) (prev k : ℕ) (x y : Float) → k < length calls → length calls ≤ 128 → x ≡ leg prev (getD calls k 0) → y ≡ leg (getD calls k 0) 0
+      → Laid leg calls ins backs prev k → Laid leg calls (set ins k x) (set backs k y) (getD calls k 0) (k + 1)
+  unfolding placeOf
+  one-laid ins backs prev k x y h few ex ey L =
+      record {
+        within = omega arith;
+        ins-long = length-set ins k x ∙ L .ins-long;
+        backs-long = length-set backs k y ∙ L .backs-long;
+        is-prev = let e : k + 1 ≡ suc k = omega arith in rw e refl;
+        ins-are = put nan (into leg calls) ins k x (omega (arith, L .ins-long)) (ex ∙ ap (λ (p : ℕ). leg p (getD calls k 0)) (L .is-prev)) (L .ins-are);
+        backs-are = put nan (back leg calls) backs k y (omega (arith, L .backs-long)) ey (L .backs-are);
+      }
+
+  pub all-laid : (ins backs : List Float) (prev k : ℕ) → length calls ≤ k → length calls ≤ 128 → Laid leg calls ins backs prev k → LegsOf leg calls ins backs
+  unfolding placeOf
+  all-laid ins backs prev k h few L =
+      record {
+        ins-long = omega (arith, L .ins-long);
+        backs-long = omega (arith, L .backs-long);
+        ins-are = λ j b. L .ins-are (suc j) (omega arith);
+        backs-are = λ j b. L .backs-are j (omega arith);
+      }
+
+  -- the leg into call m of a run along the calls
+  pub leg-into : (ins backs : List Float) (out : Float) (m : ℕ) → LegsOf leg calls ins backs → m < length calls → out ≡ leg 0 (getD calls 0 0)
+      → cond (eqb m 0) out (getD ins m nan) ≡ leg (placeOf calls m) (getD calls m 0)
+  unfolding placeOf
+  leg-into ins backs out zero L h e = e
+  leg-into ins backs out (suc m) L h e = rw (eqb·suc-zero m) (L .ins-are m h)
+
+-- the legs along the calls from i on
+pub legs-from : (leg : ℕ → ℕ → Float) (calls : List ℕ) (ins backs : List Float) (i : ℕ) (st : List ℕ) (xs ys : List Float) → st ≡ drop i calls → xs ≡ drop i ins → ys ≡ drop i backs
+    → LegsOf leg calls ins backs → LegsOf leg st xs ys
+legs-from leg calls ins backs i st xs ys es ex ey L =
+    rw (es, ex, ey)
+    record {
+      ins-long = omega (arith, length-drop i calls, length-drop i ins, L .ins-long);
+      backs-long = omega (arith, length-drop i calls, length-drop i backs, L .backs-long);
+      ins-are = λ k h. let e : i + suc k ≡ suc (i + k) = omega arith in simp (getD-drop, e) (L .ins-are (i + k) (omega (arith, length-drop i calls)));
+      backs-are = λ k h. simp getD-drop (L .backs-are (i + k) (omega (arith, length-drop i calls)));
+    }
+
+-- the part of a list of 128 from i on
+pub part-from : (l : List Float) (i : ℕ) → length l ≡ 128 → take (128 - i) (drop i l) ≡ drop i l
+part-from l i e = take-all (128 - i) (drop i l) (omega (arith, length-drop i l))
+
+-- ---- the row
+
+-- the place that the loop does not keep is that after the calls so far
+pub at-place : {T : Tariff} {st : List ℕ} {i : ℕ} {costs fars : List Float} {preds : List ℕ} {base before : Float} {cost far : List Float} {pred : List ℕ} {load : ℕ} {gone : Float} {prev m : ℕ}
+    → Along T st i costs fars preds base before cost far pred load gone prev m → Along T st i costs fars preds base before cost far pred load gone (placeOf st m) m
+at-place A =
+    record {
+      is-base = A .is-base;
+      is-before = A .is-before;
+      within = A .within;
+      is-load = A .is-load;
+      fits = A .fits;
+      is-gone = A .is-gone;
+      is-prev = refl;
+      filling = A .filling;
+    }

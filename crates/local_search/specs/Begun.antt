@@ -1,0 +1,90 @@
+-- A run whose first calls are fixed: where they leave the bus, and whether these calls and those that follow are a run that is feasible, on floats, in the code's order of sums. Definitions only.
+use Prim.Native.Nat.{ℕ, suc, _≤_}
+use mathlib.Core.Path.{_≡_}
+use mathlib.Core.Bool.{Bool, true, false, cond}
+use mathlib.Core.List.{List, [], _∷_, _++_}
+use mathlib.Core.Option.{Option, none, some}
+use lib.ListN.{length}
+use lib.Ieee as Ieee
+use lib.Ieee.{Float, binary64}
+use Rattle.basics.specs.Options.{_>>=_, given, present}
+use Rattle.definitions.specs.Sheet.{BreakOf, CustomerOf}
+use Rattle.whole.specs.Whole.{fl}
+use Rattle.models.specs.Limits.{allowF}
+use Rattle.evaluation.specs.declared.schedule.Scheduled.{Scheduled}
+use Rattle.evaluation.specs.declared.route.Way.{Way}
+use Rattle.evaluation.specs.Records.{ClockF, clockOf, Tables, LimitsF}
+use Rattle.evaluation.specs.Serving.{startLabel, serveF}
+use Rattle.evaluation.specs.Clock.{begunF, pushF, aliveF}
+use Rattle.evaluation.specs.Tables.{recordF, distanceF, timeF}
+use Rattle.evaluation.specs.Schedule.{endF}
+use Rattle.evaluation.specs.Route.{homewardF, feasibleF}
+use Rattle.local_search.specs.declared.begun.Begun.{Begun}
+use Rattle.local_search.specs.declared.begun.Begun.the-variants.{Failed, Plain, Clock}
+
+-- the calls cannot be served; or the way so far, with no break; or the clock and the distance so far
+pub data BegunF : Type 0 where
+  failed : BegunF
+  plain : Way → BegunF
+  clocked : ClockF → Float → BegunF
+
+abbrev pub begunOf : Begun → BegunF
+begunOf Failed = failed
+begunOf (Plain w) = plain w
+begunOf (Clock c) = clocked (clockOf (c .clock)) (c .distance)
+
+abbrev pub failedF : BegunF → Bool
+failedF failed = true
+failedF (plain w) = false
+failedF (clocked x far) = false
+
+-- the number of the next call, where the clock counts them
+abbrev pub indexF : BegunF → ℕ
+indexF failed = 0
+indexF (plain w) = 0
+indexF (clocked x far) = x .index
+
+-- ---- call by call
+
+-- before the first call
+abbrev pub setOutF : Option (BreakOf Float) → BegunF
+setOutF none = plain (record { distance = fl 0; label = startLabel; prev = 0 })
+setOutF (some b) = clocked (begunF b) (fl 0)
+
+abbrev pub reachedF : Option Way → BegunF
+reachedF none = failed
+reachedF (some w) = plain w
+
+module _ (leg time : ℕ → ℕ → Float) where
+  -- one call more on the way
+  unfoldable pub wayOnF : CustomerOf Float → Way → ℕ → Option Way
+  wayOnF c w cid =
+      serveF c none 0 (time (w .prev) cid) (w .label) >>= λ l. some (record { distance = Ieee.add binary64 (w .distance) (leg (w .prev) cid); label = l; prev = cid })
+
+  -- the way on through these calls
+  unfoldable pub wayThroughF : (ℕ → CustomerOf Float) → Way → List ℕ → Option Way
+  wayThroughF customer w [] = some w
+  wayThroughF customer w (c ∷ cs) = wayOnF (customer c) w c >>= λ v. wayThroughF customer v cs
+
+  -- one call more; a clock with no label left has failed
+  unfoldable pub onF : CustomerOf Float → BegunF → ℕ → BegunF
+  onF c failed cid = failed
+  onF c (plain w) cid = reachedF (wayOnF c w cid)
+  onF c (clocked x far) cid =
+      let y = pushF x cid c (time (x .prev) cid) in
+      cond (aliveF y) (clocked y (Ieee.add binary64 far (leg (x .prev) cid))) failed
+
+-- ---- the run ended by these calls
+
+unfoldable pub endedF : Tables → BegunF → List ℕ → Option Scheduled
+endedF t failed calls = none
+endedF t (plain w) calls = wayThroughF (distanceF t) (timeF t) (recordF t) w calls >>= λ d. some (homewardF t d)
+endedF t (clocked x far) calls = endF t x far calls
+
+unfoldable pub feasibleFromF : Tables → LimitsF → BegunF → List ℕ → Bool
+feasibleFromF t limits b calls = present (endedF t b calls >>= λ s. given (allowF (limits .maxDistance) (limits .maxDuration) (s .distance) (s .duration)) s)
+
+-- these calls lead to b: whatever calls follow, the run is feasible where it is from b on
+pub record Leads (t : Tables) (limits : LimitsF) (calls : List ℕ) (b : BegunF) : Type 0 where
+  pub feasible : (rest : List ℕ) → feasibleF t limits (calls ++ rest) ≡ feasibleFromF t limits b rest
+  pub index : indexF b ≤ suc (length calls)

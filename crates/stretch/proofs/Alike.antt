@@ -1,0 +1,29 @@
+-- Stretches that begin alike: place, load and time of their first calls are the same. Assumes nothing.
+use Prim.Native.Nat.{ℕ, zero, suc, _<_, _≤_}
+use native.Mathlib.Omega.{arith}
+use mathlib.Core.Path.{_≡_, refl, sym, ap, _∙_}
+use mathlib.Core.List.{List}
+use lib.ListN.{getD, take}
+use lib.Seq.{getD-take}
+use Rattle.evaluation.specs.Records.{Tables}
+use Rattle.stretch.specs.Stretch.{placeOf, loadOf}
+use Rattle.stretch.specs.Runs.{timedOf}
+
+module _ (m : ℕ) (st st' : List ℕ) (e : take m st ≡ take m st') where
+  pub call-alike : (k : ℕ) → k < m → getD st k 0 ≡ getD st' k 0
+  call-alike k h = sym (getD-take m st k 0 h) ∙ ap (λ (l : List ℕ). getD l k 0) e ∙ getD-take m st' k 0 h
+
+  pub place-alike : (k : ℕ) → k ≤ m → placeOf st k ≡ placeOf st' k
+  unfolding placeOf
+  place-alike zero h = refl
+  place-alike (suc k) h = call-alike k h
+
+  pub load-alike : (demand : ℕ → ℕ) (k : ℕ) → k ≤ m → loadOf demand st k ≡ loadOf demand st' k
+  unfolding loadOf
+  load-alike demand zero h = refl
+  load-alike demand (suc k) h = rw (load-alike demand k (omega arith), call-alike k h) refl
+
+  pub timed-alike : (t : Tables) (k : ℕ) → k ≤ m → timedOf t st k ≡ timedOf t st' k
+  unfolding timedOf
+  timed-alike t zero h = refl
+  timed-alike t (suc k) h = rw (timed-alike t k (omega arith), place-alike k (omega arith), call-alike k h) refl

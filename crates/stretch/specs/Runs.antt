@@ -1,0 +1,136 @@
+-- The runs along a stretch by windows, limits and break on floats, as the code has them: the clocks of a stretch, the price of a run, and what a row does. Definitions only.
+use Prim.Native.Nat.{ℕ, zero, suc, _-_, _≤_}
+use mathlib.Core.Path.{_≡_}
+use mathlib.Core.Bool.{Bool, cond}
+use mathlib.Core.List.{List, [], _∷_}
+use mathlib.Core.Option.{Option, none, some}
+use lib.ListN.{getD, take}
+use lib.Dec.{eqb}
+use lib.Ieee as Ieee
+use lib.Ieee.{Float, binary64}
+use Rattle.basics.specs.Options.{_>>=_, holds}
+use Rattle.cutting.specs.Drop as Dropping
+use Rattle.definitions.specs.Sheet.{WindowOf, BreakOf, CustomerOf}
+use Rattle.models.specs.declared.customer.Customer.{Customer}
+use Rattle.models.specs.declared.limits.RouteLimits.{RouteLimits}
+use Rattle.models.specs.Records.{restOf, limitOf}
+use Rattle.models.specs.Limits.{allowF}
+use Rattle.models.specs.Window.{lateF}
+use Rattle.whole.specs.Whole.{fl}
+use Rattle.whole.specs.Later.{laterF}
+use Rattle.evaluation.specs.Records.{Tables, LimitsF, ClockF}
+use Rattle.evaluation.specs.Records as Evaluation
+use Rattle.evaluation.specs.Clock.{begunF, finishF}
+use Rattle.evaluation.specs.Tables as Lookup
+use Rattle.evaluation.specs.Tables.{recordF, demandF, timeF}
+use Rattle.evaluation.specs.Schedule.{clockFromF}
+use Rattle.stretch.specs.declared.rows.Timed.{Timed}
+use Rattle.stretch.specs.declared.rows.Visited.{Visited}
+use Rattle.stretch.specs.declared.rows.Visited.the-variants.{Shut, Open}
+use Rattle.stretch.specs.Stretch.{joinedF, placeOf, wayOf}
+use Rattle.stretch.specs.Tariff.{Tariff, RowOf, Ended}
+use Rattle.stretch.specs.Stops.{WorkedOut, LegsAre}
+
+-- ---- what is lent
+
+pub record Instance : Type 0 where
+  pub tables : Tables
+  pub capacity : ℕ
+  -- the cost added for every run
+  pub fixed : Float
+  pub limits : LimitsF
+
+-- over tables, with this break, whatever break the limits have
+abbrev pub overBy : Tables → ℕ → Float → RouteLimits → Option (BreakOf Float) → Instance
+overBy t capacity fixed limits rest =
+    record {
+      tables = t;
+      capacity = capacity;
+      fixed = fixed;
+      limits = record { maxDistance = limitOf (limits .«max_distance»); maxDuration = limitOf (limits .«max_duration»); rest = rest };
+    }
+
+abbrev pub over : Tables → ℕ → Float → RouteLimits → Instance
+over t capacity fixed limits = overBy t capacity fixed limits (restOf (limits .rest))
+
+abbrev pub lent : List Customer → List Float → List Float → ℕ → ℕ → Float → RouteLimits → Instance
+lent customers distances times size capacity fixed limits = over (Evaluation.lent customers distances times size) capacity fixed limits
+
+-- ---- a call without a break, reached at this time with so much lateness cost
+
+abbrev pub visitedOf : Visited → Option Timed
+visitedOf Shut = none
+visitedOf (Open v) = some v
+
+-- late ends the run without a penalty; with one, penalty times lateness is added to the cost
+unfoldable pub chargeF : WindowOf Float → Option Float → Float → Float → Option Float
+chargeF w penalty time late =
+    cond (lateF w time) (penalty >>= λ p. some (Ieee.add binary64 late (Ieee.mul binary64 p (Ieee.sub binary64 time (w .due))))) (some late)
+
+-- then the window's opening is waited for
+unfoldable pub enterF : Option (WindowOf Float) → Option Float → Float → Float → Option Timed
+enterF none penalty time late = some (record { time = time; «late_cost» = late })
+enterF (some w) penalty time late = chargeF w penalty time late >>= λ l. some (record { time = laterF time (w .ready); «late_cost» = l })
+
+-- and the call served
+unfoldable pub visitF : CustomerOf Float → Float → Float → Option Timed
+visitF c time late = enterF (c .window) (c .penalty) time late >>= λ x. some (record { time = Ieee.add binary64 (x .time) (c .service); «late_cost» = x .«late_cost» })
+
+-- ---- the first m calls of a stretch, from the depot at time 0
+
+module _ (t : Tables) (st : List ℕ) where
+  -- without a break
+  unfoldable pub timedOf : ℕ → Option Timed
+  timedOf zero = some (record { time = fl 0; «late_cost» = fl 0 })
+  timedOf (suc m) =
+      timedOf m >>= λ x. visitF (recordF t (getD st m 0)) (joinedF (x .time) (timeF t (placeOf st m) (getD st m 0)) (eqb m 0)) (x .«late_cost»)
+
+  -- with one
+  unfoldable pub clockOf : BreakOf Float → ℕ → ClockF
+  clockOf b m = clockFromF t (begunF b) (take m st)
+
+-- home: how long a run takes, and what is paid for lateness
+pub record End : Type 0 where
+  pub duration : Float
+  pub pay : Float
+
+module _ (t : Tables) (st : List ℕ) (m : ℕ) where
+  -- the leg home is the last
+  abbrev pub backTime : Float
+  backTime = timeF t (placeOf st m) 0
+
+  unfoldable pub endOf : Option (BreakOf Float) → Option End
+  endOf none = timedOf t st m >>= λ x. some (record { duration = Ieee.add binary64 (x .time) backTime; pay = x .«late_cost» })
+  endOf (some b) = finishF (wayOf (Lookup.distanceF t) st m) backTime (clockOf t st b m) >>= λ s. some (record { duration = s .duration; pay = s .cost })
+
+abbrev pub payOf : Option End → Float
+payOf none = fl 0
+payOf (some e) = e .pay
+
+-- ---- the price of a run
+
+module _ (I : Instance) where
+  -- its clock gives an end, and its totals are allowed
+  unfoldable pub allowedF : List ℕ → ℕ → Bool
+  allowedF st m =
+      holds (endOf (I .tables) st m (I .limits .rest))
+      (λ e. allowF (I .limits .maxDistance) (I .limits .maxDuration) (wayOf (Lookup.distanceF (I .tables)) st m) (e .duration))
+
+  unfoldable pub payF : List ℕ → ℕ → Float
+  payF st m = payOf (endOf (I .tables) st m (I .limits .rest))
+
+  abbrev pub tariff : Tariff
+  tariff =
+      record {
+        demand = demandF (I .tables .customers);
+        capacity = I .capacity;
+        leg = Lookup.distanceF (I .tables);
+        fixed = I .fixed;
+        allowed = allowedF;
+        pays = λ st m. payF st m ∷ [];
+      }
+
+-- what a row over number lists does, and how many calls it goes over, for whatever tables the lists are worked out from
+unfoldable pub Rowed : (Tables → Instance) → List ℕ → List Float → List Float → List ℕ → List Float → ℕ → List Float → List Float → List ℕ → List Float → List Float → List ℕ → ℕ → Type 0
+Rowed I st legs times codes figures i cost dist pred cost' dist' pred' r =
+    (t : Tables) → WorkedOut t codes figures → LegsAre t st legs times → RowOf (tariff (I t)) st i cost dist pred cost' dist' pred' × Ended (tariff (I t)) st r

@@ -1,0 +1,249 @@
+// Row i of the table of the cut by windows, limits and break (ga/split_tw.rs): the runs that start at call i.
+ghost use mathlib.Core.Path.{_≡_};
+ghost use mathlib.Core.Bool.{cond};
+ghost use mathlib.Core.Option.{none, some};
+ghost use Prim.Native.Nat.{_+_, _<_, _≤_};
+ghost use lib.Dec.{eqb};
+ghost use lib.Ieee.{nan};
+ghost use lib.ListN.{length, getD};
+ghost use Rattle.models.specs.Records.{openingOf, penaltyOf, customerOf, breakOf};
+ghost use Rattle.stretch.specs.Runs.{visitedOf, enterF, visitF, overBy, over, Rowed};
+ghost use Rattle.stretch.specs.Stops.{Below64};
+use crate::stops::stop_at;
+use crate::way::joined;
+use evaluation::schedule::BreakClock;
+use evaluation::schedule::Finished;
+use models::customer::Customer;
+use models::customer::Opening;
+use models::customer::Penalty;
+use models::limits::RouteLimits;
+use models::load::fits;
+use models::load::wide;
+use models::vehicle::Rest;
+use models::vehicle::VehicleBreak;
+use table::cells::offer;
+use whole::later;
+
+// The time on the way through a run without a break, and what its lateness costs so far.
+pub struct Timed {
+    pub time: f64,
+    pub late_cost: f64,
+}
+
+// A window that ends the run, or the way on.
+pub enum Visited {
+    Shut,
+    Open(Timed),
+}
+
+// Late ends the run without a penalty, and costs with one; then the window's opening is waited for.
+pub fn enter(opening: Opening, penalty: Penalty, time: f64, late_cost: f64) -> Visited
+    ensures { λ r. ⌜ visitedOf r ≡ enterF (openingOf opening) (penaltyOf penalty) time «late_cost» ⌝ }
+{
+    let Opening::Window(window) = opening else {
+        return Visited::Open(Timed { time, late_cost });
+    };
+    let start = later(time, window.ready);
+    if !window.is_violated(time) {
+        return Visited::Open(Timed {
+            time: start,
+            late_cost,
+        });
+    }
+    match penalty {
+        Penalty::Hard => Visited::Shut,
+        Penalty::Soft(p) => Visited::Open(Timed {
+            time: start,
+            late_cost: late_cost + p * (time - window.due),
+        }),
+    }
+}
+
+// A call that is reached at this time: its window, and its service.
+pub fn visit(customer: Customer, time: f64, late_cost: f64) -> Visited
+    ensures { λ r. ⌜ visitedOf r ≡ visitF (customerOf customer) time «late_cost» ⌝ }
+{
+    let opening = customer.time_window;
+    let penalty = customer.lateness_penalty;
+    let Visited::Open(v) = enter(opening, penalty, time, late_cost) else {
+        return Visited::Shut;
+    };
+    Visited::Open(Timed {
+        time: v.time + customer.service_duration,
+        late_cost: v.late_cost,
+    })
+}
+
+// The leg to call number m of a stretch: from the depot to the first, and else from the call before it.
+fn leg_to(legs: &[f64], out: f64, m: usize) -> f64
+    requires { ⌜ m < length (now legs) ⌝ }
+    ensures { λ r. ⌜ r ≡ cond (eqb m 0) out (getD (now (legs .entry)) m nan) ⌝ }
+{
+    if m == 0 { out } else { legs[m] }
+}
+
+// Row i without a break: the runs along the stretch that starts at call i, each after the best of the calls before it. Gives how many calls the row goes over; no run that goes on from there is legal.
+pub fn plain_row(
+    cost: &mut [f64; 129],
+    dist: &mut [f64; 129],
+    pred: &mut [usize; 129],
+    stretch: &[usize],
+    legs: &[f64],
+    time_legs: &[f64],
+    codes: &[u32],
+    figures: &[f64],
+    capacity: u32,
+    fixed: f64,
+    limits: RouteLimits,
+    i: usize,
+) -> usize
+    requires { ⌜ (length (now cost) ≡ 129) × (length (now dist) ≡ 129) × (length (now pred) ≡ 129) ⌝ }
+    requires { ⌜ (i + length (now stretch) ≤ 128) × Below64 (now stretch) ⌝ }
+    requires { ⌜ (length (now stretch) ≤ length (now legs)) × (length (now stretch) ≤ length (now «time_legs»)) × (length (now codes) ≡ 192) × (length (now figures) ≡ 512) ⌝ }
+    ensures { λ r. ⌜ Rowed (λ t. overBy t capacity fixed limits none) (now (stretch .entry)) (now (legs .entry)) (now («time_legs» .entry)) (now (codes .entry)) (now (figures .entry)) i (now (cost .entry)) (now (dist .entry)) (now (pred .entry)) (now (cost .exit)) (now (dist .exit)) (now (pred .exit)) r ⌝ }
+    ensures { λ r. ⌜ r ≤ length (now (stretch .entry)) ⌝ }
+{
+    let base = cost[i] + fixed;
+    let before = dist[i];
+    let mut load: u64 = 0;
+    let mut gone = 0.0;
+    let mut time = 0.0;
+    let mut late_cost = 0.0;
+    let mut m = 0;
+    while m < stretch.len() {
+        let cid = stretch[m];
+        let stop = stop_at(codes, figures, cid);
+        let customer = stop.customer;
+        load += wide(customer.demand);
+        if !fits(load, capacity) {
+            return m;
+        }
+        gone = joined(gone, leg_to(legs, stop.out, m), m == 0);
+        let arrival = joined(time, leg_to(time_legs, stop.time_out, m), m == 0);
+        let Visited::Open(v) = visit(customer, arrival, late_cost) else {
+            return m;
+        };
+        time = v.time;
+        late_cost = v.late_cost;
+        m += 1;
+        let total = gone + stop.back;
+        if !limits.allow(total, time + stop.time_back) {
+            continue;
+        }
+        let new = base + total + late_cost;
+        let far = before + total;
+        offer(&mut *cost, &mut *dist, &mut *pred, i + m, i, new, far);
+    }
+    m
+}
+
+// Row i with a break: the clock grows along the stretch, a call at a time.
+pub fn rest_row(
+    cost: &mut [f64; 129],
+    dist: &mut [f64; 129],
+    pred: &mut [usize; 129],
+    stretch: &[usize],
+    legs: &[f64],
+    time_legs: &[f64],
+    codes: &[u32],
+    figures: &[f64],
+    capacity: u32,
+    fixed: f64,
+    limits: RouteLimits,
+    rest: VehicleBreak,
+    i: usize,
+) -> usize
+    requires { ⌜ (length (now cost) ≡ 129) × (length (now dist) ≡ 129) × (length (now pred) ≡ 129) ⌝ }
+    requires { ⌜ (i + length (now stretch) ≤ 128) × Below64 (now stretch) ⌝ }
+    requires { ⌜ (length (now stretch) ≤ length (now legs)) × (length (now stretch) ≤ length (now «time_legs»)) × (length (now codes) ≡ 192) × (length (now figures) ≡ 512) ⌝ }
+    ensures { λ r. ⌜ Rowed (λ t. overBy t capacity fixed limits (some (breakOf rest))) (now (stretch .entry)) (now (legs .entry)) (now («time_legs» .entry)) (now (codes .entry)) (now (figures .entry)) i (now (cost .entry)) (now (dist .entry)) (now (pred .entry)) (now (cost .exit)) (now (dist .exit)) (now (pred .exit)) r ⌝ }
+    ensures { λ r. ⌜ r ≤ length (now (stretch .entry)) ⌝ }
+{
+    let base = cost[i] + fixed;
+    let before = dist[i];
+    let mut load: u64 = 0;
+    let mut gone = 0.0;
+    let mut clock = BreakClock::new(rest);
+    let mut m = 0;
+    while m < stretch.len() {
+        let cid = stretch[m];
+        let stop = stop_at(codes, figures, cid);
+        let customer = stop.customer;
+        load += wide(customer.demand);
+        if !fits(load, capacity) {
+            return m;
+        }
+        gone = joined(gone, leg_to(legs, stop.out, m), m == 0);
+        clock = clock.push(cid, customer, leg_to(time_legs, stop.time_out, m));
+        if !clock.alive() {
+            return m;
+        }
+        m += 1;
+        let total = gone + stop.back;
+        let Finished::Home(done) = clock.finish(total, stop.time_back) else {
+            continue;
+        };
+        if !limits.allow(total, done.duration) {
+            continue;
+        }
+        let new = base + total + done.cost;
+        let far = before + total;
+        offer(&mut *cost, &mut *dist, &mut *pred, i + m, i, new, far);
+    }
+    m
+}
+
+// Row i, with the break of the limits or without one.
+pub fn row(
+    cost: &mut [f64; 129],
+    dist: &mut [f64; 129],
+    pred: &mut [usize; 129],
+    stretch: &[usize],
+    legs: &[f64],
+    time_legs: &[f64],
+    codes: &[u32],
+    figures: &[f64],
+    capacity: u32,
+    fixed: f64,
+    limits: RouteLimits,
+    i: usize,
+) -> usize
+    requires { ⌜ (length (now cost) ≡ 129) × (length (now dist) ≡ 129) × (length (now pred) ≡ 129) ⌝ }
+    requires { ⌜ (i + length (now stretch) ≤ 128) × Below64 (now stretch) ⌝ }
+    requires { ⌜ (length (now stretch) ≤ length (now legs)) × (length (now stretch) ≤ length (now «time_legs»)) × (length (now codes) ≡ 192) × (length (now figures) ≡ 512) ⌝ }
+    ensures { λ r. ⌜ Rowed (λ t. over t capacity fixed limits) (now (stretch .entry)) (now (legs .entry)) (now («time_legs» .entry)) (now (codes .entry)) (now (figures .entry)) i (now (cost .entry)) (now (dist .entry)) (now (pred .entry)) (now (cost .exit)) (now (dist .exit)) (now (pred .exit)) r ⌝ }
+    ensures { λ r. ⌜ r ≤ length (now (stretch .entry)) ⌝ }
+{
+    let rest = limits.rest;
+    match rest {
+        Rest::Unbroken => plain_row(
+            &mut *cost,
+            &mut *dist,
+            &mut *pred,
+            stretch,
+            legs,
+            time_legs,
+            codes,
+            figures,
+            capacity,
+            fixed,
+            limits,
+            i,
+        ),
+        Rest::Break(b) => rest_row(
+            &mut *cost,
+            &mut *dist,
+            &mut *pred,
+            stretch,
+            legs,
+            time_legs,
+            codes,
+            figures,
+            capacity,
+            fixed,
+            limits,
+            b,
+            i,
+        ),
+    }
+}

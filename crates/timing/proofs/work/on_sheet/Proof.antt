@@ -1,0 +1,81 @@
+-- `work::on_sheet` meets its contract. Assumes nothing.
+use denote.Ref.{now}
+use Rattle.plan_listing.proofs.Loading.{far-inside, far-counted, long-inside, long-counted, calls-inside, calls-counted}
+use Rattle.timing.proofs.Sheets.{callable, repeated-on}
+use borrow.Author.Needs.{needs}
+use Rattle.timing.proofs.work.on_sheet.Statement.{statement}
+use Rattle.timing.proofs.work.on_sheet.Tie as tie
+
+load-requires : tie.Need-load-requires
+load-requires c κs = search needs
+
+array-share-prefix-tour : tie.Need-array-share-prefix-tour
+array-share-prefix-tour c =
+    let x = c .before .before in
+    let q = x .before .before .before .before .before .pre in
+    let H = x .load .ensures (q .0) (q .1) (q .2) in
+    calls-inside H
+
+slice-aggregate-repeated : tie.Need-slice-aggregate-repeated
+slice-aggregate-repeated c =
+    let x = c .before .before .before in
+    let q = x .before .before .before .before .before .pre in
+    let H = x .load .ensures (q .0) (q .1) (q .2) in
+    calls-counted H
+
+array-share-prefix-distances : tie.Need-array-share-prefix-distances
+array-share-prefix-distances c =
+    let x = c .before .before .before in
+    let q = x .before .before .before .before .before .pre in
+    let H = x .load .ensures (q .0) (q .1) (q .2) in
+    far-inside H
+
+slice-aggregate-repeated-2 : tie.Need-slice-aggregate-repeated-2
+slice-aggregate-repeated-2 c =
+    let x = c .before .before .before .before in
+    let q = x .before .before .before .before .before .pre in
+    let H = x .load .ensures (q .0) (q .1) (q .2) in
+    far-counted H
+
+array-share-prefix-times : tie.Need-array-share-prefix-times
+array-share-prefix-times c =
+    let x = c .before .before .before .before in
+    let q = x .before .before .before .before .before .pre in
+    let H = x .load .ensures (q .0) (q .1) (q .2) in
+    long-inside H
+
+slice-aggregate-repeated-3 : tie.Need-slice-aggregate-repeated-3
+slice-aggregate-repeated-3 c =
+    let x = c .before .before .before .before .before in
+    let q = x .before .before .before .before .before .pre in
+    let H = x .load .ensures (q .0) (q .1) (q .2) in
+    long-counted H
+
+repeated-requires : tie.Need-repeated-requires
+repeated-requires c κs =
+    let x = c .before .before .before .before .before in
+    let q = x .before .before .before .before .before .pre in
+    let H = x .load .ensures (q .0) (q .1) (q .2) in
+    callable H
+
+returns : tie.Need-returns
+returns c =
+    let x = c .before .before .before .before .before .before in
+    let q = x .before .before .before .before .before .pre in
+    let H = x .load .ensures (q .0) (q .1) (q .2) in
+    let a = x .before .before .before .before .before .args in
+    repeated-on H (now (a .bytes)) (q .2) (c .repeated .result) (a .work) (a .n) (c .repeated .ensures)
+
+pub on-sheet-spec : {M : Type 1} → statement M
+on-sheet-spec =
+    tie.close
+    (tie.spec
+    load-requires
+    array-share-prefix-tour
+    slice-aggregate-repeated
+    array-share-prefix-distances
+    slice-aggregate-repeated-2
+    array-share-prefix-times
+    slice-aggregate-repeated-3
+    repeated-requires
+    returns)

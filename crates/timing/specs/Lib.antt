@@ -1,0 +1,3 @@
+-- What the contracts of the timed calls cite.
+pub mod Every
+pub mod Work

@@ -1,0 +1,263 @@
+// Work done a number of times on a sheet that is read once.
+ghost use mathlib.Core.Path.{_≡_};
+ghost use Rattle.ga.specs.Split as Split;
+ghost use Rattle.ga.specs.Split.{splitF};
+ghost use Rattle.stretch.specs.Runs.{lent};
+ghost use Rattle.definitions.specs.Reader as Reader;
+ghost use Rattle.plan_listing.specs.Held.{Accepted};
+ghost use Rattle.timing.specs.Work.{Callable, splitTwCost, reversedDistance, runsLeft, workF, lastOf, timed};
+use crate::every::write_every;
+use elimination::route_elimination::eliminate_routes;
+use ga::split::split;
+use ga::split_tw::split_tw;
+use local_search::search::search_of;
+use local_search::two_opt::two_opt_improve;
+use models::customer::Customer;
+use models::head::Head;
+use plan_listing::held::load;
+use sheet::read::Reading;
+use sheet::read::read;
+
+pub enum Work {
+    SplitTw,
+    Split,
+    // The tour as one run.
+    TwoOpt,
+    // The tour cut into runs of so many calls.
+    Eliminate(usize),
+}
+
+// The cost of the cut by capacity, windows, limits and break.
+fn split_tw_cost(
+    tour: &[usize],
+    head: Head,
+    customers: [Customer; 64],
+    distances: &[f64],
+    times: &[f64],
+    served: &mut [usize; 128],
+    ends: &mut [usize; 128],
+    dropped: &mut [usize; 128],
+) -> f64
+    requires { ⌜ Callable (now tour) ⌝ }
+    ensures { λ r. ⌜ r ≡ splitTwCost (lent customers (now (distances .entry)) (now (times .entry)) (head .places) (head .capacity) (head .«fixed_cost») (head .limits)) (now (tour .entry)) ⌝ }
+{
+    let cut = split_tw(
+        tour,
+        customers,
+        distances,
+        times,
+        head.places,
+        head.capacity,
+        head.fixed_cost,
+        head.limits,
+        &mut *served,
+        &mut *ends,
+        &mut *dropped,
+    );
+    cut.cost
+}
+
+// The cost of the cut by capacity alone.
+fn split_cost(
+    tour: &[usize],
+    head: Head,
+    customers: [Customer; 64],
+    distances: &[f64],
+    served: &mut [usize; 128],
+    ends: &mut [usize; 128],
+    dropped: &mut [usize; 128],
+) -> f64
+    requires { ⌜ Callable (now tour) ⌝ }
+    ensures { λ r. ⌜ r ≡ splitF (Split.lent customers (now (distances .entry)) (head .places) (head .capacity) (head .«fixed_cost»)) (now (tour .entry)) .cost ⌝ }
+{
+    let cut = split(
+        tour,
+        customers,
+        distances,
+        head.places,
+        head.capacity,
+        head.fixed_cost,
+        &mut *served,
+        &mut *ends,
+        &mut *dropped,
+    );
+    cut.cost
+}
+
+// The distance of the tour after the reversals.
+fn reversed_distance(
+    tour: &[usize],
+    head: Head,
+    customers: [Customer; 64],
+    distances: &[f64],
+    times: &[f64],
+    current: &mut [usize; 128],
+) -> f64
+    requires { ⌜ Callable (now tour) ⌝ }
+    ensures { λ r. ⌜ r ≡ reversedDistance (lent customers (now (distances .entry)) (now (times .entry)) (head .places) (head .capacity) (head .«fixed_cost») (head .limits)) (now (tour .entry)) ⌝ }
+{
+    let search = search_of(customers, distances, head.places, head.limits);
+    two_opt_improve(
+        tour,
+        customers,
+        distances,
+        times,
+        head.places,
+        search,
+        &mut *current,
+    )
+}
+
+// How many runs are left of those of so many calls.
+fn runs_left(
+    run: usize,
+    tour: &[usize],
+    head: Head,
+    customers: [Customer; 64],
+    distances: &[f64],
+    times: &[f64],
+    calls: &mut [usize; 128],
+    ends: &mut [usize; 128],
+) -> f64
+    requires { ⌜ Callable (now tour) ⌝ }
+    ensures { λ r. ⌜ r ≡ runsLeft run (lent customers (now (distances .entry)) (now (times .entry)) (head .places) (head .capacity) (head .«fixed_cost») (head .limits)) (now (tour .entry)) ⌝ }
+{
+    let mut given = [0usize; 128];
+    let many = write_every(tour.len(), run, &mut given);
+    let search = search_of(customers, distances, head.places, head.limits);
+    let left = eliminate_routes(
+        tour,
+        &given[..many],
+        customers,
+        distances,
+        times,
+        head.places,
+        head.capacity,
+        head.fixed_cost,
+        search.limits,
+        search.constrained,
+        search.floor,
+        &mut *calls,
+        &mut *ends,
+    );
+    std::num::nearest_u64_to_f64(left.runs as u64)
+}
+
+// One round. The arrays are for what the work writes.
+fn once(
+    work: Work,
+    tour: &[usize],
+    head: Head,
+    customers: [Customer; 64],
+    distances: &[f64],
+    times: &[f64],
+    first: &mut [usize; 128],
+    second: &mut [usize; 128],
+    third: &mut [usize; 128],
+) -> f64
+    requires { ⌜ Callable (now tour) ⌝ }
+    ensures { λ r. ⌜ r ≡ workF work (lent customers (now (distances .entry)) (now (times .entry)) (head .places) (head .capacity) (head .«fixed_cost») (head .limits)) (now (tour .entry)) ⌝ }
+{
+    match work {
+        Work::SplitTw => split_tw_cost(
+            tour,
+            head,
+            customers,
+            distances,
+            times,
+            &mut *first,
+            &mut *second,
+            &mut *third,
+        ),
+        Work::Split => split_cost(
+            tour,
+            head,
+            customers,
+            distances,
+            &mut *first,
+            &mut *second,
+            &mut *third,
+        ),
+        Work::TwoOpt => reversed_distance(tour, head, customers, distances, times, &mut *first),
+        Work::Eliminate(run) => runs_left(
+            run,
+            tour,
+            head,
+            customers,
+            distances,
+            times,
+            &mut *first,
+            &mut *second,
+        ),
+    }
+}
+
+// What the last of n rounds gives.
+fn repeated(
+    n: u32,
+    work: Work,
+    tour: &[usize],
+    head: Head,
+    customers: [Customer; 64],
+    distances: &[f64],
+    times: &[f64],
+) -> f64
+    requires { ⌜ Callable (now tour) ⌝ }
+    ensures { λ r. ⌜ r ≡ lastOf n (workF work (lent customers (now (distances .entry)) (now (times .entry)) (head .places) (head .capacity) (head .«fixed_cost») (head .limits)) (now (tour .entry))) ⌝ }
+{
+    let mut first = [0usize; 128];
+    let mut second = [0usize; 128];
+    let mut third = [0usize; 128];
+    let mut given = 0.0;
+    let mut k: u32 = 0;
+    while k < n {
+        given = once(
+            work,
+            tour,
+            head,
+            customers,
+            distances,
+            times,
+            &mut first,
+            &mut second,
+            &mut third,
+        );
+        k += 1;
+    }
+    given
+}
+
+// The same on an accepted sheet.
+fn on_sheet(bytes: &[u8], work: Work, n: u32) -> f64
+    requires { ⌜ Accepted (now bytes) ⌝ }
+    ensures { λ r. ⌜ r ≡ timed work n (Reader.read (now (bytes .entry))) ⌝ }
+{
+    let mut distances = [0.0; 4096];
+    let mut times = [0.0; 4096];
+    let mut tour = [0usize; 128];
+    let l = load(bytes, &mut distances, &mut times, &mut tour);
+    let far = l.far;
+    let long = l.long;
+    let calls = l.calls;
+    let head = l.head;
+    let customers = l.customers;
+    repeated(
+        n,
+        work,
+        &tour[..calls],
+        head,
+        customers,
+        &distances[..far],
+        &times[..long],
+    )
+}
+
+// The same on any bytes: 0 where they are refused.
+pub fn on_bytes(bytes: &[u8], work: Work, n: u32) -> f64
+    ensures { λ r. ⌜ r ≡ timed work n (Reader.read (now (bytes .entry))) ⌝ }
+{
+    match read(bytes) {
+        Reading::Refused(_, _) => 0.0,
+        Reading::Sheet(_) => on_sheet(bytes, work, n),
+    }
+}

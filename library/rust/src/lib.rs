@@ -1,0 +1,199 @@
+//! Safe calls of the proved route planner: a sheet's bytes go in, and a plan, a mark or better runs come out, or a refusal.
+//!
+//! What the functions mean, and how a sheet is written, is told in `lizsomdur.h` beside this package.
+mod raw;
+mod verdict;
+
+pub use verdict::Verdict;
+
+/// The most calls that a sheet has, and so the most runs.
+pub const CALLS: usize = 128;
+
+/// Why nothing was answered, by the number that `lizsomdur.h` lists.
+#[derive(Clone, Copy, Debug, PartialEq, Eq)]
+pub struct Refusal {
+    pub number: u32,
+    /// The index of the bad word, from 0, where the sheet itself is at fault.
+    pub word: Option<usize>,
+}
+
+/// A run: its calls and, where it has one, its break.
+#[derive(Clone, Debug, PartialEq, Eq)]
+pub struct Run {
+    pub calls: Vec<usize>,
+    pub rest: Option<Rest>,
+}
+
+/// A driver's break.
+#[derive(Clone, Copy, Debug, PartialEq, Eq)]
+pub struct Rest {
+    /// The number of the call, from 1, before whose service it is taken.
+    pub place: usize,
+    pub start: u64,
+}
+
+/// A sheet's calls, cut at least cost.
+#[derive(Clone, Debug, PartialEq, Eq)]
+pub struct Plan {
+    pub runs: Vec<Run>,
+    /// The positions of the dropped calls, from 1, in the order in which they are dropped.
+    pub dropped: Vec<usize>,
+    pub cost: u64,
+    pub distance: u64,
+}
+
+/// No word: what stands there until a bad word is named.
+const NO_WORD: usize = usize::MAX;
+
+/// The planner's numbers are whole and below 2^53.
+fn whole(x: f64) -> u64 {
+    x as u64
+}
+
+fn unless_refused(number: u32, word: usize) -> Result<(), Refusal> {
+    match number {
+        0 => Ok(()),
+        _ => Err(Refusal {
+            number,
+            word: (word != NO_WORD).then_some(word),
+        }),
+    }
+}
+
+/// The stretches of a list up to each end.
+fn stretches<'a>(list: &'a [usize], ends: &'a [usize]) -> impl Iterator<Item = Vec<usize>> + 'a {
+    let starts = std::iter::once(0).chain(ends.iter().copied());
+    starts
+        .zip(ends)
+        .map(|(start, &end)| list[start..end].to_vec())
+}
+
+/// Runs as one list of calls, and the end of each run.
+fn joined<'a>(runs: impl Iterator<Item = &'a [usize]>) -> (Vec<usize>, Vec<usize>) {
+    let (mut calls, mut ends) = (Vec::new(), Vec::new());
+    for run in runs {
+        calls.extend_from_slice(run);
+        ends.push(calls.len());
+    }
+    (calls, ends)
+}
+
+/// Cuts a sheet's calls into runs at least cost.
+pub fn plan(sheet: &[u8]) -> Result<Plan, Refusal> {
+    let (mut served, mut ends) = ([0; CALLS], [0; CALLS]);
+    let (mut places, mut starts) = ([0; CALLS], [0.0; CALLS]);
+    let mut dropped = [0; CALLS];
+    let (mut counts, mut totals) = ([0; 3], [0.0; 2]);
+    let mut word = NO_WORD;
+    // SAFETY: each list goes with its length, and none overlaps another.
+    let number = unsafe {
+        raw::lizsomdur_plan(
+            sheet.as_ptr(),
+            sheet.len(),
+            served.as_mut_ptr(),
+            CALLS,
+            ends.as_mut_ptr(),
+            CALLS,
+            places.as_mut_ptr(),
+            CALLS,
+            starts.as_mut_ptr(),
+            CALLS,
+            dropped.as_mut_ptr(),
+            CALLS,
+            &mut counts,
+            &mut totals,
+            &mut word,
+        )
+    };
+    unless_refused(number, word)?;
+    let breaks = places.iter().zip(&starts).map(|(&place, &start)| {
+        (place > 0).then_some(Rest {
+            place,
+            start: whole(start),
+        })
+    });
+    Ok(Plan {
+        runs: stretches(&served, &ends[..counts[1]])
+            .zip(breaks)
+            .map(|(calls, rest)| Run { calls, rest })
+            .collect(),
+        dropped: dropped[..counts[2]].to_vec(),
+        cost: whole(totals[0]),
+        distance: whole(totals[1]),
+    })
+}
+
+/// Marks runs against the planner's own; of a run's break only its place is read.
+pub fn mark(sheet: &[u8], runs: &[Run]) -> Result<Verdict, Refusal> {
+    let (calls, ends) = joined(runs.iter().map(|run| &run.calls[..]));
+    let places: Vec<usize> = runs
+        .iter()
+        .map(|run| run.rest.map_or(0, |rest| rest.place))
+        .collect();
+    let (mut word, mut verdict, mut values) = (NO_WORD, 0, [0.0; 5]);
+    // SAFETY: each list goes with its length, and none overlaps another.
+    let number = unsafe {
+        raw::lizsomdur_mark(
+            sheet.as_ptr(),
+            sheet.len(),
+            calls.as_ptr(),
+            calls.len(),
+            ends.as_ptr(),
+            ends.len(),
+            places.as_ptr(),
+            places.len(),
+            &mut word,
+            &mut verdict,
+            &mut values,
+        )
+    };
+    unless_refused(number, word)?;
+    Ok(Verdict::from_number(verdict, values.map(whole)))
+}
+
+/// Turns stretches of a run's calls around while that shortens it and it stays allowed: the run, and its distance.
+pub fn reverse(sheet: &[u8], run: &[usize]) -> Result<(Vec<usize>, u64), Refusal> {
+    let mut improved = vec![0; run.len()];
+    let (mut word, mut distance) = (NO_WORD, 0.0);
+    // SAFETY: each list goes with its length, and none overlaps another.
+    let number = unsafe {
+        raw::lizsomdur_reverse(
+            sheet.as_ptr(),
+            sheet.len(),
+            run.as_ptr(),
+            run.len(),
+            improved.as_mut_ptr(),
+            improved.len(),
+            &mut word,
+            &mut distance,
+        )
+    };
+    unless_refused(number, word)?;
+    Ok((improved, whole(distance)))
+}
+
+/// Empties runs into the others where that lowers the cost: the runs that are left.
+pub fn eliminate(sheet: &[u8], runs: &[Vec<usize>]) -> Result<Vec<Vec<usize>>, Refusal> {
+    let (calls, ends) = joined(runs.iter().map(|run| &run[..]));
+    let (mut left_calls, mut left_ends) = (vec![0; calls.len()], vec![0; ends.len()]);
+    let (mut word, mut counts) = (NO_WORD, [0; 2]);
+    // SAFETY: each list goes with its length, and none overlaps another.
+    let number = unsafe {
+        raw::lizsomdur_eliminate(
+            sheet.as_ptr(),
+            sheet.len(),
+            calls.as_ptr(),
+            calls.len(),
+            ends.as_ptr(),
+            ends.len(),
+            left_calls.as_mut_ptr(),
+            left_calls.len(),
+            left_ends.as_mut_ptr(),
+            left_ends.len(),
+            &mut word,
+            &mut counts,
+        )
+    };
+    unless_refused(number, word)?;
+    Ok(stretches(&left_calls, &left_ends[..counts[1]]).collect())
+}

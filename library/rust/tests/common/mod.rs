@@ -1,0 +1,67 @@
+//! Recorded questions with the original Rust planner's answers, and sheets in words.
+#![allow(dead_code)]
+use std::path::Path;
+
+/// Each question with its answer: those in the repository and, where the variable names a file, those in it.
+pub fn records(kept: &str, variable: &str) -> Vec<(Vec<u8>, String)> {
+    let kept = Path::new(env!("CARGO_MANIFEST_DIR"))
+        .join("../../crates")
+        .join(kept);
+    let mut bytes = std::fs::read(kept).expect("recorded answers");
+    if let Some(more) = std::env::var_os(variable) {
+        bytes.extend(std::fs::read(more).expect("more recorded answers"));
+    }
+    let mut rest = &bytes[..];
+    let mut records = Vec::new();
+    while !rest.is_empty() {
+        let question = part(&mut rest).to_vec();
+        let answer = String::from_utf8(part(&mut rest).to_vec()).expect("text");
+        records.push((question, answer));
+    }
+    records
+}
+
+/// The next part of a record, behind its length.
+fn part<'a>(rest: &mut &'a [u8]) -> &'a [u8] {
+    let (length, after) = rest.split_at(4);
+    let length = u32::from_le_bytes(length.try_into().expect("four bytes")) as usize;
+    let (part, after) = after.split_at(length);
+    *rest = after;
+    part
+}
+
+pub fn words(sheet: &[u8]) -> Vec<u32> {
+    sheet
+        .chunks_exact(4)
+        .map(|b| u32::from_le_bytes(b.try_into().expect("four bytes")))
+        .collect()
+}
+
+pub fn bytes(words: &[u32]) -> Vec<u8> {
+    words.iter().flat_map(|w| w.to_le_bytes()).collect()
+}
+
+pub fn kind(word: u32) -> u32 {
+    word >> 28
+}
+
+/// The customers of a sheet's calls.
+pub fn tour(sheet: &[u8]) -> Vec<usize> {
+    let value = |w: u32| (w & 0x0FFF_FFFF) as usize;
+    words(sheet)
+        .into_iter()
+        .filter(|&w| kind(w) == 0xE)
+        .map(value)
+        .collect()
+}
+
+/// The sheet with other calls.
+pub fn with_tour(sheet: &[u8], calls: &[usize]) -> Vec<u8> {
+    let mut kept: Vec<u32> = words(sheet)
+        .into_iter()
+        .filter(|&w| kind(w) < 0xE)
+        .collect();
+    kept.extend(calls.iter().map(|&c| 0xE000_0000 | c as u32));
+    kept.push(0xF000_0000 | kept.len() as u32);
+    bytes(&kept)
+}

@@ -1,0 +1,69 @@
+//! Reversed runs and runs left by elimination, beside the original Rust planner's.
+mod common;
+use common::{kind, records, tour, words};
+use lizsomdur::{eliminate, reverse, Refusal};
+
+/// A recorded question: a sheet, and the ends of runs of its calls.
+fn question(bytes: &[u8]) -> (&[u8], Vec<Vec<usize>>) {
+    let end = words(bytes)
+        .iter()
+        .position(|&w| kind(w) == 0xF)
+        .expect("a sheet");
+    let (sheet, ends) = bytes.split_at(4 * (end + 1));
+    let calls = tour(sheet);
+    let ends: Vec<usize> = ends[1..].iter().map(|&e| e.into()).collect();
+    let starts = std::iter::once(0).chain(ends.iter().copied());
+    let runs = starts.zip(&ends).map(|(a, &b)| calls[a..b].to_vec());
+    (sheet, runs.collect())
+}
+
+/// The numbers of the answer's lines that begin with this word.
+fn lines(answer: &str, word: &str) -> Vec<Vec<usize>> {
+    answer
+        .lines()
+        .filter_map(|line| line.strip_prefix(word))
+        .map(|rest| {
+            rest.split_whitespace()
+                .map(|n| n.parse().expect("a number"))
+                .collect()
+        })
+        .collect()
+}
+
+/// Lateness is paid where a customer has a window and a penalty.
+fn pays(sheet: &[u8]) -> bool {
+    words(sheet)
+        .windows(2)
+        .any(|pair| kind(pair[0]) == 0xA && kind(pair[1]) == 0xB)
+}
+
+#[test]
+fn improved_runs_are_the_recorded_ones() {
+    let records = records("replay_runs/stdin", "LIZSOMDUR_RUNS");
+    assert!(records.len() >= 300);
+    let mut improved = 0;
+    for (number, (bytes, answer)) in records.iter().enumerate() {
+        let (sheet, runs) = question(bytes);
+        if pays(sheet) {
+            let refused = Refusal {
+                number: 4,
+                word: None,
+            };
+            assert_eq!(reverse(sheet, &[]), Err(refused), "question {number}");
+            assert_eq!(eliminate(sheet, &runs), Err(refused), "question {number}");
+            continue;
+        }
+        let reversed: Vec<Vec<usize>> = runs
+            .iter()
+            .map(|run| {
+                let (calls, distance) = reverse(sheet, run).expect("an accepted run");
+                [&[distance as usize], &calls[..]].concat()
+            })
+            .collect();
+        assert_eq!(reversed, lines(answer, "reversed"), "question {number}");
+        let left = eliminate(sheet, &runs).expect("accepted runs");
+        assert_eq!(left, lines(answer, "left"), "question {number}");
+        improved += 1;
+    }
+    assert!(improved > 200);
+}
