@@ -54,4 +54,3 @@ module _ (I : Instance) where
     pub few : n ≤ length tour
     pub held-are : take n hs ≡ callsAt tour (dropsF tour .held)
     pub cut-done : CutDone (tariff I) (callsAt tour (dropsF tour .held)) cost distance at es
-

@@ -1,7 +1,7 @@
 // The table of costs, distances and starts that a cutting fills, and its read-back. It has a cell for each beginning of at most 128 calls, the empty one included.
 ghost use mathlib.Core.Path.{_≡_};
 ghost use mathlib.Core.List.{[]};
-ghost use Prim.Native.Nat.{_+_, _<_, _≤_};
+ghost use Prim.Native.Nat.{_<_, _≤_};
 ghost use lib.ListN.{length, getD, drop};
 ghost use Rattle.cutting.specs.Cut.{backOf};
 ghost use Rattle.cutting.specs.Back.{Falls};
