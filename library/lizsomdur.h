@@ -20,7 +20,8 @@
  *    4 lateness is paid, and an improver is asked     5 run ends that fall or miss the number of calls; for the marker also an empty run, or a break
  *                                                       place beyond its run or on a sheet without a break
  *   11 a kind of word that may not stand here        12 the words end before F
- *   13 a list too short for what is written into it (each needs 128 where lizsomdur_plan writes; else as long as the given list of its kind)
+ *   13 a list too short: each that lizsomdur_plan writes needs room for 128; those that the improvers write, as much as the given list of its kind; and
+ *      the marker needs a break place for each run
  *
  * Where the sheet itself is at fault, `word` gets the index of the bad word, from 0; else it stays as it was. Nothing else is written on a refusal, and
  * nothing beyond what the counts say is written into a list.
