@@ -1,8 +1,8 @@
 // The bench cases a to q, each cut by the planner: a line says the runs as customers, with the break and the time at home where the sheet has a break, then the dropped positions, cost and distance.
 use bench::sheets::Sheet;
 use bench::sheets::base;
-use checked::cutting::Cut;
-use checked::evaluating::Evaluation;
+use checked_cuts::cutting::Cut;
+use checked_runs::evaluating::Evaluation;
 use evaluation::route::RouteEval;
 use evaluation::route::Start;
 use io::print_decimal;

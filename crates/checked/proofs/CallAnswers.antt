@@ -15,7 +15,7 @@ use Rattle.models.specs.declared.customer.Customer.{Customer}
 use Rattle.models.specs.declared.head.Head.{Head}
 use Rattle.checks.specs.Lent.{sheetOf, lentOf, Gathered}
 use Rattle.checks.specs.Order.{Refuses, Images}
-use Rattle.checked.specs.Evaluating.{Answers}
+use Rattle.checked.specs.Answers.{Answers}
 use Rattle.checked.proofs.Accepting.{accepts, given-whole, refused-by, lentSheet, meant}
 
 module _

@@ -1,8 +1,1 @@
-// Each call on an array of records: refused by number with nothing written, or its answer.
-pub mod cutting;
-pub mod eliminating;
-pub mod evaluating;
-pub mod improving;
-pub mod marking;
-pub mod reading;
-pub mod visiting;
+// What every checked call has in common: it sees an array in place of the customers lent, and by the number that the checks give it is refused or answered. See specs/. No functions.

@@ -20,15 +20,15 @@ use Rattle.models.specs.declared.head.Head.{Head}
 use Rattle.sheet.specs.Summary as Summary
 use Rattle.sheet.specs.Summary.{summaryOf}
 use Rattle.elimination.specs.declared.route_elimination.Left.{Left}
-use Rattle.checked.specs.declared.improving.ImprovedRun.{ImprovedRun}
-use Rattle.checked.specs.declared.improving.Reversed.{Reversed}
-use Rattle.checked.specs.declared.improving.Reversed.the-variants as Reverseds
-use Rattle.checked.specs.declared.eliminating.Elimination.{Elimination}
-use Rattle.checked.specs.declared.eliminating.Elimination.the-variants as Eliminations
-use Rattle.checked.specs.Evaluating.{Answers}
-use Rattle.checked.specs.Improving.{reversalLent, improvedRunOf, reversedOf, Reverses}
-use Rattle.checked.specs.Eliminating as Checked
-use Rattle.checked.specs.Eliminating.{leftOf, eliminationOf, Eliminates}
+use Rattle.checked_improvers.specs.declared.improving.ImprovedRun.{ImprovedRun}
+use Rattle.checked_improvers.specs.declared.improving.Reversed.{Reversed}
+use Rattle.checked_improvers.specs.declared.improving.Reversed.the-variants as Reverseds
+use Rattle.checked_improvers.specs.declared.eliminating.Elimination.{Elimination}
+use Rattle.checked_improvers.specs.declared.eliminating.Elimination.the-variants as Eliminations
+use Rattle.checked.specs.Answers.{Answers}
+use Rattle.checked_improvers.specs.Improving.{reversalLent, improvedRunOf, reversedOf, Reverses}
+use Rattle.checked_improvers.specs.Eliminating as Checked
+use Rattle.checked_improvers.specs.Eliminating.{leftOf, eliminationOf, Eliminates}
 use Rattle.plan_listing.specs.Held.{InMemory}
 use Rattle.exports.specs.Answer.{gives, wordOf}
 use Rattle.exports.specs.Called.{lentWith, callNumber, setBy, listBy}

@@ -22,10 +22,10 @@ use Rattle.marker.specs.declared.verdict.Verdict.{Verdict}
 use Rattle.marker.specs.Image.{flVerdict}
 use Rattle.sheet.specs.Summary as Summary
 use Rattle.sheet.specs.Summary.{summaryOf}
-use Rattle.checked.specs.declared.marking.Marking.{Marking}
-use Rattle.checked.specs.declared.marking.Marking.the-variants as Markings
-use Rattle.checked.specs.Evaluating.{Answers}
-use Rattle.checked.specs.Marking.{markLent, markIn}
+use Rattle.checked_cuts.specs.declared.marking.Marking.{Marking}
+use Rattle.checked_cuts.specs.declared.marking.Marking.the-variants as Markings
+use Rattle.checked.specs.Answers.{Answers}
+use Rattle.checked_cuts.specs.Marking.{markLent, markIn}
 use Rattle.plan_listing.specs.Held.{InMemory}
 use Rattle.exports.specs.Answer.{gives, wordOf}
 use Rattle.exports.specs.Called.{lentWith, callNumber, setBy, listBy}

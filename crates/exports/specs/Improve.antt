@@ -7,10 +7,10 @@ use lib.ListN.{length}
 use Rattle.definitions.specs.Reader.{read}
 use Rattle.definitions.specs.Answers.{Answer, front, Improved, Eliminated, twoOptOf, eliminateOf}
 use Rattle.definitions.specs.Room.{written}
-use Rattle.checked.specs.declared.improving.Reversed.{Reversed}
-use Rattle.checked.specs.declared.eliminating.Elimination.{Elimination}
-use Rattle.checked.specs.Improving.{reversedOf}
-use Rattle.checked.specs.Eliminating.{eliminationOf}
+use Rattle.checked_improvers.specs.declared.improving.Reversed.{Reversed}
+use Rattle.checked_improvers.specs.declared.eliminating.Elimination.{Elimination}
+use Rattle.checked_improvers.specs.Improving.{reversedOf}
+use Rattle.checked_improvers.specs.Eliminating.{eliminationOf}
 use Rattle.exports.specs.Answer.{onReading}
 use Rattle.exports.specs.Called.{Called, lentWith}
 

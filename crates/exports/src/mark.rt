@@ -10,12 +10,12 @@ ghost use Rattle.definitions.specs.Reader as Reader;
 ghost use Rattle.definitions.specs.Marker.{verdictNumber, verdictValues};
 ghost use Rattle.definitions.specs.Answers.{markOf};
 ghost use Rattle.definitions.specs.Room.{written};
-ghost use Rattle.checked.specs.Marking.{markIn};
+ghost use Rattle.checked_cuts.specs.Marking.{markIn};
 ghost use Rattle.plan_listing.specs.Held.{Accepted};
 ghost use Rattle.exports.specs.Answer.{wordOf};
 ghost use Rattle.exports.specs.Called.{lentWith, callNumber, setBy, listBy};
 ghost use Rattle.exports.specs.Mark.{markAnswer, numberIn, valuesIn, Small};
-use checked::marking::Marking;
+use checked_cuts::marking::Marking;
 use marker::verdict::Verdict;
 use plan_listing::held::load;
 use sheet::read::Reading;
@@ -144,7 +144,7 @@ fn mark_sheet(bytes: &[u8], calls: &[usize], ends: &[usize], places: &[usize]) -
     let head = l.head;
     let size = head.places;
     let customers = l.customers;
-    checked::marking::mark(
+    checked_cuts::marking::mark(
         head,
         customers,
         size,

@@ -2,8 +2,8 @@
 use bench::full::full;
 use bench::sheets::Sheet;
 use bench::sheets::base;
-use checked::marking::Marking;
-use checked::marking::mark;
+use checked_cuts::marking::Marking;
+use checked_cuts::marking::mark;
 use io::print_decimal;
 use io::write_all;
 use marker::verdict::Verdict;

@@ -1,5 +1,4 @@
 -- What the proofs of the listing share.
-pub mod Fronts
 pub mod Planned
 pub mod Reading
 pub mod Loading

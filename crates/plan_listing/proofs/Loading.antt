@@ -18,7 +18,7 @@ use Rattle.sheet.proofs.Accepted.{distances-whole, times-whole, tour-whole, cus
 use Rattle.plan_listing.specs.declared.held.Loaded.{Loaded}
 use Rattle.plan_listing.specs.Held.{Held}
 use Rattle.plan_listing.specs.Loaded.{Holds}
-use Rattle.plan_listing.proofs.Fronts.{front, inside, counted}
+use Rattle.table.proofs.Fronts.{front, inside, counted}
 use Rattle.plan_listing.proofs.Reading.{holds}
 
 -- ---- what is written and counted

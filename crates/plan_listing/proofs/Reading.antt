@@ -24,7 +24,7 @@ use Rattle.sheet.specs.Fitting.{fitting}
 use Rattle.sheet.specs.Parts.{depots}
 use Rattle.sheet.proofs.Accepted.{customers-whole}
 use Rattle.plan_listing.specs.Held.{InMemory, Accepted}
-use Rattle.plan_listing.proofs.Fronts.{front}
+use Rattle.table.proofs.Fronts.{front}
 
 -- ---- the answer
 

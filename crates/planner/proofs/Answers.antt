@@ -12,16 +12,16 @@ use denote.Enum.Laws as EL
 use Rattle.models.specs.declared.head.Head.{Head}
 use Rattle.models.proofs.head.Head as T
 use Rattle.models.proofs.head.Head.Laws as T′
-use Rattle.checked.proofs.evaluating.Feasible as Ft
-use Rattle.checked.proofs.evaluating.Feasible.Laws as Ft′
-use Rattle.checked.proofs.evaluating.Cost as Ct
-use Rattle.checked.proofs.evaluating.Cost.Laws as Ct′
-use Rattle.checked.proofs.evaluating.Evaluation as Et
-use Rattle.checked.proofs.evaluating.Evaluation.Laws as Et′
-use Rattle.checked.proofs.cutting.Cut as Kt
-use Rattle.checked.proofs.cutting.Cut.Laws as Kt′
-use Rattle.checked.proofs.reading.Read as Rt
-use Rattle.checked.proofs.reading.Read.Laws as Rt′
+use Rattle.checked_runs.proofs.evaluating.Feasible as Ft
+use Rattle.checked_runs.proofs.evaluating.Feasible.Laws as Ft′
+use Rattle.checked_runs.proofs.evaluating.Cost as Ct
+use Rattle.checked_runs.proofs.evaluating.Cost.Laws as Ct′
+use Rattle.checked_runs.proofs.evaluating.Evaluation as Et
+use Rattle.checked_runs.proofs.evaluating.Evaluation.Laws as Et′
+use Rattle.checked_cuts.proofs.cutting.Cut as Kt
+use Rattle.checked_cuts.proofs.cutting.Cut.Laws as Kt′
+use Rattle.checked_sheets.proofs.reading.Read as Rt
+use Rattle.checked_sheets.proofs.reading.Read.Laws as Rt′
 
 abbrev pub Hd : RattleType
 Hd = T.the-row

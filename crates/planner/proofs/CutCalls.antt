@@ -21,7 +21,7 @@ use Rattle.models.specs.declared.head.Head.{Head}
 use Rattle.lending.specs.Padding.{padded}
 use Rattle.walks.proofs.Calling.{asked-none}
 use Rattle.checked.specs.Meant.{sheetLent}
-use Rattle.checked.specs.Cutting.{cutLent, Cuts}
+use Rattle.checked_cuts.specs.Cutting.{cutLent, Cuts}
 use Rattle.planner.specs.Cutting.{cutRefusal}
 use Rattle.planner.proofs.Answers.{Kd}
 use Rattle.checked.proofs.Padded.{padded-gathered}

@@ -6,8 +6,8 @@ use types.Kit.{Given}
 use denote.RattleType.{RattleType}
 use denote.Laws.{Lawful}
 use denote.Enum.Laws as EL
-use Rattle.checked.proofs.eliminating.Elimination as Et
-use Rattle.checked.proofs.eliminating.Elimination.Laws as Et′
+use Rattle.checked_improvers.proofs.eliminating.Elimination as Et
+use Rattle.checked_improvers.proofs.eliminating.Elimination.Laws as Et′
 
 abbrev pub Ed : RattleType
 Ed = Et.the-row

@@ -6,8 +6,8 @@ use types.Kit.{Given}
 use denote.RattleType.{RattleType}
 use denote.Laws.{Lawful}
 use denote.Enum.Laws as EL
-use Rattle.checked.proofs.marking.Marking as Mt
-use Rattle.checked.proofs.marking.Marking.Laws as Mt′
+use Rattle.checked_cuts.proofs.marking.Marking as Mt
+use Rattle.checked_cuts.proofs.marking.Marking.Laws as Mt′
 
 abbrev pub Md : RattleType
 Md = Mt.the-row

@@ -24,9 +24,9 @@ use Rattle.whole.specs.Whole.{limit}
 use Rattle.whole.specs.Value.{value, value-fl}
 use Rattle.models.specs.declared.customer.Customer.{Customer}
 use Rattle.models.specs.declared.head.Head.{Head}
-use Rattle.checked.specs.declared.cutting.Cut.{Cut}
+use Rattle.checked_cuts.specs.declared.cutting.Cut.{Cut}
 use Rattle.checked.specs.Meant.{sheetLent}
-use Rattle.checked.specs.Cutting.{cutLent, cutOf}
+use Rattle.checked_cuts.specs.Cutting.{cutLent, cutOf}
 use Rattle.planner.specs.Cutting.{refusedBy, IfRefused, IfCut, Means}
 use Rattle.planner.proofs.ManyClauses.{Each}
 

@@ -22,11 +22,11 @@ use Rattle.visits.proofs.visit.Visit as Vt
 use Rattle.visits.proofs.visit.Visit.Laws as Vt′
 use Rattle.visits.proofs.visit.Violation as Wt
 use Rattle.visits.proofs.visit.Violation.Laws as Wt′
-use Rattle.checked.specs.declared.visiting.Listed.{Listed}
-use Rattle.checked.proofs.visiting.Route as Rt
-use Rattle.checked.proofs.visiting.Route.Laws as Rt′
-use Rattle.checked.proofs.visiting.Listed as Lt
-use Rattle.checked.proofs.visiting.Listed.Laws as Lt′
+use Rattle.checked_runs.specs.declared.visiting.Listed.{Listed}
+use Rattle.checked_runs.proofs.visiting.Route as Rt
+use Rattle.checked_runs.proofs.visiting.Route.Laws as Rt′
+use Rattle.checked_runs.proofs.visiting.Listed as Lt
+use Rattle.checked_runs.proofs.visiting.Listed.Laws as Lt′
 
 -- ---- rows
 

@@ -11,9 +11,9 @@ use Rattle.whole.specs.Value.{value}
 use Rattle.models.specs.declared.customer.Customer.{Customer}
 use Rattle.models.specs.declared.head.Head.{Head}
 use Rattle.ga.specs.declared.split.SplitResult.{SplitResult}
-use Rattle.checked.specs.declared.cutting.Cut.{Cut}
-use Rattle.checked.specs.declared.cutting.Cut.the-variants as Cases
-use Rattle.checked.specs.Cutting.{cutLent}
+use Rattle.checked_cuts.specs.declared.cutting.Cut.{Cut}
+use Rattle.checked_cuts.specs.declared.cutting.Cut.the-variants as Cases
+use Rattle.checked_cuts.specs.Cutting.{cutLent}
 
 module _ (head : Head) (customers : List Customer) (distances times : List Float) (tour served ends dropped : List ℕ) where
   -- the number that refuses the call, if one does

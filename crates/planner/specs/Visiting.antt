@@ -6,8 +6,8 @@ use lib.ListN.{length, take}
 use Rattle.definitions.specs.Room.{written}
 use Rattle.visits.specs.declared.visit.Visit.{Visit}
 use Rattle.visits.specs.declared.visit.Violation.{Violation}
-use Rattle.checked.specs.declared.visiting.Route.{Route}
-use Rattle.checked.specs.declared.visiting.Listed.{Listed}
+use Rattle.checked_runs.specs.declared.visiting.Route.{Route}
+use Rattle.checked_runs.specs.declared.visiting.Listed.{Listed}
 
 -- what is listed, written at the front of the lent lists, as far as there is room
 pub record Writes (l : Listed) (visits : List Visit) (violations : List Violation) (r : Route) (visits' : List Visit) (violations' : List Violation) : Type 0 where

@@ -5,9 +5,9 @@ ghost use Rattle.definitions.specs.Answers.{front};
 ghost use Rattle.definitions.specs.Room.{written};
 ghost use Rattle.definitions.specs.Clauses.{Legal, Sum, Least, Drops, Partition, bare};
 ghost use Rattle.checked.specs.Meant.{sheetLent};
-ghost use Rattle.checked.specs.Cutting.{splitAnswer, splitTwAnswer, cutOf};
+ghost use Rattle.checked_cuts.specs.Cutting.{splitAnswer, splitTwAnswer, cutOf};
 ghost use Rattle.planner.specs.Cutting.{cutRefusal, refusedBy, IfRefused, IfCut, Means};
-use checked::cutting::Cut;
+use checked_cuts::cutting::Cut;
 use lending::count;
 use lending::gathered;
 use models::customer::Customer;
@@ -41,7 +41,7 @@ pub fn split(
 {
     let n = count(customers);
     let all = gathered(customers);
-    checked::cutting::split(
+    checked_cuts::cutting::split(
         head,
         all,
         n,
@@ -82,7 +82,7 @@ pub fn split_tw(
 {
     let n = count(customers);
     let all = gathered(customers);
-    checked::cutting::split_tw(
+    checked_cuts::cutting::split_tw(
         head,
         all,
         n,

@@ -2,8 +2,8 @@
 ghost use mathlib.Core.Path.{_≡_};
 ghost use Rattle.definitions.specs.Answers.{front};
 ghost use Rattle.definitions.specs.Room.{written};
-ghost use Rattle.checked.specs.Eliminating.{eliminateAnswer, eliminationOf};
-use checked::eliminating::Elimination;
+ghost use Rattle.checked_improvers.specs.Eliminating.{eliminateAnswer, eliminationOf};
+use checked_improvers::eliminating::Elimination;
 use lending::count;
 use lending::gathered;
 use models::customer::Customer;
@@ -26,7 +26,7 @@ pub fn eliminate_routes(
 {
     let n = count(customers);
     let all = gathered(customers);
-    checked::eliminating::eliminate_routes(
+    checked_improvers::eliminating::eliminate_routes(
         head,
         all,
         n,

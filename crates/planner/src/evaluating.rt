@@ -1,9 +1,9 @@
 // The evaluations of a run as public calls: the customers are gathered into an array, on which the call is checked and answered.
 ghost use mathlib.Core.Path.{_≡_};
-ghost use Rattle.checked.specs.Evaluating.{feasibleAnswer, costAnswer, evalAnswer};
-use checked::evaluating::Cost;
-use checked::evaluating::Evaluation;
-use checked::evaluating::Feasible;
+ghost use Rattle.checked_runs.specs.Evaluating.{feasibleAnswer, costAnswer, evalAnswer};
+use checked_runs::evaluating::Cost;
+use checked_runs::evaluating::Evaluation;
+use checked_runs::evaluating::Feasible;
 use lending::count;
 use lending::gathered;
 use models::customer::Customer;
@@ -21,7 +21,7 @@ pub fn route_feasible(
 {
     let n = count(customers);
     let all = gathered(customers);
-    checked::evaluating::route_feasible(head, all, n, distances, times, run)
+    checked_runs::evaluating::route_feasible(head, all, n, distances, times, run)
 }
 
 // The distance and the lateness cost.
@@ -36,7 +36,7 @@ pub fn effective_cost(
 {
     let n = count(customers);
     let all = gathered(customers);
-    checked::evaluating::effective_cost(head, all, n, distances, times, run)
+    checked_runs::evaluating::effective_cost(head, all, n, distances, times, run)
 }
 
 // What a run comes to, with its break, if it is allowed.
@@ -51,5 +51,5 @@ pub fn route_eval(
 {
     let n = count(customers);
     let all = gathered(customers);
-    checked::evaluating::route_eval(head, all, n, distances, times, run)
+    checked_runs::evaluating::route_eval(head, all, n, distances, times, run)
 }

@@ -4,8 +4,8 @@ ghost use lib.ListN.{length};
 ghost use Rattle.definitions.specs.Answers.{front, twoOptOf};
 ghost use Rattle.definitions.specs.Room.{written};
 ghost use Rattle.whole.specs.Value.{value};
-ghost use Rattle.checked.specs.Improving.{reversalLent, reversedOf};
-use checked::improving::Reversed;
+ghost use Rattle.checked_improvers.specs.Improving.{reversalLent, reversedOf};
+use checked_improvers::improving::Reversed;
 use lending::count;
 use lending::gathered;
 use models::customer::Customer;
@@ -25,5 +25,5 @@ pub fn two_opt_improve(
 {
     let n = count(customers);
     let all = gathered(customers);
-    checked::improving::two_opt_improve(head, all, n, distances, times, run, &mut *improved)
+    checked_improvers::improving::two_opt_improve(head, all, n, distances, times, run, &mut *improved)
 }

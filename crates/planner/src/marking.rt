@@ -2,8 +2,8 @@
 ghost use mathlib.Core.Path.{_≡_};
 ghost use Rattle.definitions.specs.Answers.{markOf};
 ghost use Rattle.whole.specs.Value.{value};
-ghost use Rattle.checked.specs.Marking.{markLent, markIn};
-use checked::marking::Marking;
+ghost use Rattle.checked_cuts.specs.Marking.{markLent, markIn};
+use checked_cuts::marking::Marking;
 use lending::count;
 use lending::gathered;
 use models::customer::Customer;
@@ -24,5 +24,5 @@ pub fn mark(
 {
     let n = count(customers);
     let all = gathered(customers);
-    checked::marking::mark(head, all, n, distances, times, tour, calls, ends, places)
+    checked_cuts::marking::mark(head, all, n, distances, times, tour, calls, ends, places)
 }

@@ -7,9 +7,9 @@ ghost use Rattle.definitions.specs.Reader.{readInto};
 ghost use Rattle.definitions.specs.Room.{written};
 ghost use Rattle.models.specs.Image.{flCustomer};
 ghost use Rattle.whole.specs.Whole.{fl};
-ghost use Rattle.checked.specs.Reading.{customerIn, readOf};
-use checked::reading::Read;
-use checked::reading::records_of;
+ghost use Rattle.checked_sheets.specs.Reading.{customerIn, readOf};
+use checked_sheets::reading::Read;
+use checked_sheets::reading::records_of;
 use lending::scattered;
 use models::customer::Customer;
 use sheet::customers::customers_of;
@@ -30,7 +30,7 @@ pub fn read_sheet(
 {
     let all = customers_of(bytes);
     let room = customers.len();
-    let read = checked::reading::read_sheet(bytes, room, &mut *distances, &mut *times, &mut *tour);
+    let read = checked_sheets::reading::read_sheet(bytes, room, &mut *distances, &mut *times, &mut *tour);
     let n = records_of(read);
     scattered(all, n, &mut *customers);
     read

@@ -6,10 +6,10 @@ ghost use Rattle.definitions.specs.Answers.{buildRouteOf, front};
 ghost use Rattle.definitions.specs.Room.{written};
 ghost use Rattle.visits.specs.Image.{flVisit, flViolation};
 ghost use Rattle.whole.specs.Value.{value};
-ghost use Rattle.checked.specs.Visiting.{visitLent, routeOf};
+ghost use Rattle.checked_runs.specs.Visiting.{visitLent, routeOf};
 ghost use Rattle.planner.specs.Visiting.{Writes};
-use checked::visiting::Listed;
-use checked::visiting::Route;
+use checked_runs::visiting::Listed;
+use checked_runs::visiting::Route;
 use lending::count;
 use lending::gathered;
 use models::customer::Customer;
@@ -46,7 +46,7 @@ pub fn build_route(
     let all = gathered(customers);
     let visit_room = visits.len();
     let violation_room = violations.len();
-    let listed = checked::visiting::build_route(
+    let listed = checked_runs::visiting::build_route(
         head,
         all,
         n,

@@ -39,7 +39,7 @@ use Rattle.lending.proofs.Rows as rows
 use Rattle.lending.proofs.Rows.{Rs}
 use Rattle.models.specs.declared.customer.Customer.{Customer}
 use Rattle.models.specs.declared.head.Head.{Head}
-use Rattle.checked.specs.Cutting.{splitTwAnswer}
+use Rattle.checked_cuts.specs.Cutting.{splitTwAnswer}
 use Rattle.checked.specs.Meant.{sheetLent}
 use Rattle.planner.specs.Cutting.{cutRefusal}
 use Rattle.planner.proofs.Answers as answers

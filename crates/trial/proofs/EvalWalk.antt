@@ -39,7 +39,7 @@ use Rattle.lending.proofs.Rows as rows
 use Rattle.lending.proofs.Rows.{Rs}
 use Rattle.models.specs.declared.customer.Customer.{Customer}
 use Rattle.models.specs.declared.head.Head.{Head}
-use Rattle.checked.specs.Evaluating.{evalAnswer}
+use Rattle.checked_runs.specs.Evaluating.{evalAnswer}
 use Rattle.planner.proofs.Answers as answers
 use Rattle.planner.proofs.Answers.{Hd, Ed}
 use Rattle.planner.proofs.evaluating.route_eval as public

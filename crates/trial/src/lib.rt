@@ -2,10 +2,10 @@
 ghost use mathlib.Core.Path.{_≡_};
 ghost use Rattle.definitions.specs.Answers.{front};
 ghost use Rattle.definitions.specs.Room.{written};
-ghost use Rattle.checked.specs.Cutting.{cutOf, splitTwAnswer};
-ghost use Rattle.checked.specs.Evaluating.{evalAnswer};
-use checked::cutting::Cut;
-use checked::evaluating::Evaluation;
+ghost use Rattle.checked_cuts.specs.Cutting.{cutOf, splitTwAnswer};
+ghost use Rattle.checked_runs.specs.Evaluating.{evalAnswer};
+use checked_cuts::cutting::Cut;
+use checked_runs::evaluating::Evaluation;
 use models::customer::Customer;
 use models::head::Head;
 use planner::cutting;

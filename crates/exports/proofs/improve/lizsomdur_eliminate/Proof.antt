@@ -4,7 +4,7 @@ use denote.Ref.{now}
 use Rattle.sheet.specs.declared.read.Reading.the-variants as Readings
 use Rattle.sheet.specs.Summary.{heldCounts, heldSummary}
 use Rattle.plan_listing.proofs.Reading.{is-accepted}
-use Rattle.checked.specs.declared.eliminating.Elimination.the-variants as Eliminations
+use Rattle.checked_improvers.specs.declared.eliminating.Elimination.the-variants as Eliminations
 use Rattle.exports.proofs.Improved.{eliminate-unread, eliminate-refused, eliminate-given}
 use borrow.Author.Needs.{needs}
 use Rattle.exports.proofs.improve.lizsomdur_eliminate.Statement.{statement}

@@ -4,7 +4,7 @@ use denote.Ref.{now}
 use Rattle.sheet.specs.declared.read.Reading.the-variants as Readings
 use Rattle.sheet.specs.Summary.{heldCounts, heldSummary}
 use Rattle.plan_listing.proofs.Reading.{is-accepted}
-use Rattle.checked.specs.declared.marking.Marking.the-variants as Markings
+use Rattle.checked_cuts.specs.declared.marking.Marking.the-variants as Markings
 use Rattle.exports.proofs.Marked.{mark-unread, mark-refused, mark-small, mark-given}
 use borrow.Author.Needs.{needs}
 use Rattle.exports.proofs.mark.lizsomdur_mark.Statement.{statement}

@@ -2,7 +2,7 @@
 use native.Mathlib.Omega.{arith}
 use mathlib.Core.Path.{refl}
 use denote.Ref.{now}
-use Rattle.plan_listing.proofs.Fronts.{front, inside, counted}
+use Rattle.table.proofs.Fronts.{front, inside, counted}
 use Rattle.plan_listing.proofs.Planned.{below, cutOf, few, rises}
 use Rattle.exports.proofs.Planning.{ends-room, left}
 use borrow.Author.Needs.{needs}

@@ -6,7 +6,7 @@ use mathlib.Core.List.{List}
 use lib.ListN.{replicate}
 use denote.Ref.{now}
 use Rattle.report.specs.Put.{Put}
-use Rattle.plan_listing.proofs.Fronts.{front, inside, counted}
+use Rattle.table.proofs.Fronts.{front, inside, counted}
 use Rattle.plan_listing.proofs.Planned.{below, cutOf, few, rises, room, planned}
 use borrow.Author.Needs.{needs}
 use Rattle.plan_listing.proofs.text.cut_text.Statement.{statement}

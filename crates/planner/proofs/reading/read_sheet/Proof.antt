@@ -1,4 +1,4 @@
--- `reading::read_sheet` meets its contract: a walk of its MIR, by hand. `customers_of` reads the records from the bytes, `checked::reading::read_sheet` answers and writes the other lists, and `scattered` writes as many records as `records_of` counts. All that the proof knows of the four is that each meets its contract.
+-- `reading::read_sheet` meets its contract: a walk of its MIR, by hand. `customers_of` reads the records from the bytes, `checked_sheets::reading::read_sheet` answers and writes the other lists, and `scattered` writes as many records as `records_of` counts. All that the proof knows of the four is that each meets its contract.
 -- The lists are given to the callees for good, so at exit there is of each what its callee has left (`leaves`). What `bytes` owns is had twice.
 -- Assumes nothing.
 use mathlib.Core.Path.{_≡_, refl, ap, _∙_}
@@ -58,22 +58,22 @@ use Rattle.sheet.proofs.customers.customers_of as customers-of
 use Rattle.sheet.proofs.customers.customers_of.Symbol as customers-of-def
 use Rattle.sheet.proofs.customers.customers_of.Symbol.{name as #sheet·customers·customers-of}
 use Rattle.sheet.proofs.customers.customers_of.Met as customers-of-thm
-use Rattle.checked.specs.declared.reading.Read.{Read}
-use Rattle.checked.specs.Reading.{customerIn, readOf, recordsIn, Reads}
+use Rattle.checked_sheets.specs.declared.reading.Read.{Read}
+use Rattle.checked_sheets.specs.Reading.{customerIn, readOf, recordsIn, Reads}
 use Rattle.planner.proofs.Answers as answers
 use Rattle.planner.proofs.Answers.{Rd}
-use Rattle.checked.proofs.ReadAnswers.{records-left}
+use Rattle.checked_sheets.proofs.ReadAnswers.{records-left}
 use Rattle.walks.proofs.Locals.{held, args, set, opens, passed-in, closes}
 use Rattle.walks.proofs.Reborrowing.{lends, borrows-all}
 use Rattle.planner.proofs.LentLists.{againOf}
-use Rattle.checked.proofs.reading.read_sheet as core
-use Rattle.checked.proofs.reading.read_sheet.Symbol as core-def
-use Rattle.checked.proofs.reading.read_sheet.Symbol.{name as #checked·reading·read-sheet}
-use Rattle.checked.proofs.reading.read_sheet.Met as core-thm
-use Rattle.checked.proofs.reading.records_of as records-of
-use Rattle.checked.proofs.reading.records_of.Symbol as records-of-def
-use Rattle.checked.proofs.reading.records_of.Symbol.{name as #checked·reading·records-of}
-use Rattle.checked.proofs.reading.records_of.Met as records-of-thm
+use Rattle.checked_sheets.proofs.reading.read_sheet as core
+use Rattle.checked_sheets.proofs.reading.read_sheet.Symbol as core-def
+use Rattle.checked_sheets.proofs.reading.read_sheet.Symbol.{name as #core}
+use Rattle.checked_sheets.proofs.reading.read_sheet.Met as core-thm
+use Rattle.checked_sheets.proofs.reading.records_of as records-of
+use Rattle.checked_sheets.proofs.reading.records_of.Symbol as records-of-def
+use Rattle.checked_sheets.proofs.reading.records_of.Symbol.{name as #records-of}
+use Rattle.checked_sheets.proofs.reading.records_of.Met as records-of-thm
 use Rattle.planner.proofs.reading.read_sheet.Key.{name as #planner·reading·read-sheet}
 use Rattle.planner.proofs.reading.read_sheet as read-sheet
 use Rattle.planner.proofs.reading.read_sheet.Statement as stated
@@ -86,8 +86,8 @@ module _ {M : Type 1} (𝓤 : URA M) (H : Heap 𝓤) (A : Atoms 𝓤) (mem : Mem
   -- the four callees meet their contracts
   pub record Known (C : Calls 𝓤 H) : Type 1 where
     pub records : Triple 𝓤 (C #sheet·customers·customers-of) (Met 𝓤 H A customers-of.ended (customers-of.clauses 𝓤 H A mem run))
-    pub answers : Triple 𝓤 (C #checked·reading·read-sheet) (Met 𝓤 H A core.ended (core.clauses 𝓤 H A mem run))
-    pub counts : Triple 𝓤 (C #checked·reading·records-of) (Met 𝓤 H A records-of.ended (records-of.clauses 𝓤 H A mem run))
+    pub answers : Triple 𝓤 (C #core) (Met 𝓤 H A core.ended (core.clauses 𝓤 H A mem run))
+    pub counts : Triple 𝓤 (C #records-of) (Met 𝓤 H A records-of.ended (records-of.clauses 𝓤 H A mem run))
     pub writes : Triple 𝓤 (C #lending·scattered) (Met 𝓤 H A scattered′.ended (scattered′.clauses 𝓤 H A mem run))
 
 module _ {M : Type 1} (𝓤 : URA M) (H : Heap 𝓤) (A : Atoms 𝓤) (W : Given 𝓤 H A) (mem : Memory → SProp 𝓤) (run : Routine → Fun 𝓤) (κs : Lfts 5) (qs : Shares 5) (a : Args read-sheet.signature κs) where
@@ -252,7 +252,7 @@ read-sheet-spec 𝓤 H 𝓜 𝓖 𝓡 =
     (read-sheet-meets 𝓤 H (𝓖 .A) (givenOf 𝓤 H 𝓜 𝓖) (𝓜 .mem) (𝓡 .run) (tablesOf 𝓤 H 𝓜 (tables 𝓤 H 𝓜 𝓡 code.env))
     (record {
       records = cited 𝓤 H (Met 𝓤 H (𝓖 .A) customers-of.ended (customers-of.clauses 𝓤 H (𝓖 .A) (𝓜 .mem) (𝓡 .run))) 𝓜 𝓡 code.env #sheet·customers·customers-of customers-of-def.routine code.calls-sheet·customers·customers-of (customers-of-thm.met 𝓤 H 𝓜 𝓖 𝓡);
-      answers = cited 𝓤 H (Met 𝓤 H (𝓖 .A) core.ended (core.clauses 𝓤 H (𝓖 .A) (𝓜 .mem) (𝓡 .run))) 𝓜 𝓡 code.env #checked·reading·read-sheet core-def.routine code.calls-checked·reading·read-sheet (core-thm.met 𝓤 H 𝓜 𝓖 𝓡);
-      counts = cited 𝓤 H (Met 𝓤 H (𝓖 .A) records-of.ended (records-of.clauses 𝓤 H (𝓖 .A) (𝓜 .mem) (𝓡 .run))) 𝓜 𝓡 code.env #checked·reading·records-of records-of-def.routine code.calls-checked·reading·records-of (records-of-thm.met 𝓤 H 𝓜 𝓖 𝓡);
+      answers = cited 𝓤 H (Met 𝓤 H (𝓖 .A) core.ended (core.clauses 𝓤 H (𝓖 .A) (𝓜 .mem) (𝓡 .run))) 𝓜 𝓡 code.env #core core-def.routine code.calls-checked-sheets·reading·read-sheet (core-thm.met 𝓤 H 𝓜 𝓖 𝓡);
+      counts = cited 𝓤 H (Met 𝓤 H (𝓖 .A) records-of.ended (records-of.clauses 𝓤 H (𝓖 .A) (𝓜 .mem) (𝓡 .run))) 𝓜 𝓡 code.env #records-of records-of-def.routine code.calls-checked-sheets·reading·records-of (records-of-thm.met 𝓤 H 𝓜 𝓖 𝓡);
       writes = cited 𝓤 H (Met 𝓤 H (𝓖 .A) scattered′.ended (scattered′.clauses 𝓤 H (𝓖 .A) (𝓜 .mem) (𝓡 .run))) 𝓜 𝓡 code.env #lending·scattered scattered-def.routine code.calls-lending·scattered (scattered-thm.met 𝓤 H 𝓜 𝓖 𝓡);
     }))

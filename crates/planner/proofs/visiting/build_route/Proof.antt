@@ -1,4 +1,4 @@
--- `visiting::build_route` meets its contract: a walk of its MIR, by hand. `count` and `gathered` read the customers, `checked::visiting::build_route` answers and lists what is to be written, and `write` writes it. All that the proof knows of the four is that each meets its contract.
+-- `visiting::build_route` meets its contract: a walk of its MIR, by hand. `count` and `gathered` read the customers, `checked_runs::visiting::build_route` answers and lists what is to be written, and `write` writes it. All that the proof knows of the four is that each meets its contract.
 -- The lists are given to the callees for good, so at exit there is of the two that are written what `write` has left (`leaves`).
 -- Assumes nothing.
 use mathlib.Core.Path.{refl, _∙_}
@@ -58,23 +58,23 @@ use Rattle.lending.proofs.gathered.Symbol.{name as #lending·gathered}
 use Rattle.lending.proofs.gathered.Met as gathered-thm
 use Rattle.visits.specs.declared.visit.Visit.{Visit}
 use Rattle.visits.specs.declared.visit.Violation.{Violation}
-use Rattle.checked.specs.declared.visiting.Listed.{Listed}
-use Rattle.checked.specs.declared.visiting.Route as Answered
-use Rattle.checked.specs.Visiting.{visitLent, ListsFrom}
+use Rattle.checked_runs.specs.declared.visiting.Listed.{Listed}
+use Rattle.checked_runs.specs.declared.visiting.Route as Answered
+use Rattle.checked_runs.specs.Visiting.{visitLent, ListsFrom}
 use Rattle.planner.specs.Visiting.{Writes}
 use Rattle.planner.proofs.Answers as answers
 use Rattle.planner.proofs.Answers.{Hd}
 use Rattle.checked.proofs.Padded.{padded-gathered}
-use Rattle.checked.proofs.RouteAnswers.{listed-left}
+use Rattle.checked_runs.proofs.RouteAnswers.{listed-left}
 use Rattle.planner.proofs.RouteRows as routes
 use Rattle.planner.proofs.RouteRows.{RouteRow, ListedRow, OneVisit, OneViolation}
 use Rattle.walks.proofs.Locals.{held, args, set, opens, passed-in, closes}
 use Rattle.walks.proofs.Reborrowing.{lends, borrows-all}
 use Rattle.planner.proofs.LentLists.{againOf}
-use Rattle.checked.proofs.visiting.build_route as core
-use Rattle.checked.proofs.visiting.build_route.Symbol as core-def
-use Rattle.checked.proofs.visiting.build_route.Symbol.{name as #core}
-use Rattle.checked.proofs.visiting.build_route.Met as core-thm
+use Rattle.checked_runs.proofs.visiting.build_route as core
+use Rattle.checked_runs.proofs.visiting.build_route.Symbol as core-def
+use Rattle.checked_runs.proofs.visiting.build_route.Symbol.{name as #core}
+use Rattle.checked_runs.proofs.visiting.build_route.Met as core-thm
 use Rattle.planner.proofs.visiting.write as write
 use Rattle.planner.proofs.visiting.write.Symbol as write-def
 use Rattle.planner.proofs.visiting.write.Symbol.{name as #write}
@@ -266,6 +266,6 @@ build-route-spec 𝓤 H 𝓜 𝓖 𝓡 =
         cited 𝓤 H (Met 𝓤 H (𝓖 .A) count′.ended (count′.clauses 𝓤 H (𝓖 .A) (𝓜 .mem) (𝓡 .run))) 𝓜 𝓡 code.env #lending·count count-def.routine code.calls-lending·count (count-thm.met 𝓤 H 𝓜 𝓖 𝓡),
         cited 𝓤 H (Met 𝓤 H (𝓖 .A) gathered′.ended (gathered′.clauses 𝓤 H (𝓖 .A) (𝓜 .mem) (𝓡 .run))) 𝓜 𝓡 code.env #lending·gathered gathered-def.routine code.calls-lending·gathered (gathered-thm.met 𝓤 H 𝓜 𝓖 𝓡),
       );
-      answers = cited 𝓤 H (Met 𝓤 H (𝓖 .A) core.ended (core.clauses 𝓤 H (𝓖 .A) (𝓜 .mem) (𝓡 .run))) 𝓜 𝓡 code.env #core core-def.routine code.calls-checked·visiting·build-route (core-thm.met 𝓤 H 𝓜 𝓖 𝓡);
+      answers = cited 𝓤 H (Met 𝓤 H (𝓖 .A) core.ended (core.clauses 𝓤 H (𝓖 .A) (𝓜 .mem) (𝓡 .run))) 𝓜 𝓡 code.env #core core-def.routine code.calls-checked-runs·visiting·build-route (core-thm.met 𝓤 H 𝓜 𝓖 𝓡);
       writes = cited 𝓤 H (Met 𝓤 H (𝓖 .A) write.ended (write.clauses 𝓤 H (𝓖 .A) (𝓜 .mem) (𝓡 .run))) 𝓜 𝓡 code.env #write write-def.routine code.calls-planner·visiting·write (write-thm.met 𝓤 H 𝓜 𝓖 𝓡);
     }))

@@ -49,7 +49,7 @@ use Rattle.visits.proofs.lists.scattered_violations as to-violations
 use Rattle.visits.proofs.lists.scattered_violations.Symbol as to-violations-def
 use Rattle.visits.proofs.lists.scattered_violations.Symbol.{name as #to-violations}
 use Rattle.visits.proofs.lists.scattered_violations.Met as to-violations-thm
-use Rattle.checked.specs.declared.visiting.Listed.{Listed}
+use Rattle.checked_runs.specs.declared.visiting.Listed.{Listed}
 use Rattle.planner.proofs.RouteRows as routes
 use Rattle.planner.proofs.RouteRows.{RouteRow, OneVisit, OneViolation, AllVisits, AllViolations, listed-vals, mach, route-val, visits-val, count-val, violations-val, found-val, route-holds, visits-hold, count-holds, violations-hold, found-holds}
 use Rattle.walks.proofs.Locals.{held, args, set, opens, passed-in, closes}

@@ -12,7 +12,7 @@ use Rattle.definitions.specs.Words.{wordsOf}
 use Rattle.definitions.specs.Reader.{tourOf}
 use Rattle.sheet.specs.Fitting.{fitting}
 use Rattle.sheet.specs.Parts.{floatsOf}
-use Rattle.plan_listing.proofs.Fronts.{inside}
+use Rattle.table.proofs.Fronts.{inside}
 use borrow.Author.Needs.{needs}
 use Rattle.replay_runs.proofs.alike.text_alike.Statement.{statement}
 use Rattle.replay_runs.proofs.alike.text_alike.Tie as tie

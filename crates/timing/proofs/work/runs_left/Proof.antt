@@ -2,7 +2,7 @@
 use native.Mathlib.Omega.{arith}
 use lib.ListN.{length, replicate}
 use denote.Ref.{now}
-use Rattle.plan_listing.proofs.Fronts.{front, inside, counted}
+use Rattle.table.proofs.Fronts.{front, inside, counted}
 use Rattle.timing.specs.Every.{everyEnds}
 use Rattle.timing.proofs.Ends.{ends-rise}
 use Rattle.timing.proofs.Left.{ends-room, left-is}

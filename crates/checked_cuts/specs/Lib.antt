@@ -1,0 +1,4 @@
+-- The answers of the cutting of a tour.
+pub mod Cutting
+-- The answer of the marker.
+pub mod Marking

@@ -1,0 +1,32 @@
+-- What the improvers answer over what they are lent: the enum's case for each case of the complete answer of crates/definitions, the written lists by their lengths, a distance held in a float. Definitions only.
+use Prim.Native.Nat.{ℕ}
+use mathlib.Core.List.{List, [], _∷_}
+use lib.ListN.{length}
+use lib.Ieee.{Float}
+use Rattle.definitions.specs.Lent.{Lent}
+use Rattle.definitions.specs.Room.{written}
+use Rattle.definitions.specs.Answers.{Answer, refused, gives, front, Improved}
+use Rattle.whole.specs.Whole.{fl}
+use Rattle.models.specs.declared.customer.Customer.{Customer}
+use Rattle.models.specs.declared.head.Head.{Head}
+use Rattle.checks.specs.Lent.{sheetOf, lentOf}
+use Rattle.checked_improvers.specs.declared.improving.ImprovedRun.{ImprovedRun}
+use Rattle.checked_improvers.specs.declared.improving.Reversed.{Reversed}
+use Rattle.checked_improvers.specs.declared.improving.Reversed.the-variants as Reverseds
+use Rattle.checked.specs.Answers.{Answers}
+
+-- the sheet, the run, and the length of the list for the improved run's calls
+abbrev pub reversalLent : Head → List Customer → List Float → List Float → List ℕ → ℕ → Lent Float
+reversalLent head customers distances times run improved = lentOf (sheetOf head customers distances times) [] run [] [] (improved ∷ [])
+
+abbrev pub improvedRunOf : Improved → ImprovedRun
+improvedRunOf x = record { calls = length (x .calls); distance = fl (x .distance) }
+
+abbrev pub reversedOf : Answer Improved → Reversed
+reversedOf (refused number) = Reverseds.Refused number
+reversedOf (gives x) = Reverseds.Improved (improvedRunOf x)
+
+-- the answer, and the lent list as it is left, whatever customers the array was gathered from
+pub record Reverses (answered : List Customer → Answer Improved) (count : ℕ) (array : List Customer) (improved : List ℕ) (r : Reversed) (improved' : List ℕ) : Type 0 where
+  pub answer : Answers (λ cs. reversedOf (answered cs)) count array r
+  pub calls-left : Answers (λ cs. written (front (λ x. x .calls) (answered cs)) improved) count array improved'

@@ -1,0 +1,2 @@
+-- The answer of the reader.
+pub mod Reading
