@@ -5,7 +5,7 @@ ghost use lib.ListN.{length};
 ghost use Rattle.definitions.specs.Reader.{readerNeeds, readInto};
 ghost use Rattle.definitions.specs.Room.{short};
 ghost use Rattle.checked_sheets.specs.Reading.{recordsIn, Reads};
-use checks::lengths;
+use lists::lengths;
 use sheet::read::Contents;
 use sheet::read::Reading;
 use sheet::values::write_tour;

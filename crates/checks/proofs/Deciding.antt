@@ -23,12 +23,13 @@ use Rattle.models.specs.Records.{customerOf, restOf}
 use Rattle.models.specs.Image.{flSheet}
 use Rattle.whole.specs.Value.{value}
 use Rattle.models.specs.declared.head.Head.{Head}
-use Rattle.checks.specs.declared.kind.Kind.{Kind}
+use Rattle.lists.specs.declared.kind.Kind.{Kind}
 use Rattle.checks.specs.Lent.{sheetOf, lentOf, Gathered}
-use Rattle.checks.specs.Falling.{pairsFallF}
-use Rattle.checks.specs.Order.{needsOf, callOf, badHead, byRows, runsOddOf}
-use Rattle.checks.proofs.Rows.{all-rows}
-use Rattle.checks.proofs.Falling.{pairs-exact}
+use Rattle.ranges.specs.Falling.{pairsFallF}
+use Rattle.lists.specs.Needs.{needsOf, runsOddOf}
+use Rattle.checks.specs.Order.{callOf, badHead, byRows}
+use Rattle.ranges.proofs.Rows.{all-rows}
+use Rattle.ranges.proofs.Falling.{pairs-exact}
 use Rattle.checks.proofs.Ranging.{places-high}
 use Rattle.checks.proofs.Image.{Fit, FitCustomer, FitSheet, sheet-image}
 use Rattle.checks.proofs.Fitting.{FitHead}

@@ -18,7 +18,7 @@ use Rattle.models.specs.declared.customer.Customer.{Customer}
 use Rattle.models.specs.Records.{customerOf}
 use Rattle.whole.specs.Value.{value}
 use Rattle.models.specs.declared.head.Head.{Head}
-use Rattle.checks.specs.Rows.{rowsFind}
+use Rattle.ranges.specs.Rows.{rowsFind}
 use Rattle.checks.specs.Lent.{sheetOf, lentOf}
 use Rattle.checks.specs.Order.{badHead, byRows}
 

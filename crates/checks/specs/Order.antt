@@ -1,34 +1,23 @@
 -- The tests of a call in the groups in which the code makes them. Definitions only.
 use Prim.Native.Nat.{ℕ}
 use mathlib.Core.Path.{_≡_}
-use mathlib.Core.Bool.{Bool, _&&_, not}
+use mathlib.Core.Bool.{Bool, not}
 use mathlib.Core.List.{List, [], _∷_}
-use lib.ListN.{length}
-use lib.Dec.{ltb}
 use lib.Ieee.{Float}
 use Rattle.basics.specs.Tests.{either}
 use Rattle.basics.specs.Options.{valueOr}
 use Rattle.basics.specs.Lists.{any}
-use Rattle.definitions.specs.Domain.{isPlaces, isCapacity, isNumber, mostCalls}
+use Rattle.definitions.specs.Domain.{isPlaces, isCapacity, isNumber}
 use Rattle.definitions.specs.Sheet.{SheetOf, records, own}
-use Rattle.definitions.specs.Lent.{Lent, Call, call, violationRoom}
-use Rattle.definitions.specs.Refusals.{unfit, badLimit, badBreak, badCustomer, badDepot, badTour, badRunList, endsFall, emptyRun, breakBeyond, refusalOf, wholeSheet}
+use Rattle.definitions.specs.Lent.{Lent, Call, call}
+use Rattle.definitions.specs.Refusals.{unfit, badLimit, badBreak, badCustomer, badDepot, badTour, badRunList, refusalOf, wholeSheet}
 use Rattle.whole.specs.Value.{value}
 use Rattle.models.specs.Image.{flSheet}
 use Rattle.models.specs.declared.customer.Customer.{Customer}
-use Rattle.checks.specs.declared.kind.Kind.{Kind}
-use Rattle.checks.specs.declared.kind.Results.{Results}
-use Rattle.checks.specs.declared.kind.Results.the-variants.{Nothing, Cut, Visits, Run, RunList}
+use Rattle.lists.specs.declared.kind.Kind.{Kind}
+use Rattle.lists.specs.Needs.{needsOf}
 use Rattle.checks.specs.Lent.{Gathered}
-use Rattle.checks.specs.Rows.{rowsFind}
-
--- how long the result lists have to be, for a tour, a list of calls and run ends of these lengths
-abbrev pub needsOf : Results → (tour calls ends : ℕ) → List ℕ
-needsOf Nothing tour calls ends = []
-needsOf Cut tour calls ends = tour ∷ tour ∷ tour ∷ []
-needsOf Visits tour calls ends = calls ∷ violationRoom calls ∷ []
-needsOf Run tour calls ends = calls ∷ []
-needsOf RunList tour calls ends = calls ∷ ends ∷ []
+use Rattle.ranges.specs.Rows.{rowsFind}
 
 -- the call of this kind
 abbrev pub callOf : Kind → Call
@@ -57,16 +46,6 @@ byRows l =
     ∷ rowsFind (unfit value isNumber) (s .places) (s .places) (s .distances) (s .times)
     ∷ badTour (s .places) (l .tour)
     ∷ badRunList (s .places) (l .calls)
-    ∷ [])
-
--- refusal 5
-abbrev pub runsOddOf : Kind → Bool → ℕ → List ℕ → List ℕ → Bool
-runsOddOf kind rest calls ends breaks =
-    either
-    ((kind .«takes_ends» && ltb mostCalls (length ends))
-    ∷ (kind .«takes_ends» && endsFall 0 ends calls)
-    ∷ (kind .marks && emptyRun 0 ends)
-    ∷ (kind .marks && breakBeyond rest 0 ends breaks)
     ∷ [])
 
 -- the number that the call gives, 0 where it accepts, whatever customers the array was gathered from

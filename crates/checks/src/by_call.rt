@@ -3,9 +3,9 @@ ghost use mathlib.Core.List.{[], _∷_};
 ghost use Rattle.definitions.specs.Lent.{cutting, evaluating, visiting, marking, reversing, eliminating};
 ghost use Rattle.checks.specs.Lent.{sheetOf, lentOf};
 ghost use Rattle.checks.specs.Order.{Refuses, Images};
-use crate::kind::Kind;
-use crate::kind::Results;
 use crate::order::refusal;
+use lists::kind::Kind;
+use lists::kind::Results;
 use models::customer::Customer;
 use models::head::Head;
 

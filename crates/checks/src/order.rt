@@ -1,16 +1,16 @@
 // The refusals in order: the number of the first that fits, and 0 where none does.
 ghost use Rattle.checks.specs.Lent.{sheetOf, lentOf};
 ghost use Rattle.checks.specs.Order.{callOf, Refuses, Images};
-use crate::kind::Kind;
-use crate::lengths::tables_odd;
-use crate::lengths::too_short;
-use crate::records::has_break;
-use crate::runs::runs_odd;
 use crate::sheet::lateness_pay;
 use crate::sheet::out_of_range;
 use crate::sheet::pairs_fall;
+use crate::sheet::tables_odd;
+use lists::kind::Kind;
+use lists::lengths::too_short;
+use lists::runs::runs_odd;
 use models::customer::Customer;
 use models::head::Head;
+use ranges::records::has_break;
 
 // `count` customers are lent, and the array holds the first of them.
 pub fn refusal(

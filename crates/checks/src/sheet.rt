@@ -1,27 +1,38 @@
-// Refusals 1, 2 and 4 of a sheet, with the first customers lent in an array.
+// Refusals 14, 1, 2 and 4 of a sheet, with the first customers lent in an array.
 ghost use mathlib.Core.Path.{_≡_};
 ghost use mathlib.Core.Bool.{_&&_};
 ghost use mathlib.Core.List.{[], map};
 ghost use lib.ListN.{take};
 ghost use Rattle.definitions.specs.Sheet.{anySoft};
+ghost use Rattle.definitions.specs.Refusals.{tablesOdd};
 ghost use Rattle.models.specs.Records.{customerOf};
 ghost use Rattle.checks.specs.Lent.{sheetOf, lentOf};
 ghost use Rattle.checks.specs.Order.{badHead, byRows};
-ghost use Rattle.checks.specs.Falling.{pairsFallF};
-use crate::calls::bad_run_list;
-use crate::calls::bad_tour;
-use crate::customers::Test;
-use crate::customers::any_fits;
-use crate::numbers::is_capacity;
-use crate::numbers::is_places;
-use crate::numbers::unfit_number;
-use crate::records::bad_break;
-use crate::records::bad_depot;
-use crate::records::bad_limit;
-use crate::records::break_falls;
-use crate::tables::bad_tables;
+ghost use Rattle.ranges.specs.Falling.{pairsFallF};
+use lists::lengths::is_square;
 use models::customer::Customer;
 use models::head::Head;
+use ranges::calls::bad_run_list;
+use ranges::calls::bad_tour;
+use ranges::customers::Test;
+use ranges::customers::any_fits;
+use ranges::numbers::is_capacity;
+use ranges::numbers::is_places;
+use ranges::numbers::unfit_number;
+use ranges::records::bad_break;
+use ranges::records::bad_depot;
+use ranges::records::bad_limit;
+use ranges::records::break_falls;
+use ranges::tables::bad_tables;
+
+// A leg table is not places squared long; an empty time table is none.
+pub fn tables_odd(head: Head, distances: &[f64], times: &[f64]) -> bool
+    ensures { λ r. ⌜ r ≡ tablesOdd (sheetOf head [] (now (distances .entry)) (now (times .entry))) ⌝ }
+{
+    let d = distances.len();
+    let t = times.len();
+    !is_square(d, head.places) | !((t == 0) | is_square(t, head.places))
+}
 
 pub fn bad_head(head: Head) -> bool
     ensures { λ r. ⌜ r ≡ badHead (sheetOf head [] [] []) ⌝ }

@@ -25,5 +25,13 @@ pub fn two_opt_improve(
 {
     let n = count(customers);
     let all = gathered(customers);
-    checked_improvers::improving::two_opt_improve(head, all, n, distances, times, run, &mut *improved)
+    checked_improvers::improving::two_opt_improve(
+        head,
+        all,
+        n,
+        distances,
+        times,
+        run,
+        &mut *improved,
+    )
 }

@@ -30,7 +30,13 @@ pub fn read_sheet(
 {
     let all = customers_of(bytes);
     let room = customers.len();
-    let read = checked_sheets::reading::read_sheet(bytes, room, &mut *distances, &mut *times, &mut *tour);
+    let read = checked_sheets::reading::read_sheet(
+        bytes,
+        room,
+        &mut *distances,
+        &mut *times,
+        &mut *tour,
+    );
     let n = records_of(read);
     scattered(all, n, &mut *customers);
     read

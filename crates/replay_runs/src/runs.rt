@@ -7,15 +7,15 @@ use crate::writing::calls;
 use crate::writing::figure;
 use crate::writing::inside;
 use crate::writing::word;
-use checks::customers::Test;
-use checks::customers::any_fits;
-use checks::runs::ends_fall;
 use elimination::route_elimination::eliminate_routes;
+use lists::runs::ends_fall;
 use local_search::search::search_of;
 use local_search::two_opt::two_opt_improve;
 use models::count::fewer;
 use models::customer::Customer;
 use models::head::Head;
+use ranges::customers::Test;
+use ranges::customers::any_fits;
 use visits::evaluator::build_route;
 
 // The visits of a run.

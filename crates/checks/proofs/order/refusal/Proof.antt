@@ -4,7 +4,7 @@ use mathlib.Core.Bool.{Bool}
 use native.Mathlib.Omega.{arith}
 use lib.ListN.{length}
 use contract.Lifetimes.{Lfts}
-use Rattle.checks.specs.Order.{runsOddOf}
+use Rattle.lists.specs.Needs.{runsOddOf}
 use Rattle.checks.proofs.Fitting.{fit-head, fit-customers, fit-table}
 use Rattle.checks.proofs.Deciding.{Given, says-13, says-14, says-1, says-2, says-5, says-4, says-0, Fitting, given-image}
 use Rattle.checks.proofs.order.refusal.Reads as reads

@@ -1,7 +1,7 @@
 -- `sheet::bad_head` meets its contract. Assumes nothing.
 use mathlib.Core.Path.{_∙_}
 use mathlib.Core.List.{[], _∷_}
-use Rattle.checks.proofs.Joining.{join}
+use Rattle.ranges.proofs.Joining.{join}
 use mathlib.Core.Bool.{not}
 use Rattle.checks.specs.Order.{badHead}
 use borrow.Author.Needs.{needs}

@@ -1,5 +1,5 @@
 -- `sheet::pairs_fall` meets its contract. Assumes nothing.
-use Rattle.checks.specs.Falling.{pairsFallF}
+use Rattle.ranges.specs.Falling.{pairsFallF}
 use borrow.Author.Needs.{needs}
 use Rattle.checks.proofs.sheet.pairs_fall.Statement.{statement}
 use Rattle.checks.proofs.sheet.pairs_fall.Tie as tie

@@ -1,0 +1,4 @@
+-- Squares that do not wrap.
+mod Squares
+-- Walks along run ends, break places and lengths.
+mod Walking

@@ -1,0 +1,24 @@
+-- `runs::runs_odd` meets its contract. Assumes nothing.
+use mathlib.Core.Bool.{_&&_, or-false}
+use Rattle.definitions.specs.Refusals.{breakBeyond}
+use borrow.Author.Needs.{needs}
+use Rattle.lists.proofs.runs.runs_odd.Statement.{statement}
+use Rattle.lists.proofs.runs.runs_odd.Tie as tie
+
+ends-fall-requires : tie.Need-ends-fall-requires
+ends-fall-requires c κs = search needs
+
+empty-run-requires : tie.Need-empty-run-requires
+empty-run-requires c κs = search needs
+
+break-beyond-requires : tie.Need-break-beyond-requires
+break-beyond-requires c κs = search needs
+
+returns : tie.Need-returns
+returns c =
+    let a = c .before .before .before .before .before .before .before .before .before .args in
+    rw (c .before .before .before .before .before .ends-fall .ensures, c .before .before .before .empty-run .ensures, c .before .break-beyond .ensures, or-false (a .kind .marks && breakBeyond (a .rest) 0 (a .ends .now) (a .breaks .now)))
+
+pub runs-odd-spec : {M : Type 1} → statement M
+runs-odd-spec =
+    tie.close (tie.spec ends-fall-requires empty-run-requires break-beyond-requires returns)

@@ -1,0 +1,2 @@
+-- The lengths that a call asks for, and its run ends and break places.
+pub mod Needs

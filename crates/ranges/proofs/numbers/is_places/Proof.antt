@@ -1,0 +1,13 @@
+-- `numbers::is_places` meets its contract. Assumes nothing.
+use borrow.Author.Tests.{le-leb, lt-leb}
+use Rattle.ranges.proofs.numbers.is_places.Statement.{statement}
+use Rattle.ranges.proofs.numbers.is_places.Tie as tie
+
+returns : tie.Need-returns
+returns c = rw (le-leb 1 (c .before .args .n) (c .if1 .taken))
+
+returns-2 : tie.Need-returns-2
+returns-2 c = rw (lt-leb 1 (c .before .args .n) (c .if1 .left))
+
+pub is-places-spec : {M : Type 1} → statement M
+is-places-spec = tie.close (tie.spec returns returns-2)

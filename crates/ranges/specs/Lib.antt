@@ -1,0 +1,6 @@
+-- Tables row by row.
+pub mod Rows
+-- Ready above due and earliest above latest, on floats.
+pub mod Falling
+-- The tests of a customer's record.
+pub mod Customers
