@@ -5,6 +5,7 @@ pub mod CallWalk
 pub mod LentLists
 pub mod PublicCall
 pub mod RunLists
+pub mod RunCalls
 pub mod CutLists
 -- What a caller of a cutting is given.
 pub mod ManyClauses
