@@ -19,7 +19,8 @@ use Rattle.definitions.specs.Improver.{givenOf, total, load}
 use Rattle.definitions.specs.Elimination.{Put, beyond, inserts, candidates}
 use Rattle.whole.specs.Difference.{diff, diff-same, diff-le}
 use Rattle.elimination.specs.RunLists.{runAt, insertAt, putIn}
-use Rattle.elimination.specs.Loads.{demandsOf, roomF}
+use Rattle.evaluation.specs.Tables.{demandsOf}
+use Rattle.elimination.specs.Loads.{roomF}
 use Rattle.elimination.specs.Insertion.{TermsF, Candidate, beforeOf, addsF, cheaper, candidateF, placesIn, placesOf, candidatesFrom, legF, candidatesF}
 use Rattle.elimination.specs.Image.{Image}
 use Rattle.elimination.proofs.Ordering.{sort-map, map-twice, count-next}

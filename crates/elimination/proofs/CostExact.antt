@@ -5,7 +5,7 @@ use native.Mathlib.Nat.{not-suc-le-zero, le-of-suc-le-suc}
 use mathlib.Core.Path.{_≡_, refl, sym, ap, ap₂, _∙_}
 use mathlib.Core.Bool.{true}
 use mathlib.Core.List.{List, [], _∷_, _++_}
-use lib.ListN.{length, getD, take, drop, length-append, List·getD-eq-default, List·getD-map, drop-of-length-le}
+use lib.ListN.{length, getD, take, drop, length-append, List·getD-eq-default, drop-of-length-le}
 use lib.Seq.{drop-cons, take-all, split-at}
 use lib.Dec.{ltb, leb}
 use lib.Ieee as Ieee
@@ -16,7 +16,7 @@ use Rattle.basics.specs.Lists.{sum, All}
 use Rattle.bounds.specs.Inside.{mostNumber, Sized, Place, depot-inside, call-inside, distance-small}
 use Rattle.bounds.specs.Bounds.{distance-most}
 use Rattle.definitions.specs.Domain.{mostCalls}
-use Rattle.definitions.specs.Sheet.{Sheet, CustomerOf, customer, distance}
+use Rattle.definitions.specs.Sheet.{Sheet, customer, distance}
 use Rattle.definitions.specs.RunList.{callsOf}
 use Rattle.definitions.specs.Improver.{givenOf, distanceOf, total, load}
 use Rattle.definitions.proofs.LegLaws.{final, insertion-before, insertion-last}
@@ -24,12 +24,14 @@ use Rattle.definitions.proofs.EliminationLaws.{Calls}
 use Rattle.whole.specs.Whole.{fl, limit, Is, fl-add, fl-is}
 use Rattle.whole.specs.Difference.{diff, fl-diff}
 use Rattle.whole.specs.Infinity.{is-lt-inf}
-use Rattle.evaluation.specs.Tables.{recordIndex, blank, recordF}
-use Rattle.evaluation.proofs.ClockExact.{record-exact, distance-exact}
+use Rattle.evaluation.specs.Tables.{demandsOf}
+use Rattle.evaluation.proofs.Demands.{asked}
+use Rattle.evaluation.proofs.ClockExact as Clock
+use Rattle.evaluation.proofs.ClockExact.{distance-exact}
 use Rattle.local_search.specs.Delta.{routeDistanceF}
 use Rattle.local_search.proofs.DeltaExact.{route-distance-exact}
 use Rattle.elimination.specs.RunLists.{runAt, insertAt, putIn}
-use Rattle.elimination.specs.Loads.{demandsOf, demandAt, roomF}
+use Rattle.elimination.specs.Loads.{roomF}
 use Rattle.elimination.specs.Insertion.{TermsF, beforeOf, addsF, legF, demandF}
 use Rattle.elimination.specs.Elimination.{finiteF, savedF}
 use Rattle.elimination.specs.Image.{Image}
@@ -125,8 +127,7 @@ finite-exact n h = rw (is-lt-inf (fl n) n (fl-is n h), below-infinity (fl n) n (
 
 module _ (s : Sheet) (S : Sized s) (T : TermsF) (I : Image s T) where
   pub demand-exact : (c : ℕ) → Place s c → demandF T c ≡ customer s c .demand
-  unfolding demandAt recordF
-  demand-exact c p = List·getD-map (λ (x : CustomerOf Float). x .demand) (T .tables .customers) (recordIndex c) blank ∙ ap (λ (x : CustomerOf Float). x .demand) (record-exact s S (T .tables) (I .tables-hold) c p)
+  demand-exact c p = asked (T .tables .customers) c ∙ Clock.demand-exact s S (T .tables .customers) (I .tables-hold .records-are) c p
 
   load-exact : (run : List ℕ) → All (Place s) run → sum (demandF T) run ≡ load (givenOf s) run
   load-exact [] a = refl

@@ -13,12 +13,12 @@ use Rattle.definitions.specs.Sort.{sort}
 use Rattle.models.specs.declared.customer.Customer.{Customer}
 use Rattle.models.specs.declared.limits.RouteLimits.{RouteLimits}
 use Rattle.evaluation.specs.Records.{Tables, LimitsF, limitsOf, lent}
-use Rattle.evaluation.specs.Tables.{distanceF}
+use Rattle.evaluation.specs.Tables.{demandsOf, askedF, distanceF}
 use Rattle.evaluation.specs.Route.{feasibleF}
 use Rattle.elimination.specs.declared.insertion.Terms.{Terms}
 use Rattle.elimination.specs.declared.insertion.Placed.{Placed}
 use Rattle.elimination.specs.RunLists.{Sound, runsIn, runAt, putIn}
-use Rattle.elimination.specs.Loads.{demandsOf, demandAt, roomF}
+use Rattle.elimination.specs.Loads.{roomF}
 
 -- ---- what is lent
 
@@ -118,7 +118,7 @@ module _ (T : TermsF) where
   legF = distanceF (T .tables)
 
   abbrev pub demandF : ℕ → ℕ
-  demandF = demandAt (demandsOf (T .tables .customers))
+  demandF = askedF (demandsOf (T .tables .customers))
 
   abbrev pub candidatesF : ℕ → List (List ℕ) → List Candidate
   candidatesF c runs = candidatesFrom legF (roomF (demandsOf (T .tables .customers)) (T .capacity)) 0 c runs
