@@ -7,7 +7,6 @@ use mathlib.Core.Bool.{Bool, cond}
 use mathlib.Core.List.{List, [], _∷_, _++_, map, map-append}
 use lib.ListN.{length, getD}
 use lib.Dec.{leb}
-use lib.Ieee as Ieee
 use borrow.Author.Tests.{leb-true, leb-false, le-leb, lt-leb}
 use Rattle.basics.specs.Tests.{by-test}
 use Rattle.basics.specs.Lists.{count, All, all-imp}
@@ -18,9 +17,11 @@ use Rattle.definitions.specs.Sort.{rising, sort}
 use Rattle.definitions.specs.Improver.{givenOf, total, load}
 use Rattle.definitions.specs.Elimination.{Put, beyond, inserts, candidates}
 use Rattle.whole.specs.Difference.{diff, diff-same, diff-le}
+use Rattle.local_search.specs.Delta.{placeBefore}
 use Rattle.elimination.specs.RunLists.{runAt, insertAt, putIn}
-use Rattle.elimination.specs.Loads.{demandsOf, roomF}
-use Rattle.elimination.specs.Insertion.{TermsF, Candidate, beforeOf, addsF, cheaper, candidateF, placesIn, placesOf, candidatesFrom, legF, candidatesF}
+use Rattle.evaluation.specs.Tables.{demandsOf}
+use Rattle.elimination.specs.Loads.{roomF}
+use Rattle.elimination.specs.Insertion.{TermsF, Candidate, addsF, cheaper, candidateF, placesIn, placesOf, candidatesFrom, legF, candidatesF}
 use Rattle.elimination.specs.Image.{Image}
 use Rattle.elimination.proofs.Ordering.{sort-map, map-twice, count-next}
 use Rattle.elimination.proofs.Placing.{Within, candidates-within}
@@ -123,7 +124,7 @@ module _ (s : Sheet) (S : Sized s) (T : TermsF) (I : Image s T) (c : ℕ) (p : P
         let inside : x .run < length rs = rw z at (Q .run-inside) in
         let pos : x .pos ≤ length run = rw z at (Q .pos-inside) in
         let cost = Q .cost-is ∙ ap (λ (m : ℕ). addsF (legF T) (runAt rs m) (x .pos) c) z in
-        let prev = beforeOf run (x .pos) in
+        let prev = placeBefore run (x .pos) in
         let next = getD run (x .pos) 0 in
         record {
           cost-is =

@@ -156,11 +156,7 @@ run-lent r k from to p ef et =
     ∙ run-part rs k (inside r (p .0) k (p .1))
 
 -- run k with a customer, at the front of an array
-pub grown-lent : (r : Runs) (k from to pos c : ℕ) → Sound r × (k < r .count) → from ≡ startIn (r .ends) k → to ≡ startIn (r .ends) (k + 1) → pos ≤ length (runAt (runsIn r) k)
-    → (trial : List ℕ) → Front (insertAt pos c (take (to - from) (drop from (r .calls)))) trial → take (to - from + 1) trial ≡ insertAt pos c (runAt (runsIn r) k)
-grown-lent r k from to pos c p ef et h trial F =
-    let run = runAt (runsIn r) k in
-    let part = run-lent r k from to p ef et in
-    let grown : length (insertAt pos c run) ≡ suc (length run) = omega (arith, length-append (take pos run) (c ∷ drop pos run), length-take-le pos run h, length-drop pos run) in
-    let many : to - from + 1 ≡ length (insertAt pos c (take (to - from) (drop from (r .calls)))) = omega (arith, run-bound r k from to p ef et .2, grown, ap (λ (l : List ℕ). length (insertAt pos c l)) part) in
-    ap (λ (n : ℕ). take n trial) many ∙ F .is ∙ ap (insertAt pos c) part
+pub grown-all : (run : List ℕ) (pos c : ℕ) → pos ≤ length run → (trial : List ℕ) → Front (insertAt pos c run) trial → take (length run + 1) trial ≡ insertAt pos c run
+grown-all run pos c h trial F =
+    let many : length run + 1 ≡ length (insertAt pos c run) = omega (arith, length-append (take pos run) (c ∷ drop pos run), length-take-le pos run h, length-drop pos run) in
+    ap (λ (n : ℕ). take n trial) many ∙ F .is

@@ -5,7 +5,7 @@ use native.Mathlib.Nat.{not-suc-le-zero, le-of-suc-le-suc}
 use mathlib.Core.Path.{_≡_, refl, sym, ap, ap₂, _∙_}
 use mathlib.Core.Bool.{true}
 use mathlib.Core.List.{List, [], _∷_, _++_}
-use lib.ListN.{length, getD, take, drop, length-append, List·getD-eq-default, List·getD-map, drop-of-length-le}
+use lib.ListN.{length, getD, take, drop, length-append, List·getD-eq-default, drop-of-length-le}
 use lib.Seq.{drop-cons, take-all, split-at}
 use lib.Dec.{ltb, leb}
 use lib.Ieee as Ieee
@@ -16,7 +16,7 @@ use Rattle.basics.specs.Lists.{sum, All}
 use Rattle.bounds.specs.Inside.{mostNumber, Sized, Place, depot-inside, call-inside, distance-small}
 use Rattle.bounds.specs.Bounds.{distance-most}
 use Rattle.definitions.specs.Domain.{mostCalls}
-use Rattle.definitions.specs.Sheet.{Sheet, CustomerOf, customer, distance}
+use Rattle.definitions.specs.Sheet.{Sheet, customer, distance}
 use Rattle.definitions.specs.RunList.{callsOf}
 use Rattle.definitions.specs.Improver.{givenOf, distanceOf, total, load}
 use Rattle.definitions.proofs.LegLaws.{final, insertion-before, insertion-last}
@@ -24,13 +24,15 @@ use Rattle.definitions.proofs.EliminationLaws.{Calls}
 use Rattle.whole.specs.Whole.{fl, limit, Is, fl-add, fl-is}
 use Rattle.whole.specs.Difference.{diff, fl-diff}
 use Rattle.whole.specs.Infinity.{is-lt-inf}
-use Rattle.evaluation.specs.Tables.{recordIndex, blank, recordF}
-use Rattle.evaluation.proofs.ClockExact.{record-exact, distance-exact}
-use Rattle.local_search.specs.Delta.{routeDistanceF}
+use Rattle.evaluation.specs.Tables.{demandsOf}
+use Rattle.evaluation.proofs.Demands.{asked}
+use Rattle.evaluation.proofs.ClockExact as Clock
+use Rattle.evaluation.proofs.ClockExact.{distance-exact}
+use Rattle.local_search.specs.Delta.{placeBefore, routeDistanceF}
 use Rattle.local_search.proofs.DeltaExact.{route-distance-exact}
 use Rattle.elimination.specs.RunLists.{runAt, insertAt, putIn}
-use Rattle.elimination.specs.Loads.{demandsOf, demandAt, roomF}
-use Rattle.elimination.specs.Insertion.{TermsF, beforeOf, addsF, legF, demandF}
+use Rattle.elimination.specs.Loads.{roomF}
+use Rattle.elimination.specs.Insertion.{TermsF, addsF, legF, demandF}
 use Rattle.elimination.specs.Elimination.{finiteF, savedF}
 use Rattle.elimination.specs.Image.{Image}
 use Rattle.elimination.proofs.Fewer.{calls}
@@ -48,15 +50,16 @@ final-at a [] (suc k) h = absurd (not-suc-le-zero h)
 final-at a (x ∷ run) (suc zero) h = refl
 final-at a (x ∷ run) (suc (suc k)) h = final-at x run (suc k) (le-of-suc-le-suc h)
 
-before-is : (run : List ℕ) (pos : ℕ) → pos ≤ length run → final 0 (take pos run) ≡ beforeOf run pos
+before-is : (run : List ℕ) (pos : ℕ) → pos ≤ length run → final 0 (take pos run) ≡ placeBefore run pos
+unfolding placeBefore
 before-is run zero h = refl
 before-is run (suc k) h = final-at 0 run (suc k) h
 
 module _ (s : Sheet) where
   abbrev Adds : List ℕ → ℕ → ℕ → Type 0
   Adds run pos c =
-      distanceOf (givenOf s) (insertAt pos c run) + distance s (beforeOf run pos) (getD run pos 0)
-      ≡ distanceOf (givenOf s) run + distance s (beforeOf run pos) c + distance s c (getD run pos 0)
+      distanceOf (givenOf s) (insertAt pos c run) + distance s (placeBefore run pos) (getD run pos 0)
+      ≡ distanceOf (givenOf s) run + distance s (placeBefore run pos) c + distance s c (getD run pos 0)
 
   -- before a call
   adds-before : (run : List ℕ) (pos c : ℕ) → pos < length run → Adds run pos c
@@ -81,7 +84,7 @@ module _ (s : Sheet) where
       let t : take pos run ≡ run = take-all pos run (omega arith) in
       let d : drop pos run ≡ [] = drop-of-length-le run {i = pos} (omega arith) in
       let n : getD run pos 0 ≡ 0 = List·getD-eq-default run 0 {n = pos} (omega arith) in
-      let p : final x xs ≡ beforeOf run pos = ap (final 0) (sym t) ∙ before-is run pos (omega arith) in
+      let p : final x xs ≡ placeBefore run pos = ap (final 0) (sym t) ∙ before-is run pos (omega arith) in
       omega (
         arith,
         insertion-last (givenOf s) x xs c,
@@ -99,8 +102,8 @@ module _ (s : Sheet) where
 
   -- and in run k of several
   pub total-put : (rs : List (List ℕ)) → All Calls rs → (k pos c : ℕ) → k < length rs → pos ≤ length (runAt rs k)
-      → total (givenOf s) (putIn k pos c rs) + distance s (beforeOf (runAt rs k) pos) (getD (runAt rs k) pos 0)
-      ≡ total (givenOf s) rs + distance s (beforeOf (runAt rs k) pos) c + distance s c (getD (runAt rs k) pos 0)
+      → total (givenOf s) (putIn k pos c rs) + distance s (placeBefore (runAt rs k) pos) (getD (runAt rs k) pos 0)
+      ≡ total (givenOf s) rs + distance s (placeBefore (runAt rs k) pos) c + distance s c (getD (runAt rs k) pos 0)
   total-put [] a k pos c h b = absurd (not-suc-le-zero h)
   total-put (r ∷ rs) a zero pos c h b = omega (arith, insertion r (a .0) pos c b)
   total-put (r ∷ rs) a (suc k) pos c h b = omega (arith, total-put rs (a .1) k pos c (le-of-suc-le-suc h) b)
@@ -125,8 +128,7 @@ finite-exact n h = rw (is-lt-inf (fl n) n (fl-is n h), below-infinity (fl n) n (
 
 module _ (s : Sheet) (S : Sized s) (T : TermsF) (I : Image s T) where
   pub demand-exact : (c : ℕ) → Place s c → demandF T c ≡ customer s c .demand
-  unfolding demandAt recordF
-  demand-exact c p = List·getD-map (λ (x : CustomerOf Float). x .demand) (T .tables .customers) (recordIndex c) blank ∙ ap (λ (x : CustomerOf Float). x .demand) (record-exact s S (T .tables) (I .tables-hold) c p)
+  demand-exact c p = asked (T .tables .customers) c ∙ Clock.demand-exact s S (T .tables .customers) (I .tables-hold .records-are) c p
 
   load-exact : (run : List ℕ) → All (Place s) run → sum (demandF T) run ≡ load (givenOf s) run
   load-exact [] a = refl
@@ -140,15 +142,16 @@ module _ (s : Sheet) (S : Sized s) (T : TermsF) (I : Image s T) where
   leg-exact : (a b : ℕ) → Place s a → Place s b → legF T a b ≡ fl (distance s a b)
   leg-exact = distance-exact s S (T .tables) (I .tables-hold)
 
-  before-inside : (run : List ℕ) (pos : ℕ) → All (Place s) run → Place s (beforeOf run pos)
+  before-inside : (run : List ℕ) (pos : ℕ) → All (Place s) run → Place s (placeBefore run pos)
+  unfolding placeBefore
   before-inside run zero a = depot-inside s S
   before-inside run (suc k) a = call-inside s S run k a
 
   pub adds-exact : (run : List ℕ) (pos c : ℕ) → All (Place s) run → Place s c
-      → addsF (legF T) run pos c ≡ diff (distance s (beforeOf run pos) c + distance s c (getD run pos 0)) (distance s (beforeOf run pos) (getD run pos 0))
+      → addsF (legF T) run pos c ≡ diff (distance s (placeBefore run pos) c + distance s c (getD run pos 0)) (distance s (placeBefore run pos) (getD run pos 0))
   unfolding addsF
   adds-exact run pos c a p =
-      let prev = beforeOf run pos in
+      let prev = placeBefore run pos in
       let next = getD run pos 0 in
       let before = before-inside run pos a in
       let behind = call-inside s S run pos a in

@@ -13,7 +13,7 @@ use Rattle.whole.specs.Whole.{fl}
 use Rattle.local_search.specs.Delta.{routeDistanceF}
 use Rattle.elimination.specs.declared.insertion.Placed.{Placed}
 use Rattle.elimination.specs.RunLists.{runsIn}
-use Rattle.elimination.specs.Loads.{demandsOf}
+use Rattle.evaluation.specs.Tables.{demandsOf}
 use Rattle.elimination.specs.Least.{byDemand}
 use Rattle.elimination.specs.Insertion.{TermsF, legF, demandF, placeAllF, placedOf}
 use Rattle.elimination.specs.Elimination.{finiteF, savedF, emptiedF}

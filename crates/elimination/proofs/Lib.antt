@@ -5,8 +5,6 @@ pub mod Holding
 pub mod RunParts
 pub mod Changing
 pub mod Keeping
--- What customers ask for.
-pub mod Demands
 -- The first of the least, taken out.
 pub mod Least
 -- Candidates.

@@ -1,5 +1,5 @@
 -- Where a customer may go and what it adds there, on floats, as the code has it. Definitions only.
-use Prim.Native.Nat.{ℕ, zero, suc, _≤_}
+use Prim.Native.Nat.{ℕ, suc, _≤_}
 use mathlib.Core.Path.{_≡_}
 use mathlib.Core.Bool.{Bool, true, cond}
 use mathlib.Core.List.{List, [], _∷_, _++_, map}
@@ -13,12 +13,13 @@ use Rattle.definitions.specs.Sort.{sort}
 use Rattle.models.specs.declared.customer.Customer.{Customer}
 use Rattle.models.specs.declared.limits.RouteLimits.{RouteLimits}
 use Rattle.evaluation.specs.Records.{Tables, LimitsF, limitsOf, lent}
-use Rattle.evaluation.specs.Tables.{distanceF}
+use Rattle.evaluation.specs.Tables.{demandsOf, askedF, distanceF}
 use Rattle.evaluation.specs.Route.{feasibleF}
+use Rattle.local_search.specs.Delta.{placeBefore}
 use Rattle.elimination.specs.declared.insertion.Terms.{Terms}
 use Rattle.elimination.specs.declared.insertion.Placed.{Placed}
 use Rattle.elimination.specs.RunLists.{Sound, runsIn, runAt, putIn}
-use Rattle.elimination.specs.Loads.{demandsOf, demandAt, roomF}
+use Rattle.elimination.specs.Loads.{roomF}
 
 -- ---- what is lent
 
@@ -49,15 +50,10 @@ termsOf t distances times = lentTerms (t .customers) distances times (t .size) (
 
 -- ---- one place
 
--- the place before call number pos of a run, and the depot before the first
-abbrev pub beforeOf : List ℕ → ℕ → ℕ
-beforeOf run zero = 0
-beforeOf run (suc k) = getD run k 0
-
 -- what c adds before call number pos of a run
 unfoldable pub addsF : (ℕ → ℕ → Float) → List ℕ → ℕ → ℕ → Float
 addsF leg run pos c =
-    let prev = beforeOf run pos in
+    let prev = placeBefore run pos in
     let next = getD run pos 0 in
     Ieee.sub binary64 (Ieee.add binary64 (leg prev c) (leg c next)) (leg prev next)
 
@@ -118,7 +114,7 @@ module _ (T : TermsF) where
   legF = distanceF (T .tables)
 
   abbrev pub demandF : ℕ → ℕ
-  demandF = demandAt (demandsOf (T .tables .customers))
+  demandF = askedF (demandsOf (T .tables .customers))
 
   abbrev pub candidatesF : ℕ → List (List ℕ) → List Candidate
   candidatesF c runs = candidatesFrom legF (roomF (demandsOf (T .tables .customers)) (T .capacity)) 0 c runs

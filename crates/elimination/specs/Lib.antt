@@ -1,6 +1,6 @@
 -- Run lists by value.
 pub mod RunLists
--- What customers ask for.
+-- Whether a run has room for one more.
 pub mod Loads
 -- The first of the least.
 pub mod Least

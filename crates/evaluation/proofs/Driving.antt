@@ -1,68 +1,41 @@
--- The way through the calls with no break, call by call: a label that is gone stays gone, and a stretch goes by its parts. Assumes nothing.
+-- The way through the calls with no break, call by call, and the break of a place. Assumes nothing.
 use Prim.Native.Nat.{ℕ, zero, suc, _+_, _-_, _≤_, _<_, min}
 use native.Mathlib.Omega.{arith}
 use native.Mathlib.Numerals.{add-one}
-use mathlib.Core.Path.{_≡_, refl, sym, ap, ap₂, _∙_}
-use mathlib.Core.List.{List, [], _∷_, _++_}
+use mathlib.Core.Path.{_≡_, refl, sym, ap, _∙_}
+use mathlib.Core.List.{List}
 use mathlib.Core.Option.{Option, none, some}
 use lib.ListN.{length, getD, take, drop, drop-of-length-le}
 use lib.Seq.{drop-cons, take-all}
 use lib.Dec.{leb}
-use lib.Ieee as Ieee
-use lib.Ieee.{Float, binary64}
+use lib.Ieee.{Float}
 use borrow.Author.Tests.{leb-true, leb-false}
 use Rattle.basics.specs.Tests.{by-test}
 use Rattle.basics.specs.Options.{_>>=_}
 use Rattle.definitions.specs.Sheet.{BreakOf, CustomerOf}
-use Rattle.definitions.specs.Run.{lastOf}
-use Rattle.evaluation.specs.declared.schedule.Label.{Label}
+use Rattle.evaluation.specs.declared.way.Way.{Way}
 use Rattle.evaluation.specs.Records.{Tables}
-use Rattle.evaluation.specs.Serving.{serveF, carryF}
-use Rattle.evaluation.specs.Tables.{recordF, distanceF, timeF, legsF}
-use Rattle.evaluation.specs.Route.{servedF, wayF, breakStartAtF, startF}
+use Rattle.evaluation.specs.Way.{wayOnF, throughF}
+use Rattle.evaluation.specs.Route.{breakStartAtF, startF}
 
-pub served-gone : (t : Tables) (a : ℕ) (calls : List ℕ) → servedF t a none calls ≡ none
-unfolding servedF
-served-gone t a [] = refl
-served-gone t a (c ∷ cs) = served-gone t c cs
+-- ---- the loop over the calls: what is left of them from call i on
 
-pub served-append : (t : Tables) (a : ℕ) (m : Option Label) (l k : List ℕ) → servedF t a m (l ++ k) ≡ servedF t (lastOf a l) (servedF t a m l) k
-unfolding servedF
-served-append t a m [] k = refl
-served-append t a m (c ∷ l) k = served-append t c (carryF (recordF t c) none 0 (timeF t a c) m) l k
+module _ (leg time : ℕ → ℕ → Float) (customer : ℕ → CustomerOf Float) (calls : List ℕ) (w : Way) (i : ℕ) where
+  module _ (c : CustomerOf Float) (far travel : Float) (o : Option Way) (h : i < length calls) (ef : far ≡ leg (w .prev) (getD calls i 0)) (et : travel ≡ time (w .prev) (getD calls i 0))
+      (ec : c ≡ customer (getD calls i 0)) (eo : o ≡ wayOnF c far travel w (getD calls i 0)) where
+    turns : throughF leg time customer w (drop i calls) ≡ (o >>= λ v. throughF leg time customer v (drop (i + 1) calls))
+    unfolding throughF
+    turns = rw (eo, ec, et, ef, add-one, drop-cons calls i 0)
 
--- ---- one call more
+    pub through-turn : (v : Way) → o ≡ some v → throughF leg time customer w (drop i calls) ≡ throughF leg time customer v (drop (i + 1) calls)
+    through-turn v e = turns ∙ ap (λ (x : Option Way). x >>= λ y. throughF leg time customer y (drop (i + 1) calls)) e
 
-module _ (t : Tables) (far : Float) (a : ℕ) (l : Label) (c : ℕ) (cs : List ℕ) where
-  way-goes : (m : Label) → serveF (recordF t c) none 0 (timeF t a c) l ≡ some m → wayF t far a l (c ∷ cs) ≡ wayF t (Ieee.add binary64 far (distanceF t a c)) c m cs
-  unfolding wayF servedF legsF
-  way-goes m e =
-      ap (λ (o : Option Label). servedF t c o cs >>= λ n. some (record { distance = legsF t (Ieee.add binary64 far (distanceF t a c)) c cs; label = n; prev = lastOf c cs })) e
+    pub through-fails : o ≡ none → throughF leg time customer w (drop i calls) ≡ none
+    through-fails e = turns ∙ ap (λ (x : Option Way). x >>= λ y. throughF leg time customer y (drop (i + 1) calls)) e
 
-  way-stops : serveF (recordF t c) none 0 (timeF t a c) l ≡ none → wayF t far a l (c ∷ cs) ≡ none
-  unfolding wayF servedF legsF
-  way-stops e =
-      ap (λ (o : Option Label). o >>= λ n. some (record { distance = legsF t (Ieee.add binary64 far (distanceF t a c)) c cs; label = n; prev = lastOf c cs }))
-      (ap (λ (o : Option Label). servedF t c o cs) e ∙ served-gone t c cs)
-
--- ---- the loop over a run: what is left of it from call i on
-
-module _ (t : Tables) (route : List ℕ) (far : Float) (a : ℕ) (l : Label) (i : ℕ) where
-  module _ (c : CustomerOf Float) (travel : Float) (o : Option Label) (h : i < length route) (ew : travel ≡ timeF t a (getD route i 0)) (ec : c ≡ recordF t (getD route i 0))
-      (es : o ≡ serveF c none 0 travel l) where
-    found : serveF (recordF t (getD route i 0)) none 0 (timeF t a (getD route i 0)) l ≡ o
-    found = sym (es ∙ ap₂ (λ (d : CustomerOf Float) (w : Float). serveF d none 0 w l) ec ew)
-
-    pub way-turn : (m : Label) (leg : Float) → leg ≡ distanceF t a (getD route i 0) → o ≡ some m
-        → wayF t far a l (drop i route) ≡ wayF t (Ieee.add binary64 far leg) (getD route i 0) m (drop (i + 1) route)
-    way-turn m leg el e = rw (el, add-one, drop-cons route i 0) (way-goes t far a l (getD route i 0) (drop (suc i) route) m (found ∙ e))
-
-    pub way-fails : o ≡ none → wayF t far a l (drop i route) ≡ none
-    way-fails e = rw (drop-cons route i 0) (way-stops t far a l (getD route i 0) (drop (suc i) route) (found ∙ e))
-
-  pub way-end : length route ≤ i → wayF t far a l (drop i route) ≡ some (record { distance = far; label = l; prev = a })
-  unfolding wayF servedF legsF
-  way-end h = rw (drop-of-length-le route h)
+  pub through-end : length calls ≤ i → throughF leg time customer w (drop i calls) ≡ some w
+  unfolding throughF
+  through-end h = rw (drop-of-length-le calls h)
 
 -- ---- the break of a place
 

@@ -1,5 +1,6 @@
--- Reading a call's record, and the load of calls.
+-- Reading a call's record, what each record asks for, and the load of calls.
 pub mod Reading
+pub mod Demands
 pub mod Loading
 -- The clock, and the way with no break, as a run grows by a call.
 pub mod Growing

@@ -8,7 +8,7 @@ use mathlib.Core.Option.{Option, none, some, Option·map}
 use lib.ListN.{length, getD, take, length-take}
 use borrow.Author.Tests.{ne-eqb}
 use lib.Ieee as Ieee
-use lib.Ieee.{binary64}
+use lib.Ieee.{Float, binary64}
 use Rattle.basics.specs.Tests.{by-test}
 use Rattle.basics.specs.Options.{_>>=_, Holds, given, present}
 use Rattle.basics.specs.Lists.{All}
@@ -29,13 +29,14 @@ use Rattle.models.specs.Image.{flBreak}
 use Rattle.models.specs.Limits.{allowF}
 use Rattle.models.proofs.Exact.{Small, allow-exact}
 use Rattle.evaluation.specs.declared.schedule.Label.{Label}
-use Rattle.evaluation.specs.declared.route.Way.{Way}
+use Rattle.evaluation.specs.declared.way.Way.{Way}
 use Rattle.evaluation.specs.Records.{Tables}
-use Rattle.evaluation.specs.Serving.{startLabel, breakStartF}
+use Rattle.evaluation.specs.Serving.{breakStartF}
 use Rattle.evaluation.specs.Clock.{begunF}
-use Rattle.evaluation.specs.Tables.{timeF, legsF}
+use Rattle.evaluation.specs.Tables.{distanceF, timeF, legsF}
 use Rattle.evaluation.specs.Schedule.{clockFromF}
-use Rattle.evaluation.specs.Route.{servedF, wayF, driveF, homewardF, plainF, totalsF, allowedF, breakStartAtF, startF, feasibleF, pricedF, costF, evalF}
+use Rattle.evaluation.specs.Way.{startWay, wayOnF, throughF, wayF, homewardF, plainF}
+use Rattle.evaluation.specs.Route.{totalsF, allowedF, breakStartAtF, startF, feasibleF, pricedF, costF, evalF}
 use Rattle.evaluation.specs.Image.{flLabel, flTotals, flEvaluation, flCost, flLimits, flClock, Image}
 use Rattle.evaluation.proofs.ServingExact.{through}
 use Rattle.evaluation.proofs.ClockExact.{ended, home-exact, carried-early, carry-exact, distance-from-exact, time-exact, clock-exact, schedule-exact}
@@ -65,30 +66,42 @@ module _ (s : Sheet) (S : Sized s) (t : Tables) (I : Image s t) where
       off : 0 ≡ j → ⊥
       off e = omega arith
 
-  pub served-exact : (k j a : ℕ) → 0 < j → (m : Option Whole.Label) (calls : List ℕ) → k + length calls ≤ mostCalls → Place s a → All (Place s) calls → Holds (Early k) m
-      → servedF t a (Option·map flLabel m) calls ≡ Option·map flLabel (serveAll s 0 j a m calls)
-  unfolding servedF serveAll
-  served-exact k j a pos m [] h p i E = refl
-  served-exact k j a pos m (c ∷ cs) h p i E =
-      ap (λ (o : Option Label). servedF t c o cs) (carry-exact s S t I k (omega arith) none tt 0 a c p (i .0) m E)
-      ∙ (served-exact (suc k) (suc j) c (omega arith) (m >>= serve s none 0 a c) cs (omega arith) (i .0) (i .1) (carried-early s S t I k (omega arith) none tt 0 a c m E)
-      ∙ ap (λ (o : Option Whole.Label). Option·map flLabel (serveAll s 0 (suc j) c o cs)) (unnumbered j a c pos m))
+  nowhere : (j a : ℕ) (calls : List ℕ) → serveAll s 0 j a none calls ≡ none
+  unfolding serveAll
+  nowhere j a [] = refl
+  nowhere j a (c ∷ cs) = nowhere (suc j) c cs
+
+  -- a label behind the calls, with the way there
+  abbrev behind : Float → ℕ → List ℕ → Option Whole.Label → Option Way
+  behind far a calls m = Option·map flLabel m >>= λ l. some (record { distance = legsF t far a calls; label = l; prev = lastOf a calls })
+
+  way-exact : (k j a : ℕ) → 0 < j → (far : Float) (l : Whole.Label) (calls : List ℕ) → k + length calls ≤ mostCalls → Place s a → All (Place s) calls → Early k l
+      → wayF t (record { distance = far; label = flLabel l; prev = a }) calls ≡ behind far a calls (serveAll s 0 j a (some l) calls)
+  unfolding throughF wayOnF legsF serveAll
+  way-exact k j a pos far l [] h p i E = refl
+  way-exact k j a pos far l (c ∷ cs) h p i E =
+      ap (λ (o : Option Label). (o >>= λ m. some (record { distance = Ieee.add binary64 far (distanceF t a c); label = m; prev = c })) >>= λ v. wayF t v cs) (carry-exact s S t I k (omega arith) none tt 0 a c p (i .0) (some l) E)
+      ∙ (go (serve s none 0 a c l) (carried-early s S t I k (omega arith) none tt 0 a c (some l) E) (λ m F. way-exact (suc k) (suc j) c (omega arith) (Ieee.add binary64 far (distanceF t a c)) m cs (omega arith) (i .0) (i .1) F)
+      ∙ ap (λ (o : Option Whole.Label). behind (Ieee.add binary64 far (distanceF t a c)) c cs (serveAll s 0 (suc j) c o cs)) (unnumbered j a c pos (some l)))
+    where
+      go : (o : Option Whole.Label) → Holds (Early (suc k)) o
+          → ((m : Whole.Label) → Early (suc k) m → wayF t (record { distance = Ieee.add binary64 far (distanceF t a c); label = flLabel m; prev = c }) cs ≡ behind (Ieee.add binary64 far (distanceF t a c)) c cs (serveAll s 0 (suc j) c (some m) cs))
+          → ((Option·map flLabel o >>= λ m. some (record { distance = Ieee.add binary64 far (distanceF t a c); label = m; prev = c })) >>= λ v. wayF t v cs)
+          ≡ behind (Ieee.add binary64 far (distanceF t a c)) c cs (serveAll s 0 (suc j) c o cs)
+      go none F on = rw (nowhere (suc j) c cs)
+      go (some m) F on = on m F
 
   module _ (calls : List ℕ) (few : length calls ≤ mostCalls) (i : All (Place s) calls) where
     -- the label after the calls
     abbrev last : Option Whole.Label
     last = serveAll s 0 1 0 (some start) calls
 
-    last-exact : servedF t 0 (some startLabel) calls ≡ Option·map flLabel last
-    last-exact = served-exact 0 1 0 (omega arith) (some start) calls (omega arith) (depot-inside s S) i start-early
-
     last-early : (l : Whole.Label) → last ≡ some l → Early (length calls) l
     last-early l e = subst (Holds (Early (length calls))) e (serve-all-most s S 0 calls few)
 
     -- what follows the way through the calls goes on from that label
-    pub driven : {C : Type 0} (g : Way → Option C) → (driveF t calls >>= g) ≡ (Option·map flLabel last >>= λ m. g (record { distance = legsF t (fl 0) 0 calls; label = m; prev = lastOf 0 calls }))
-    unfolding wayF
-    driven g = joined (servedF t 0 (some startLabel) calls) _ g ∙ rw last-exact
+    pub driven : {C : Type 0} (g : Way → Option C) → (wayF t startWay calls >>= g) ≡ (Option·map flLabel last >>= λ m. g (record { distance = legsF t (fl 0) 0 calls; label = m; prev = lastOf 0 calls }))
+    driven g = ap (λ (o : Option Way). o >>= g) (way-exact 0 1 0 (omega arith) (fl 0) start calls (omega arith) (depot-inside s S) i start-early) ∙ joined (Option·map flLabel last) _ g
 
   module _ (calls : List ℕ) (few : length calls ≤ mostCalls) (i : All (Place s) calls) where
     -- with no break on the sheet the clock has the one label
@@ -98,7 +111,7 @@ module _ (s : Sheet) (S : Sized s) (t : Tables) (I : Image s t) where
         ap (λ (o : Option Break). counts o (time s (lastOf 0 calls) 0) (clockFrom s 1 0 begun calls) >>= λ l. some (home s calls l)) rest-is
         ∙ ap (λ (o : Option Whole.Label). o >>= λ l. some (home s calls l)) (plain s calls)
 
-    pub plain-exact : s .rest ≡ none → plainF t calls ≡ Option·map flTotals (clock s calls)
+    pub plain-exact : s .rest ≡ none → plainF t startWay calls ≡ Option·map flTotals (clock s calls)
     unfolding plainF
     plain-exact rest-is =
         let far = distanceFrom s 0 calls in

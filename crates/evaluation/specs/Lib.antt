@@ -5,7 +5,8 @@ pub mod Serving
 pub mod Clock
 pub mod Tables
 pub mod Schedule
--- The evaluations of a run on floats.
+-- The way with no break, and the evaluations of a run, on floats.
+pub mod Way
 pub mod Route
 -- Labels, totals and clocks of whole numbers, held in floats.
 pub mod Image

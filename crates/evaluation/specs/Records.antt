@@ -16,9 +16,9 @@ use Rattle.evaluation.specs.declared.schedule.Scheduled.{Scheduled}
 use Rattle.evaluation.specs.declared.schedule.Finished.{Finished}
 use Rattle.evaluation.specs.declared.schedule.Finished.the-variants.{Impossible, Home}
 use Rattle.evaluation.specs.declared.schedule.BreakClock.{BreakClock}
-use Rattle.evaluation.specs.declared.route.Way.{Way}
-use Rattle.evaluation.specs.declared.route.Driven.{Driven}
-use Rattle.evaluation.specs.declared.route.Driven.the-variants.{Failed, To}
+use Rattle.evaluation.specs.declared.way.Way.{Way}
+use Rattle.evaluation.specs.declared.way.Driven.{Driven}
+use Rattle.evaluation.specs.declared.way.Driven.the-variants.{Failed, To}
 use Rattle.evaluation.specs.declared.route.Start.{Start}
 use Rattle.evaluation.specs.declared.route.Start.the-variants as Starts
 use Rattle.evaluation.specs.declared.route.RouteEval.{RouteEval}

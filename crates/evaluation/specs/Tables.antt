@@ -1,7 +1,7 @@
 -- What is looked up for a call: its record, what it asks for, the distance and the travel time. Definitions only.
 use Prim.Native.Nat.{ℕ}
 use mathlib.Core.Bool.{cond}
-use mathlib.Core.List.{List, [], _∷_}
+use mathlib.Core.List.{List, [], _∷_, map}
 use mathlib.Core.Option.{none}
 use lib.Dec.{ltb}
 use lib.Ieee as Ieee
@@ -27,6 +27,14 @@ recordF t c = getD (t .customers) (recordIndex c) blank
 -- what a call asks for
 unfoldable pub demandF : List (CustomerOf Float) → ℕ → ℕ
 demandF customers c = getD customers (recordIndex c) blank .demand
+
+-- what each record asks for
+abbrev pub demandsOf : List (CustomerOf Float) → List ℕ
+demandsOf customers = map (λ (x : CustomerOf Float). x .demand) customers
+
+-- what a call asks for, from that list
+abbrev pub askedF : List ℕ → ℕ → ℕ
+askedF demands c = getD demands (recordIndex c) 0
 
 -- and what calls ask for in all
 unfoldable pub loadF : List (CustomerOf Float) → List ℕ → ℕ

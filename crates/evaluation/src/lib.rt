@@ -1,4 +1,5 @@
-// What a run comes to: its load, the clock of a run with a break, and the evaluations of a run.
+// What a run comes to: its load, the clock of a run with a break, the way of one without, and the evaluations of a run.
 pub mod load;
 pub mod route;
 pub mod schedule;
+pub mod way;

@@ -1,15 +1,37 @@
-// What calls ask for, one by one and in all.
+// What records and calls ask for, one by one and in all.
 ghost use mathlib.Core.Path.{_≡_};
 ghost use mathlib.Core.List.{map};
 ghost use Prim.Native.Nat.{_*_, _<_, _≤_};
 ghost use lib.ListN.{length};
 ghost use Rattle.models.specs.Records.{customerOf};
-ghost use Rattle.evaluation.specs.Tables.{demandF, loadF};
+ghost use Rattle.evaluation.specs.Tables.{demandsOf, askedF, demandF, loadF};
 use crate::schedule::record_index;
 use models::customer::Customer;
 use models::load::wide;
 
-// What a call asks for.
+// What each record asks for.
+pub fn demands_of(customers: [Customer; 64]) -> [u32; 64]
+    ensures { λ r. ⌜ (length r ≡ 64) × (r ≡ demandsOf (map customerOf customers)) ⌝ }
+{
+    let mut demands = [0u32; 64];
+    let mut i = 0;
+    while i < 64 {
+        let customer = customers[i];
+        demands[i] = customer.demand;
+        i += 1;
+    }
+    demands
+}
+
+// What a call asks for, from that list.
+pub fn demand_at(demands: &[u32; 64], cid: usize) -> u64
+    ensures { λ r. ⌜ (r ≡ askedF (now (demands .entry)) cid) × (r < 4294967296) ⌝ }
+{
+    let index = record_index(cid);
+    wide(demands[index])
+}
+
+// What a call asks for, from the records.
 pub fn demand_of(customers: [Customer; 64], cid: usize) -> u64
     ensures { λ r. ⌜ (r ≡ demandF (map customerOf customers) cid) × (r < 4294967296) ⌝ }
 {

@@ -2,15 +2,14 @@
 ghost use mathlib.Core.Path.{_≡_};
 ghost use lib.ListN.{getD};
 ghost use Rattle.models.specs.Records.{breakOf, restOf};
-ghost use Rattle.evaluation.specs.Records.{finishedOf, drivenOf, startOf, evaluatedOf, limitsOf, lent};
-ghost use Rattle.evaluation.specs.Route.{driveF, plainF, totalsF, allowedF, breakStartAtF, startF, evalF, feasibleF, costF};
+ghost use Rattle.evaluation.specs.Records.{finishedOf, startOf, evaluatedOf, limitsOf, lent};
+ghost use Rattle.evaluation.specs.Route.{totalsF, allowedF, breakStartAtF, startF, evalF, feasibleF, costF};
 use crate::schedule::Finished;
-use crate::schedule::Label;
-use crate::schedule::Reached;
-use crate::schedule::record_index;
 use crate::schedule::schedule;
-use crate::schedule::serve;
-use distance::matrix::get;
+use crate::way::Driven;
+use crate::way::Way;
+use crate::way::plain_from;
+use crate::way::way_through;
 use distance::matrix::travel_time;
 use models::count::fewer;
 use models::customer::Customer;
@@ -19,19 +18,6 @@ use models::vehicle::Rest;
 use models::vehicle::VehicleBreak;
 use whole::infinity;
 use whole::later;
-
-// Some way through the calls: the distance travelled, the label, and the last place.
-pub struct Way {
-    pub distance: f64,
-    pub label: Label,
-    pub prev: usize,
-}
-
-// A way that fails at a window, or one.
-pub enum Driven {
-    Failed,
-    To(Way),
-}
 
 // No break, or when it starts.
 pub enum Start {
@@ -55,59 +41,6 @@ pub enum Evaluated {
     Allowed(RouteEval),
 }
 
-// The way through the calls with no break.
-pub fn drive(
-    route: &[usize],
-    customers: [Customer; 64],
-    distances: &[f64],
-    times: &[f64],
-    size: usize,
-) -> Driven
-    ensures { λ r. ⌜ drivenOf r ≡ driveF (lent customers (now (distances .entry)) (now (times .entry)) size) (now (route .entry)) ⌝ }
-{
-    let mut distance = 0.0;
-    let mut label = Label::start();
-    let mut prev = 0;
-    let mut i = 0;
-    while i < route.len() {
-        let cid = route[i];
-        distance = distance + get(distances, size, prev, cid);
-        let travel = travel_time(distances, times, size, prev, cid);
-        let index = record_index(cid);
-        let customer = customers[index];
-        let Reached::At(l) = serve(label, travel, customer, 0, Rest::Unbroken) else {
-            return Driven::Failed;
-        };
-        label = l;
-        prev = cid;
-        i += 1;
-    }
-    Driven::To(Way {
-        distance,
-        label,
-        prev,
-    })
-}
-
-// The totals of a run with no break.
-pub fn plain(
-    route: &[usize],
-    customers: [Customer; 64],
-    distances: &[f64],
-    times: &[f64],
-    size: usize,
-) -> Finished
-    ensures { λ r. ⌜ finishedOf r ≡ plainF (lent customers (now (distances .entry)) (now (times .entry)) size) (now (route .entry)) ⌝ }
-{
-    let Driven::To(d) = drive(route, customers, distances, times, size) else {
-        return Finished::Impossible;
-    };
-    let label = d.label;
-    let prev = d.prev;
-    let distance = d.distance + get(distances, size, prev, 0);
-    Finished::Home(label.home(distance, travel_time(distances, times, size, prev, 0)))
-}
-
 // The totals of a run, whatever the limits.
 pub fn totals(
     route: &[usize],
@@ -120,7 +53,7 @@ pub fn totals(
     ensures { λ r. ⌜ finishedOf r ≡ totalsF (lent customers (now (distances .entry)) (now (times .entry)) size) (restOf rest) (now (route .entry)) ⌝ }
 {
     match rest {
-        Rest::Unbroken => plain(route, customers, distances, times, size),
+        Rest::Unbroken => plain_from(Way::start(), route, customers, distances, times, size),
         Rest::Break(b) => schedule(route, customers, distances, times, size, b),
     }
 }
@@ -201,7 +134,8 @@ pub fn break_start(
     ensures { λ r. ⌜ startOf r ≡ breakStartAtF (lent customers (now (distances .entry)) (now (times .entry)) size) (breakOf rest) k (now (route .entry)) ⌝ }
 {
     let n = fewer(k, route.len());
-    let Driven::To(d) = drive(&route[..n], customers, distances, times, size) else {
+    let begun = &route[..n];
+    let Driven::To(d) = way_through(Way::start(), begun, customers, distances, times, size) else {
         return Start::Unbroken;
     };
     let label = d.label;

@@ -1,12 +1,14 @@
 // The clock of a run that carries a driver's break (evaluation/schedule.rs). It keeps two labels: with the break still to take, and with it taken.
 ghost use mathlib.Core.Path.{_≡_};
-ghost use Prim.Native.Nat.{_<_};
+ghost use Prim.Native.Nat.{_+_, _<_};
+ghost use lib.ListN.{length};
+ghost use Rattle.whole.specs.Whole.{fl};
 ghost use Rattle.models.specs.Records.{windowOf, penaltyOf, customerOf, breakOf, restOf};
 ghost use Rattle.evaluation.specs.Records.{readyOf, reachedOf, clockOf, finishedOf, lent};
 ghost use Rattle.evaluation.specs.Serving.{startLabel, readyF, placeAfterF, chargeF, enterF, serveF, carryF, smallerF, earlierF};
 ghost use Rattle.evaluation.specs.Clock.{excusedF, begunF, pushF, aliveF, isExcusedF, countsF, homeF, finishF};
 ghost use Rattle.evaluation.specs.Tables.{recordIndex};
-ghost use Rattle.evaluation.specs.Schedule.{scheduleF};
+ghost use Rattle.evaluation.specs.Schedule.{endF, scheduleF};
 use distance::matrix::get;
 use distance::matrix::travel_time;
 use models::customer::Customer;
@@ -59,6 +61,12 @@ pub struct BreakClock {
     pub after: Reached,
     pub prev: usize,
     pub index: usize,
+}
+
+// A run on its way with a break: its clock, and the distance travelled.
+pub struct Timed {
+    pub clock: BreakClock,
+    pub distance: f64,
 }
 
 // Ready on arrival or, with the break here, after it: it starts at the later of arrival and earliest, and at latest by latest.
@@ -310,6 +318,18 @@ impl BreakClock {
     }
 }
 
+impl Timed {
+    // Before the first call.
+    pub fn start(rest: VehicleBreak) -> Timed
+        ensures { λ r. ⌜ (clockOf (r .clock) ≡ begunF (breakOf rest)) × (r .distance ≡ fl 0) ⌝ }
+    {
+        Timed {
+            clock: BreakClock::new(rest),
+            distance: 0.0,
+        }
+    }
+}
+
 // Which of the 64 records a call has: its own, or the first for a call beyond them.
 pub fn record_index(cid: usize) -> usize
     ensures { λ r. ⌜ (r ≡ recordIndex cid) × (r < 64) ⌝ }
@@ -317,22 +337,23 @@ pub fn record_index(cid: usize) -> usize
     if cid < 64 { cid } else { 0 }
 }
 
-// The clock of a whole run with this break.
-pub fn schedule(
-    route: &[usize],
+// The totals of a run that these calls end.
+pub fn clock_from(
+    from: Timed,
+    calls: &[usize],
     customers: [Customer; 64],
     distances: &[f64],
     times: &[f64],
     size: usize,
-    rest: VehicleBreak,
 ) -> Finished
-    ensures { λ r. ⌜ finishedOf r ≡ scheduleF (lent customers (now (distances .entry)) (now (times .entry)) size) (breakOf rest) (now (route .entry)) ⌝ }
+    requires { ⌜ from .clock .index + length (now calls) < 0xFFFF_FFFF_FFFF_FFFF ⌝ }
+    ensures { λ r. ⌜ finishedOf r ≡ endF (lent customers (now (distances .entry)) (now (times .entry)) size) (clockOf (from .clock)) (from .distance) (now (calls .entry)) ⌝ }
 {
-    let mut clock = BreakClock::new(rest);
-    let mut distance = 0.0;
+    let mut clock = from.clock;
+    let mut distance = from.distance;
     let mut i = 0;
-    while i < route.len() {
-        let cid = route[i];
+    while i < calls.len() {
+        let cid = calls[i];
         let prev = clock.prev;
         distance = distance + get(distances, size, prev, cid);
         let index = record_index(cid);
@@ -349,4 +370,18 @@ pub fn schedule(
     let last = clock.prev;
     distance = distance + get(distances, size, last, 0);
     clock.finish(distance, travel_time(distances, times, size, last, 0))
+}
+
+// The clock of a whole run with this break.
+pub fn schedule(
+    route: &[usize],
+    customers: [Customer; 64],
+    distances: &[f64],
+    times: &[f64],
+    size: usize,
+    rest: VehicleBreak,
+) -> Finished
+    ensures { λ r. ⌜ finishedOf r ≡ scheduleF (lent customers (now (distances .entry)) (now (times .entry)) size) (breakOf rest) (now (route .entry)) ⌝ }
+{
+    clock_from(Timed::start(rest), route, customers, distances, times, size)
 }

@@ -13,12 +13,11 @@ use lib.Ieee.{Float, nan}
 use Rattle.basics.specs.Tests.{by-test}
 use Rattle.models.specs.declared.customer.Customer.{Customer}
 use Rattle.models.specs.Records.{customerOf}
-use Rattle.definitions.specs.Sheet.{CustomerOf}
-use Rattle.evaluation.specs.Tables.{recordIndex, blank, demandF}
-use Rattle.evaluation.proofs.Reading.{getD-of}
+use Rattle.evaluation.specs.Tables.{demandsOf, askedF}
+use Rattle.evaluation.proofs.Demands.{asked}
 use Rattle.stretch.specs.Stretch.{placeOf}
 use Rattle.stretch.specs.Tariff.{Tariff}
-use Rattle.ga.specs.Split.{lent, askedF, planBy, splitF, LegsOf}
+use Rattle.ga.specs.Split.{lent, planBy, splitF, LegsOf}
 use Rattle.stretch.proofs.Along.{Along}
 
 -- ---- lists written from the front
@@ -32,39 +31,11 @@ put d f l k x h e F j b =
 
 -- ---- what the records ask for
 
-abbrev askedAt : List Customer → ℕ → ℕ
-askedAt customers k = getD (map customerOf customers) k blank .demand
-
--- of the first k records
-pub record Gathered (customers : List Customer) (demands : List ℕ) (k : ℕ) : Type 0 where
-  pub within : k ≤ 64
-  pub long : length demands ≡ 64
-  pub are : (j : ℕ) → j < k → getD demands j 0 ≡ askedAt customers j
-
-pub none-gathered : (customers : List Customer) (demands : List ℕ) → length demands ≡ 64 → Gathered customers demands 0
-none-gathered customers demands l = record { within = omega arith; long = l; are = λ j h. absurd (not-suc-le-zero h) }
-
-pub one-gathered : (customers : List Customer) (demands : List ℕ) (k : ℕ) (d : Customer) → length customers ≡ 64 → k < 64 → Gathered customers demands k
-    → Gathered customers (set demands k (getD customers k d .demand)) (k + 1)
-one-gathered customers demands k d long h G =
-    record {
-      within = omega arith;
-      long = length-set demands k _ ∙ G .long;
-      are = put 0 (askedAt customers) demands k _ (omega (arith, G .long)) (ap (λ (x : CustomerOf Float). x .demand) (getD-of customerOf customers k d blank (omega arith))) (G .are);
-    }
-
-index-small : (c : ℕ) → recordIndex c < 64
-index-small c = by-test (ltb c 64) (λ t. rw t (ltb-true c 64 t)) (λ f. rw f (omega arith))
-
-pub all-gathered : (customers : List Customer) (demands : List ℕ) → Gathered customers demands 64 → (c : ℕ) → askedF demands c ≡ demandF (map customerOf customers) c
-unfolding demandF
-all-gathered customers demands G c = G .are (recordIndex c) (index-small c)
-
 -- the cut by what was gathered is the cut
-pub split-by : (customers : List Customer) (demands : List ℕ) (distances : List Float) (size capacity : ℕ) (fixed : Float) (tour : List ℕ) → ((c : ℕ) → askedF demands c ≡ demandF (map customerOf customers) c)
+pub split-by : (customers : List Customer) (demands : List ℕ) (distances : List Float) (size capacity : ℕ) (fixed : Float) (tour : List ℕ) → demands ≡ demandsOf (map customerOf customers)
     → splitF (lent customers distances size capacity fixed) tour ≡ planBy (askedF demands) distances size capacity fixed tour
 unfolding splitF
-split-by customers demands distances size capacity fixed tour e = ap (λ (d : ℕ → ℕ). planBy d distances size capacity fixed tour) (fun-ext (λ c. sym (e c)))
+split-by customers demands distances size capacity fixed tour e = ap (λ (d : ℕ → ℕ). planBy d distances size capacity fixed tour) (fun-ext (λ c. sym (ap (λ (l : List ℕ). askedF l c) e ∙ asked (map customerOf customers) c)))
 
 -- ---- the legs along the calls
 

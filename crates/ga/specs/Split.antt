@@ -12,7 +12,7 @@ use Rattle.distance.specs.Lookup.{lookupF}
 use Rattle.models.specs.declared.customer.Customer.{Customer}
 use Rattle.models.specs.Records.{customerOf}
 use Rattle.models.specs.Load.{fitsLoad}
-use Rattle.evaluation.specs.Tables.{recordIndex, demandF}
+use Rattle.evaluation.specs.Tables.{demandF}
 use Rattle.stretch.specs.Tariff.{Tariff}
 use Rattle.ga.specs.Answer.{ResultF, planF}
 
@@ -46,10 +46,6 @@ abbrev pub tariff : Instance → Tariff
 tariff I = tariffBy (demandF (I .customers)) (I .distances) (I .size) (I .capacity) (I .fixed)
 
 -- ---- what is gathered once for a cut
-
--- what a call asks for, from the list of what each record asks for
-abbrev pub askedF : List ℕ → ℕ → ℕ
-askedF demands c = getD demands (recordIndex c) 0
 
 -- the legs along calls: `ins` into each from the one before it, and `backs` from each to the depot
 pub record LegsOf (leg : ℕ → ℕ → Float) (calls : List ℕ) (ins backs : List Float) : Type 0 where

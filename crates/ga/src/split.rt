@@ -1,18 +1,17 @@
 // The cut of a tour by capacity alone (ga/split.rs): row i of the table tries the runs that start at call i.
 ghost use mathlib.Core.Path.{_≡_};
 ghost use mathlib.Core.Bool.{cond};
-ghost use mathlib.Core.List.{map};
-ghost use Prim.Native.Nat.{ℕ, _+_, _-_, _<_, _≤_};
+ghost use Prim.Native.Nat.{_+_, _-_, _<_, _≤_};
 ghost use lib.ListN.{length, set};
 ghost use Rattle.definitions.specs.Drop.{callsAt};
 ghost use Rattle.definitions.specs.Room.{written};
-ghost use Rattle.models.specs.Records.{customerOf};
 ghost use Rattle.stretch.specs.Tariff.{RowOf, TableOf, CutDone};
 ghost use Rattle.ga.specs.Answer.{Counted};
 ghost use Rattle.distance.specs.Lookup.{lookupF};
-ghost use Rattle.evaluation.specs.Tables.{demandF};
-ghost use Rattle.ga.specs.Split.{lent, askedF, tariffBy, LegsOf, lightOnes, splitF};
+ghost use Rattle.evaluation.specs.Tables.{askedF};
+ghost use Rattle.ga.specs.Split.{lent, tariffBy, LegsOf, lightOnes, splitF};
 use distance::matrix::get;
+use evaluation::load::demands_of;
 use evaluation::route::call_at;
 use evaluation::schedule::record_index;
 use models::customer::Customer;
@@ -23,20 +22,6 @@ use table::cells::offer;
 use table::cells::read_back;
 use table::held::write_front;
 use whole::infinity;
-
-// What each record asks for.
-pub fn demands_of(customers: [Customer; 64]) -> [u32; 64]
-    ensures { λ r. ⌜ (length r ≡ 64) × ((c : ℕ) → askedF r c ≡ demandF (map customerOf customers) c) ⌝ }
-{
-    let mut demands = [0u32; 64];
-    let mut k = 0;
-    while k < 64 {
-        let customer = customers[k];
-        demands[k] = customer.demand;
-        k += 1;
-    }
-    demands
-}
 
 // The legs along the calls: into each from the one before it, and from each to the depot.
 fn write_legs(

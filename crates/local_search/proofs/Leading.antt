@@ -2,83 +2,38 @@
 use Prim.Native.Nat.{ℕ, suc, _+_, _-_, _<_, _≤_}
 use native.Mathlib.Numerals.{add-one}
 use native.Mathlib.Omega.{arith}
-use mathlib.Core.Path.{_≡_, refl, sym, ap, ap₂, _∙_}
+use mathlib.Core.Path.{_≡_, refl, sym, ap, _∙_}
 use mathlib.Core.Bool.{Bool, true, false, false≢true}
 use mathlib.Core.List.{List, [], _∷_, _++_, append-assoc}
 use mathlib.Core.Option.{Option, none, some}
-use lib.ListN.{length, getD, take, drop, length-append, length-drop, drop-of-length-le}
-use lib.Seq.{drop-cons, take-suc, take-all, drop-at, length-take-le}
+use lib.ListN.{length, getD, take, drop, length-append, length-drop}
+use lib.Seq.{take-suc, take-all, drop-at, length-take-le}
 use lib.Ieee as Ieee
 use lib.Ieee.{Float, binary64}
 use Rattle.basics.specs.Tests.{by-test}
 use Rattle.basics.specs.Options.{_>>=_, given, present}
 use Rattle.definitions.specs.Sheet.{BreakOf, CustomerOf}
-use Rattle.definitions.specs.Run.{lastOf}
-use Rattle.whole.specs.Whole.{fl}
-use Rattle.models.specs.Limits.{allowF}
-use Rattle.evaluation.specs.declared.schedule.Label.{Label}
 use Rattle.evaluation.specs.declared.schedule.Scheduled.{Scheduled}
-use Rattle.evaluation.specs.declared.route.Way.{Way}
+use Rattle.evaluation.specs.declared.way.Way.{Way}
 use Rattle.evaluation.specs.Records.{ClockF, Tables, LimitsF}
-use Rattle.evaluation.specs.Serving.{startLabel, serveF}
 use Rattle.evaluation.specs.Clock.{pushF, aliveF}
 use Rattle.evaluation.specs.Tables.{recordF, distanceF, timeF, legsF}
 use Rattle.evaluation.specs.Schedule.{tickF, clockFromF, endF}
-use Rattle.evaluation.specs.Route.{servedF, wayF, homewardF, plainF, totalsF, allowedF, feasibleF}
-use Rattle.evaluation.proofs.Driving.{served-gone}
+use Rattle.evaluation.specs.Way.{wayOnF, throughF, wayF, homewardF, plainF}
+use Rattle.evaluation.specs.Route.{totalsF, keptF, allowedF, feasibleF}
 use Rattle.evaluation.proofs.Growing.{end-gone}
-use Rattle.local_search.specs.Begun.{BegunF, failed, plain, clocked, failedF, indexF, setOutF, reachedF, wayOnF, wayThroughF, onF, endedF, feasibleFromF, Leads}
-
--- ---- the way through calls with no break
-
-module _ (t : Tables) where
-  abbrev Through : List ℕ → Type 0
-  Through calls = (w : Way) → wayThroughF (distanceF t) (timeF t) (recordF t) w calls ≡ wayF t (w .distance) (w .prev) (w .label) calls
-
-  goes : (c : ℕ) (cs : List ℕ) (far : Float) (o : Option Label) → Through cs
-      → ((o >>= λ l. some (record { distance = far; label = l; prev = c })) >>= λ v. wayThroughF (distanceF t) (timeF t) (recordF t) v cs)
-      ≡ (servedF t c o cs >>= λ n. some (record { distance = legsF t far c cs; label = n; prev = lastOf c cs }))
-  unfolding wayF
-  goes c cs far none ih = rw (served-gone t c cs)
-  goes c cs far (some l) ih = ih (record { distance = far; label = l; prev = c })
-
-  through : (calls : List ℕ) → Through calls
-  unfolding wayThroughF wayOnF wayF servedF legsF
-  through [] w = refl
-  through (c ∷ cs) w =
-      goes c cs (Ieee.add binary64 (w .distance) (distanceF t (w .prev) c)) (serveF (recordF t c) none 0 (timeF t (w .prev) c) (w .label)) (through cs)
-
--- the loop over the calls: what is left of them from call i on
-module _ (leg time : ℕ → ℕ → Float) (customer : ℕ → CustomerOf Float) (calls : List ℕ) (w : Way) (i : ℕ) where
-  module _ (c : CustomerOf Float) (travel : Float) (o : Option Label) (h : i < length calls) (ew : travel ≡ time (w .prev) (getD calls i 0)) (ec : c ≡ customer (getD calls i 0))
-      (es : o ≡ serveF c none 0 travel (w .label)) where
-    found : serveF (customer (getD calls i 0)) none 0 (time (w .prev) (getD calls i 0)) (w .label) ≡ o
-    found = sym (es ∙ ap₂ (λ (d : CustomerOf Float) (x : Float). serveF d none 0 x (w .label)) ec ew)
-
-    pub through-turn : (m : Label) (d : Float) → d ≡ leg (w .prev) (getD calls i 0) → o ≡ some m
-        → wayThroughF leg time customer w (drop i calls)
-        ≡ wayThroughF leg time customer (record { distance = Ieee.add binary64 (w .distance) d; label = m; prev = getD calls i 0 }) (drop (i + 1) calls)
-    unfolding wayThroughF wayOnF
-    through-turn m d ed e = let f = found ∙ e in rw (ed, add-one, drop-cons calls i 0, f)
-
-    pub through-fails : o ≡ none → wayThroughF leg time customer w (drop i calls) ≡ none
-    unfolding wayThroughF wayOnF
-    through-fails e = let f = found ∙ e in rw (drop-cons calls i 0, f)
-
-  pub through-end : length calls ≤ i → wayThroughF leg time customer w (drop i calls) ≡ some w
-  unfolding wayThroughF
-  through-end h = rw (drop-of-length-le calls h)
+use Rattle.local_search.specs.Begun.{BegunF, failed, plain, clocked, failedF, indexF, setOutF, reachedF, onF, endedF, feasibleFromF, Leads}
 
 -- ---- the run, ended
 
 ended-start : (t : Tables) (r : Option (BreakOf Float)) (calls : List ℕ) → endedF t (setOutF r) calls ≡ totalsF t r calls
-unfolding endedF totalsF plainF
-ended-start t none calls = ap (λ (o : Option Way). o >>= λ d. some (homewardF t d)) (through t calls (record { distance = fl 0; label = startLabel; prev = 0 }))
+unfolding endedF totalsF
+ended-start t none calls = refl
 ended-start t (some b) calls = refl
 
 reached-on : (t : Tables) (cs : List ℕ) (o : Option Way)
-    → ((o >>= λ v. wayThroughF (distanceF t) (timeF t) (recordF t) v cs) >>= λ d. some (homewardF t d)) ≡ endedF t (reachedF o) cs
-unfolding endedF
+    → ((o >>= λ v. wayF t v cs) >>= λ d. some (homewardF t d)) ≡ endedF t (reachedF o) cs
+unfolding endedF plainF
 reached-on t cs none = refl
 reached-on t cs (some v) = refl
 
@@ -87,9 +42,9 @@ unfolding endF clockFromF legsF pushF
 end-on t x far c cs = refl
 
 ended-on : (t : Tables) (b : BegunF) (c : ℕ) (cs : List ℕ) → endedF t b (c ∷ cs) ≡ endedF t (onF (distanceF t) (timeF t) (recordF t c) b c) cs
-unfolding endedF onF wayThroughF
+unfolding endedF onF plainF throughF
 ended-on t failed c cs = refl
-ended-on t (plain w) c cs = reached-on t cs (wayOnF (distanceF t) (timeF t) (recordF t c) w c)
+ended-on t (plain w) c cs = reached-on t cs (wayOnF (recordF t c) (distanceF t (w .prev) c) (timeF t (w .prev) c) w c)
 ended-on t (clocked x far) c cs =
     by-test (aliveF (tickF t x c)) (λ y. rw y (end-on t x far c cs)) (λ n. rw n (end-on t x far c cs ∙ end-gone t (tickF t x c) (Ieee.add binary64 far (distanceF t (x .prev) c)) cs n))
 
@@ -115,14 +70,14 @@ reached-index (some w) = omega arith
 on-index : (leg time : ℕ → ℕ → Float) (k : CustomerOf Float) (b : BegunF) (c : ℕ) → indexF (onF leg time k b c) ≤ suc (indexF b)
 unfolding onF pushF
 on-index leg time k failed c = omega arith
-on-index leg time k (plain w) c = reached-index (wayOnF leg time k w c)
+on-index leg time k (plain w) c = reached-index (wayOnF k (leg (w .prev) c) (time (w .prev) c) w c)
 on-index leg time k (clocked x far) c = by-test (aliveF (pushF x c k (time (x .prev) c))) (λ y. rw y (omega arith)) (λ n. rw n (omega arith))
 
 module _ (t : Tables) (limits : LimitsF) where
   from-on : (b : BegunF) (c : ℕ) (rest : List ℕ) → feasibleFromF t limits b (c ∷ rest) ≡ feasibleFromF t limits (onF (distanceF t) (timeF t) (recordF t c) b c) rest
   unfolding feasibleFromF
   from-on b c rest =
-      ap (λ (o : Option Scheduled). present (o >>= λ s. given (allowF (limits .maxDistance) (limits .maxDuration) (s .distance) (s .duration)) s)) (ended-on t b c rest)
+      ap (λ (o : Option Scheduled). present (keptF limits o)) (ended-on t b c rest)
 
   leads-on : (calls : List ℕ) (b : BegunF) (c : ℕ) → Leads t limits calls b → Leads t limits (calls ++ (c ∷ [])) (onF (distanceF t) (timeF t) (recordF t c) b c)
   leads-on calls b c L =

@@ -3,16 +3,17 @@ use Prim.Native.Nat.{ℕ, suc, _+_, _-_, _<_, _≤_}
 use native.Mathlib.Numerals.{add-one}
 use native.Mathlib.Omega.{arith}
 use mathlib.Core.Path.{_≡_, sym, ap, _∙_}
-use mathlib.Core.Bool.{Bool, true, false}
+use mathlib.Core.Bool.{Bool, true, false, cond}
 use mathlib.Core.List.{List, _++_, reverse, reverse-reverse}
 use lib.ListN.{length, take, drop, length-append, length-take, length-drop, length-reverse, take-append-drop}
 use lib.Seq.{take-at, drop-at, length-take-le}
 use Rattle.basics.specs.Tests.{by-test}
 use Rattle.definitions.specs.TwoOpt.{turned}
 use Rattle.evaluation.specs.Records.{Tables}
-use Rattle.evaluation.specs.Route.{feasibleF}
 use Rattle.local_search.specs.Search.{SearchF}
+use Rattle.local_search.specs.Begun.{BegunF, feasibleFromF, Leads}
 use Rattle.local_search.specs.TwoOpt.{State, state, allowedF, reversedF}
+use Rattle.local_search.proofs.Leading.{asked}
 
 -- ---- the stretch inside the lent list
 
@@ -60,23 +61,23 @@ module _ (i j : ℕ) (run : List ℕ) (h : i < j) (l : j < length run) where
 
 module _ (t : Tables) (s : SearchF) (i j : ℕ) (run : List ℕ) (b : Bool) where
   module _ (part : List ℕ) (e : part ≡ turnedPart i j run) where
-    -- a run that is not asked for, or is feasible
-    pub made : (s .constrained ≡ true → feasibleF t (s .limits) (put i j run part) ≡ true) → state (put i j run part) true ≡ reversedF t s i j (state run b)
-    unfolding reversedF
-    made f =
-        let allowed : allowedF t s (turned i j run) ≡ true =
-        by-test (s .constrained) (λ y. rw y (ap (feasibleF t (s .limits)) (sym (put-turned i j run part e)) ∙ f y)) (λ n. rw n) in
-        rw (allowed, put-turned i j run part e)
+    turned-allowed : (a : Bool) → allowedF t s (put i j run part) ≡ a → allowedF t s (turned i j run) ≡ a
+    turned-allowed a h = ap (allowedF t s) (sym (put-turned i j run part e)) ∙ h
 
-    -- one that is not feasible is turned back
-    pub undone : i < j → j < length run → s .constrained ≡ true → feasibleF t (s .limits) (put i j run part) ≡ false → (again : List ℕ) → again ≡ turnedPart i j (put i j run part)
+    -- a run that is allowed
+    pub made : allowedF t s (put i j run part) ≡ true → state (put i j run part) true ≡ reversedF t s i j (state run b)
+    unfolding reversedF
+    made h = let y = turned-allowed true h in rw (y, put-turned i j run part e)
+
+    -- one that is not is turned back
+    pub undone : i < j → j < length run → allowedF t s (put i j run part) ≡ false → (again : List ℕ) → again ≡ turnedPart i j (put i j run part)
         → state (put i j (put i j run part) again) b ≡ reversedF t s i j (state run b)
     unfolding reversedF
-    undone h l y n again k =
+    undone h l n again k =
         let back : put i j (put i j run part) again ≡ run =
         put-turned i j (put i j run part) again k ∙ ap (turned i j) (put-turned i j run part e) ∙ turned-back i j run h l in
-        let no : feasibleF t (s .limits) (turned i j run) ≡ false = ap (feasibleF t (s .limits)) (sym (put-turned i j run part e)) ∙ n in
-        ap (λ (r : List ℕ). state r b) back ∙ rw (y, no)
+        let no = turned-allowed false n in
+        ap (λ (r : List ℕ). state r b) back ∙ rw no
 
   -- either way the calls before i stay
   pub kept : i ≤ length run → (new : List ℕ) (c : Bool) → state new c ≡ reversedF t s i j (state run b) → take i new ≡ take i run
@@ -92,3 +93,9 @@ left-long i j run part e h l =
     let new = put i j run part in
     let long : length new ≡ length run = ap length (put-turned i j run part e) ∙ length-turned i j run h l in
     omega (arith, length-take (length new - i) (drop i new), length-drop i new, long)
+
+-- whether a run that keeps the first i calls is allowed, asked from there on
+pub allowed-from : (t : Tables) (s : SearchF) (i : ℕ) (run behind : List ℕ) (b : BegunF) → i ≤ length run → Leads t (s .limits) (take i run) b
+    → (r : Bool) → r ≡ cond (s .constrained) (feasibleFromF t (s .limits) b (take (length (take i run ++ behind) - i) (drop i (take i run ++ behind)))) true
+    → allowedF t s (take i run ++ behind) ≡ r
+allowed-from t s i run behind b h L r e = by-test (s .constrained) (λ y. rw y (asked t (s .limits) i run behind b h L r (e ∙ rw y))) (λ n. rw n (sym (e ∙ rw n)))

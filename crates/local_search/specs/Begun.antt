@@ -2,23 +2,21 @@
 use Prim.Native.Nat.{ℕ, suc, _≤_}
 use mathlib.Core.Path.{_≡_}
 use mathlib.Core.Bool.{Bool, true, false, cond}
-use mathlib.Core.List.{List, [], _∷_, _++_}
+use mathlib.Core.List.{List, _++_}
 use mathlib.Core.Option.{Option, none, some}
 use lib.ListN.{length}
 use lib.Ieee as Ieee
 use lib.Ieee.{Float, binary64}
-use Rattle.basics.specs.Options.{_>>=_, given, present}
+use Rattle.basics.specs.Options.{present}
 use Rattle.definitions.specs.Sheet.{BreakOf, CustomerOf}
 use Rattle.whole.specs.Whole.{fl}
-use Rattle.models.specs.Limits.{allowF}
 use Rattle.evaluation.specs.declared.schedule.Scheduled.{Scheduled}
-use Rattle.evaluation.specs.declared.route.Way.{Way}
+use Rattle.evaluation.specs.declared.way.Way.{Way}
 use Rattle.evaluation.specs.Records.{ClockF, clockOf, Tables, LimitsF}
-use Rattle.evaluation.specs.Serving.{startLabel, serveF}
 use Rattle.evaluation.specs.Clock.{begunF, pushF, aliveF}
-use Rattle.evaluation.specs.Tables.{recordF, distanceF, timeF}
 use Rattle.evaluation.specs.Schedule.{endF}
-use Rattle.evaluation.specs.Route.{homewardF, feasibleF}
+use Rattle.evaluation.specs.Way.{startWay, wayOnF, plainF}
+use Rattle.evaluation.specs.Route.{keptF, feasibleF}
 use Rattle.local_search.specs.declared.begun.Begun.{Begun}
 use Rattle.local_search.specs.declared.begun.Begun.the-variants.{Failed, Plain, Clock}
 
@@ -48,7 +46,7 @@ indexF (clocked x far) = x .index
 
 -- before the first call
 abbrev pub setOutF : Option (BreakOf Float) → BegunF
-setOutF none = plain (record { distance = fl 0; label = startLabel; prev = 0 })
+setOutF none = plain startWay
 setOutF (some b) = clocked (begunF b) (fl 0)
 
 abbrev pub reachedF : Option Way → BegunF
@@ -56,20 +54,10 @@ reachedF none = failed
 reachedF (some w) = plain w
 
 module _ (leg time : ℕ → ℕ → Float) where
-  -- one call more on the way
-  unfoldable pub wayOnF : CustomerOf Float → Way → ℕ → Option Way
-  wayOnF c w cid =
-      serveF c none 0 (time (w .prev) cid) (w .label) >>= λ l. some (record { distance = Ieee.add binary64 (w .distance) (leg (w .prev) cid); label = l; prev = cid })
-
-  -- the way on through these calls
-  unfoldable pub wayThroughF : (ℕ → CustomerOf Float) → Way → List ℕ → Option Way
-  wayThroughF customer w [] = some w
-  wayThroughF customer w (c ∷ cs) = wayOnF (customer c) w c >>= λ v. wayThroughF customer v cs
-
   -- one call more; a clock with no label left has failed
   unfoldable pub onF : CustomerOf Float → BegunF → ℕ → BegunF
   onF c failed cid = failed
-  onF c (plain w) cid = reachedF (wayOnF c w cid)
+  onF c (plain w) cid = reachedF (wayOnF c (leg (w .prev) cid) (time (w .prev) cid) w cid)
   onF c (clocked x far) cid =
       let y = pushF x cid c (time (x .prev) cid) in
       cond (aliveF y) (clocked y (Ieee.add binary64 far (leg (x .prev) cid))) failed
@@ -78,11 +66,11 @@ module _ (leg time : ℕ → ℕ → Float) where
 
 unfoldable pub endedF : Tables → BegunF → List ℕ → Option Scheduled
 endedF t failed calls = none
-endedF t (plain w) calls = wayThroughF (distanceF t) (timeF t) (recordF t) w calls >>= λ d. some (homewardF t d)
+endedF t (plain w) calls = plainF t w calls
 endedF t (clocked x far) calls = endF t x far calls
 
 unfoldable pub feasibleFromF : Tables → LimitsF → BegunF → List ℕ → Bool
-feasibleFromF t limits b calls = present (endedF t b calls >>= λ s. given (allowF (limits .maxDistance) (limits .maxDuration) (s .distance) (s .duration)) s)
+feasibleFromF t limits b calls = present (keptF limits (endedF t b calls))
 
 -- these calls lead to b: whatever calls follow, the run is feasible where it is from b on
 pub record Leads (t : Tables) (limits : LimitsF) (calls : List ℕ) (b : BegunF) : Type 0 where

@@ -5,28 +5,19 @@ ghost use lib.ListN.{length};
 ghost use Rattle.definitions.specs.Sheet.{timeTable};
 ghost use Rattle.distance.specs.Lookup.{lookupF};
 ghost use Rattle.models.specs.Records.{customerOf, restOf};
-ghost use Rattle.evaluation.specs.Records.{finishedOf, drivenOf, clockOf, limitsOf, lent};
-ghost use Rattle.evaluation.specs.Tables.{recordF, distanceF, timeF};
-ghost use Rattle.local_search.specs.Begun.{plain, clocked, begunOf, failedF, indexF, setOutF, wayThroughF, onF, endedF, feasibleFromF};
+ghost use Rattle.evaluation.specs.Records.{finishedOf, clockOf, limitsOf, lent};
+ghost use Rattle.local_search.specs.Begun.{plain, clocked, begunOf, failedF, indexF, setOutF, onF, endedF, feasibleFromF};
 use distance::matrix::get;
 use distance::matrix::travel_time;
-use evaluation::route::Driven;
-use evaluation::route::Way;
-use evaluation::schedule::BreakClock;
 use evaluation::schedule::Finished;
-use evaluation::schedule::Label;
-use evaluation::schedule::Reached;
-use evaluation::schedule::record_index;
-use evaluation::schedule::serve;
+use evaluation::schedule::Timed;
+use evaluation::schedule::clock_from;
+use evaluation::way::Driven;
+use evaluation::way::Way;
+use evaluation::way::plain_from;
 use models::customer::Customer;
 use models::limits::RouteLimits;
 use models::vehicle::Rest;
-
-// A run with a break: its clock, and the distance travelled.
-pub struct Timed {
-    pub clock: BreakClock,
-    pub distance: f64,
-}
 
 // Calls that cannot be served, or where they leave the bus: the way with no break, or the clock of a run with one.
 pub enum Begun {
@@ -40,15 +31,8 @@ pub fn set_out(rest: Rest) -> Begun
     ensures { λ r. ⌜ begunOf r ≡ setOutF (restOf rest) ⌝ }
 {
     match rest {
-        Rest::Unbroken => Begun::Plain(Way {
-            distance: 0.0,
-            label: Label::start(),
-            prev: 0,
-        }),
-        Rest::Break(b) => Begun::Clock(Timed {
-            clock: BreakClock::new(b),
-            distance: 0.0,
-        }),
+        Rest::Unbroken => Begun::Plain(Way::start()),
+        Rest::Break(b) => Begun::Clock(Timed::start(b)),
     }
 }
 
@@ -63,18 +47,13 @@ pub fn way_on(
 ) -> Begun
     ensures { λ r. ⌜ begunOf r ≡ onF (lookupF (now (distances .entry)) size) (lookupF (timeTable (now (distances .entry)) (now (times .entry))) size) (customerOf customer) (plain way) cid ⌝ }
 {
-    let label = way.label;
     let prev = way.prev;
-    let distance = way.distance + get(distances, size, prev, cid);
+    let leg = get(distances, size, prev, cid);
     let travel = travel_time(distances, times, size, prev, cid);
-    let Reached::At(l) = serve(label, travel, customer, 0, Rest::Unbroken) else {
-        return Begun::Failed;
-    };
-    Begun::Plain(Way {
-        distance,
-        label: l,
-        prev: cid,
-    })
+    match way.on(cid, customer, leg, travel) {
+        Driven::Failed => Begun::Failed,
+        Driven::To(w) => Begun::Plain(w),
+    }
 }
 
 // One call more by the clock.
@@ -118,114 +97,6 @@ pub fn go_on(
         Begun::Plain(way) => way_on(way, cid, customer, distances, times, size),
         Begun::Clock(timed) => clock_on(timed, cid, customer, distances, times, size),
     }
-}
-
-// The way on through these calls with no break, by a table of travel times.
-pub fn drive_on(
-    way: Way,
-    calls: &[usize],
-    customers: [Customer; 64],
-    distances: &[f64],
-    table: &[f64],
-    size: usize,
-) -> Driven
-    ensures { λ r. ⌜ drivenOf r ≡ wayThroughF (lookupF (now (distances .entry)) size) (lookupF (now (table .entry)) size) (recordF (lent customers (now (distances .entry)) (now (table .entry)) size)) way (now (calls .entry)) ⌝ }
-{
-    let mut distance = way.distance;
-    let mut label = way.label;
-    let mut prev = way.prev;
-    let mut i = 0;
-    while i < calls.len() {
-        let cid = calls[i];
-        distance = distance + get(distances, size, prev, cid);
-        let travel = get(table, size, prev, cid);
-        let index = record_index(cid);
-        let customer = customers[index];
-        let Reached::At(l) = serve(label, travel, customer, 0, Rest::Unbroken) else {
-            return Driven::Failed;
-        };
-        label = l;
-        prev = cid;
-        i += 1;
-    }
-    Driven::To(Way {
-        distance,
-        label,
-        prev,
-    })
-}
-
-// The same by the travel times; without a time table they are the distances. Which table it is is asked once, and not at each leg.
-pub fn way_through(
-    way: Way,
-    calls: &[usize],
-    customers: [Customer; 64],
-    distances: &[f64],
-    times: &[f64],
-    size: usize,
-) -> Driven
-    ensures { λ r. ⌜ drivenOf r ≡ wayThroughF (distanceF (lent customers (now (distances .entry)) (now (times .entry)) size)) (timeF (lent customers (now (distances .entry)) (now (times .entry)) size)) (recordF (lent customers (now (distances .entry)) (now (times .entry)) size)) way (now (calls .entry)) ⌝ }
-{
-    if times.len() == 0 {
-        drive_on(way, calls, customers, distances, distances, size)
-    } else {
-        drive_on(way, calls, customers, distances, times, size)
-    }
-}
-
-// The totals of a run with no break that these calls end.
-pub fn plain_from(
-    way: Way,
-    calls: &[usize],
-    customers: [Customer; 64],
-    distances: &[f64],
-    times: &[f64],
-    size: usize,
-) -> Finished
-    ensures { λ r. ⌜ finishedOf r ≡ endedF (lent customers (now (distances .entry)) (now (times .entry)) size) (plain way) (now (calls .entry)) ⌝ }
-{
-    let Driven::To(d) = way_through(way, calls, customers, distances, times, size) else {
-        return Finished::Impossible;
-    };
-    let label = d.label;
-    let prev = d.prev;
-    let distance = d.distance + get(distances, size, prev, 0);
-    Finished::Home(label.home(distance, travel_time(distances, times, size, prev, 0)))
-}
-
-// The totals of a run with a break that these calls end.
-pub fn clock_from(
-    timed: Timed,
-    calls: &[usize],
-    customers: [Customer; 64],
-    distances: &[f64],
-    times: &[f64],
-    size: usize,
-) -> Finished
-    requires { ⌜ timed .clock .index + length (now calls) < 0xFFFF_FFFF_FFFF_FFFF ⌝ }
-    ensures { λ r. ⌜ finishedOf r ≡ endedF (lent customers (now (distances .entry)) (now (times .entry)) size) (clocked (clockOf (timed .clock)) (timed .distance)) (now (calls .entry)) ⌝ }
-{
-    let mut clock = timed.clock;
-    let mut distance = timed.distance;
-    let mut i = 0;
-    while i < calls.len() {
-        let cid = calls[i];
-        let prev = clock.prev;
-        distance = distance + get(distances, size, prev, cid);
-        let index = record_index(cid);
-        clock = clock.push(
-            cid,
-            customers[index],
-            travel_time(distances, times, size, prev, cid),
-        );
-        if !clock.alive() {
-            return Finished::Impossible;
-        }
-        i += 1;
-    }
-    let last = clock.prev;
-    distance = distance + get(distances, size, last, 0);
-    clock.finish(distance, travel_time(distances, times, size, last, 0))
 }
 
 // The totals of a run that these calls end.

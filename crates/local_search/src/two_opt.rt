@@ -1,13 +1,13 @@
 // The reversal of stretches of a run (local_search/two_opt.rs): while one lowers the distance and makes a run that is allowed, it is taken. Only sheets without lateness pay come here.
 ghost use mathlib.Core.Path.{_≡_};
-ghost use Prim.Native.Nat.{_<_, _≤_};
-ghost use mathlib.Core.Bool.{_&&_};
+ghost use Prim.Native.Nat.{_+_, _<_, _≤_};
+ghost use mathlib.Core.Bool.{true, cond, _&&_};
 ghost use lib.ListN.{length, take};
 ghost use Rattle.definitions.specs.Room.{written};
 ghost use Rattle.distance.specs.Lookup.{lookupF};
 ghost use Rattle.evaluation.specs.Records.{limitsOf, lent};
 ghost use Rattle.local_search.specs.Search.{searchOf};
-ghost use Rattle.local_search.specs.Begun.{begunOf, failedF, Leads};
+ghost use Rattle.local_search.specs.Begun.{begunOf, failedF, indexF, feasibleFromF, Leads};
 ghost use Rattle.local_search.specs.Delta.{placeBefore, intoF, reversalDeltaF, deltaF, routeDistanceF};
 ghost use Rattle.local_search.specs.TwoOpt.{state, gainsF, reversedF, triedAllF, passF, improvedF, improvedDistanceF};
 use crate::begun::Begun;
@@ -45,10 +45,9 @@ pub fn reversal_delta(segment: &[usize], distances: &[f64], size: usize, symmetr
 
 // The place before call number i, from 0: the call before it, or the depot.
 pub fn place_before(route: &[usize], i: usize) -> usize
-    requires { ⌜ i < length (now route) ⌝ }
     ensures { λ r. ⌜ r ≡ placeBefore (now (route .entry)) i ⌝ }
 {
-    if i == 0 { 0 } else { route[i - 1] }
+    if i == 0 { 0 } else { call_at(route, i - 1) }
 }
 
 // The leg into call number i, from 0.
@@ -123,6 +122,26 @@ pub fn gains(
     delta < -search.floor
 }
 
+// Whether the run that these calls end may be made: it is feasible, where that is asked.
+pub fn is_allowed(
+    begun: Begun,
+    calls: &[usize],
+    customers: [Customer; 64],
+    distances: &[f64],
+    times: &[f64],
+    size: usize,
+    search: Search,
+) -> bool
+    requires { ⌜ indexF (begunOf begun) + length (now calls) < 0xFFFF_FFFF_FFFF_FFFF ⌝ }
+    ensures { λ r. ⌜ r ≡ cond (search .constrained) (feasibleFromF (lent customers (now (distances .entry)) (now (times .entry)) size) (limitsOf (search .limits)) (begunOf begun) (now (calls .entry))) true ⌝ }
+{
+    if search.constrained {
+        let limits = search.limits;
+        return feasible_from(begun, calls, customers, distances, times, size, limits);
+    }
+    true
+}
+
 // Turns the calls from i up to and with j, and turns them back where the run is not allowed; `begun` is where the calls before i leave the bus. Gives whether a reversal is taken, here or before.
 pub fn reverse_if_allowed(
     current: &mut [usize],
@@ -142,20 +161,17 @@ pub fn reverse_if_allowed(
 {
     let end = j + 1;
     reverse(&mut current[i..end]);
-    if search.constrained {
-        let limits = search.limits;
-        if !feasible_from(
-            begun,
-            &current[i..],
-            customers,
-            distances,
-            times,
-            size,
-            limits,
-        ) {
-            reverse(&mut current[i..end]);
-            return improved;
-        }
+    if !is_allowed(
+        begun,
+        &current[i..],
+        customers,
+        distances,
+        times,
+        size,
+        search,
+    ) {
+        reverse(&mut current[i..end]);
+        return improved;
     }
     true
 }

@@ -8,14 +8,15 @@ use lib.Seq.{drop-cons}
 use denote.Ref.{now}
 use Rattle.basics.specs.Lists.{sum}
 use Rattle.models.specs.Load.{fitsLoad}
-use Rattle.elimination.specs.Loads.{demandAt, roomF}
+use Rattle.evaluation.specs.Tables.{askedF}
+use Rattle.elimination.specs.Loads.{roomF}
 use borrow.Author.Needs.{needs}
 use Rattle.elimination.proofs.loads.has_room.Statement.{statement}
 use Rattle.elimination.proofs.loads.has_room.Tie as tie
 
 abbrev Inv-loop : tie.InvT-loop
 Inv-loop route c demands capacity load₀ i₀ load i =
-    (i ≤ length route) × (load + sum (demandAt demands) (drop i route) ≡ sum (demandAt demands) route + load₀) × (load ≤ (i + 1) * 4294967296)
+    (i ≤ length route) × (load + sum (askedF demands) (drop i route) ≡ sum (askedF demands) route + load₀) × (load ≤ (i + 1) * 4294967296)
 
 abbrev μ-loop : tie.MeasureT-loop
 μ-loop route c demands capacity load₀ i₀ load i = length route - i
@@ -48,7 +49,7 @@ loop-again : tie.Need-loop-again Inv-loop μ-loop
 loop-again c =
     let l = c .before .before .before .loop in
     let a = c .before .before .before .before .before .before .args in
-    let demand = demandAt (now (a .demands)) in
+    let demand = askedF (now (a .demands)) in
     let rest = ap (sum demand) (drop-cons (now (a .route)) (l .i) 0 (c .before .before .loop-test .taken)) in
     let next = ap (λ (n : ℕ). sum demand (drop n (now (a .route)))) (add-one (l .i)) in
     let asked = c .demand-at2 .ensures in
@@ -62,7 +63,7 @@ unfolding roomF
 returns c =
     let l = c .before .before .loop in
     let a = c .before .before .before .before .before .args in
-    let demand = demandAt (now (a .demands)) in
+    let demand = askedF (now (a .demands)) in
     let none = ap (sum demand) (drop-of-length-le (now (a .route)) {i = l .i} (c .before .loop-test .left)) in
     let load : l .load ≡ sum demand (now (a .route)) + demand (a .c) = omega (arith, l .inv .1, none, c .before .before .before .demand-at .ensures .0) in
     c .fits2 .ensures ∙ ap (λ (n : ℕ). fitsLoad n (a .capacity)) load

@@ -96,7 +96,7 @@ emptied-requires c κs =
     let T = termsOf (a .terms) (now (a .distances)) (now (a .times)) in
     let k = c .before .before .before .before .before .before .before .before .before .before .non-empty in
     let l = c .before .before .before .before .before .loop in
-    (rw (l .inv .0) (k .ensures .0), omega (arith, trying-inside T (runsIn (k .result)) _ (l .pending) (l .n) (l .inv .1) (c .before .before .before .before .loop-test .taken) (c .before .shortest .result) (c .before .shortest .ensures), held (k .result) (k .ensures .0) .count-is, ap count (l .inv .0)), c .before .before .before .before .before .before .before .before .before .before .before .before .demands-of .ensures)
+    (rw (l .inv .0) (k .ensures .0), omega (arith, trying-inside T (runsIn (k .result)) _ (l .pending) (l .n) (l .inv .1) (c .before .before .before .before .loop-test .taken) (c .before .shortest .result) (c .before .shortest .ensures), held (k .result) (k .ensures .0) .count-is, ap count (l .inv .0)), c .before .before .before .before .before .before .before .before .before .before .before .before .demands-of .ensures .1)
 
 search-less : tie.Need-search-less Inv-loop μ-loop Inv-search μ-search
 search-less c =

@@ -1,12 +1,11 @@
 -- `route::break_start` meets its contract: the calls before the break fail, or are served without it. Assumes nothing.
-use mathlib.Core.Path.{_≡_, sym, ap, _∙_}
-use Prim.Native.Nat.{ℕ}
+use mathlib.Core.Path.{_≡_, sym, ap₂, _∙_}
 use native.Mathlib.Omega.{arith}
-use mathlib.Core.List.{List}
 use lib.ListN.{length-take}
-use Rattle.evaluation.specs.declared.route.Driven.the-variants.{Failed, To}
+use Rattle.evaluation.specs.declared.way.Driven.the-variants.{Failed, To}
 use Rattle.evaluation.specs.Records.{lent}
-use Rattle.evaluation.specs.Route.{driveF, breakStartAtF}
+use Rattle.evaluation.specs.Way.{wayF}
+use Rattle.evaluation.specs.Route.{breakStartAtF}
 use Rattle.evaluation.proofs.Driving.{take-fewer}
 use borrow.Author.Needs.{needs}
 use Rattle.evaluation.proofs.route.break_start.Statement.{statement}
@@ -15,11 +14,14 @@ use Rattle.evaluation.proofs.route.break_start.Tie as tie
 fewer-requires : tie.Need-fewer-requires
 fewer-requires c κs = search needs
 
-slice-aggregate-drive : tie.Need-slice-aggregate-drive
-slice-aggregate-drive c = simp length-take (omega arith)
+slice-aggregate-begun : tie.Need-slice-aggregate-begun
+slice-aggregate-begun c = simp length-take (omega arith)
 
-drive-requires : tie.Need-drive-requires
-drive-requires c κs = search needs
+start-requires : tie.Need-start-requires
+start-requires c κs = search needs
+
+way-through-requires : tie.Need-way-through-requires
+way-through-requires c κs = search needs
 
 enum-known-d : tie.Need-enum-known-d
 enum-known-d c = search needs
@@ -30,10 +32,13 @@ enum-told c = search needs
 returns : tie.Need-returns
 unfolding breakStartAtF
 returns c =
-    let a = c .before .before .before .before .before .before .before .before .args in
+    let driven = c .before .before in
+    let begun = driven .before in
+    let counted = begun .before .before in
+    let a = counted .before .before .before .before .args in
     let t = lent (a .customers) (a .distances .now) (a .times .now) (a .size) in
-    let e : c .before .before .drive .result ≡ Failed = search needs in
-    rw (sym (c .before .before .drive .ensures ∙ ap (λ (l : List ℕ). driveF t l) (take-fewer (a .k) _ (a .route .now) (c .before .before .before .before .fewer .ensures))), e)
+    let e : driven .way-through .result ≡ Failed = search needs in
+    rw (sym (driven .way-through .ensures ∙ ap₂ (wayF t) (begun .start .ensures) (take-fewer (a .k) _ (a .route .now) (counted .fewer .ensures))), e)
 
 call-at-requires : tie.Need-call-at-requires
 call-at-requires c κs = search needs
@@ -47,19 +52,26 @@ later-requires c κs = search needs
 returns-2 : tie.Need-returns-2
 unfolding breakStartAtF
 returns-2 c =
-    let a = c .before .before .before .before .before .before .before .before .before .before .before .before .before .before .args in
+    let timed = c .before .before in
+    let called = timed .before in
+    let known = called .before .before .before in
+    let driven = known .before .before in
+    let begun = driven .before in
+    let counted = begun .before .before in
+    let a = counted .before .before .before .before .args in
     let t = lent (a .customers) (a .distances .now) (a .times .now) (a .size) in
-    let e : c .before .before .before .before .before .before .before .before .drive .result ≡ To (c .before .before .before .before .before .before .d .given .0 .0) = search needs in
-    rw (sym (c .before .before .before .before .before .before .before .before .drive .ensures ∙ ap (λ (l : List ℕ). driveF t l) (take-fewer (a .k) _ (a .route .now) (c .before .before .before .before .before .before .before .before .before .before .fewer .ensures))), e)
-    (rw (c .later .ensures, c .before .before .travel-time .ensures, c .before .before .before .call-at .ensures))
+    let e : driven .way-through .result ≡ To (known .d .given .0 .0) = search needs in
+    rw (sym (driven .way-through .ensures ∙ ap₂ (wayF t) (begun .start .ensures) (take-fewer (a .k) _ (a .route .now) (counted .fewer .ensures))), e)
+    (rw (c .later .ensures, timed .travel-time .ensures, called .call-at .ensures))
 
 pub break-start-spec : {M : Type 1} → statement M
 break-start-spec =
     tie.close
     (tie.spec
     fewer-requires
-    slice-aggregate-drive
-    drive-requires
+    slice-aggregate-begun
+    start-requires
+    way-through-requires
     enum-known-d
     enum-told
     returns

@@ -9,8 +9,11 @@ use Rattle.evaluation.proofs.route.totals.Tie as tie
 enum-told : tie.Need-enum-told
 enum-told c = search needs
 
-plain-requires : tie.Need-plain-requires
-plain-requires c κs = search needs
+start-requires : tie.Need-start-requires
+start-requires c κs = search needs
+
+plain-from-requires : tie.Need-plain-from-requires
+plain-from-requires c κs = search needs
 
 enum-known-rest : tie.Need-enum-known-rest
 enum-known-rest c = search needs
@@ -20,7 +23,9 @@ schedule-requires c κs = search needs
 
 returns : tie.Need-returns
 unfolding totalsF
-returns c = let e : c .before .before .before .before .before .before .args .rest ≡ Unbroken = search needs in rw e (c .plain .ensures)
+returns c =
+    let e : c .before .before .before .before .before .before .before .args .rest ≡ Unbroken = search needs in
+    rw (e, ← c .before .start .ensures) (c .plain-from .ensures)
 
 returns-2 : tie.Need-returns-2
 unfolding totalsF
@@ -29,4 +34,4 @@ returns-2 c = let e : c .before .before .before .before .before .before .before 
 pub totals-spec : {M : Type 1} → statement M
 totals-spec =
     tie.close
-    (tie.spec enum-told plain-requires enum-known-rest schedule-requires returns returns-2)
+    (tie.spec enum-told start-requires plain-from-requires enum-known-rest schedule-requires returns returns-2)

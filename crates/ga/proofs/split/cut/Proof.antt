@@ -5,7 +5,8 @@ use denote.Ref.{now}
 use Rattle.whole.specs.Bits.{fl-zero}
 use Rattle.cutting.specs.Carried.{none-done}
 use Rattle.stretch.specs.Tariff.{stretches, runsOf, farsOf}
-use Rattle.ga.specs.Split.{tariffBy, askedF}
+use Rattle.evaluation.specs.Tables.{askedF}
+use Rattle.ga.specs.Split.{tariffBy}
 use Rattle.ga.proofs.Cutting.{table-falls, table-cut}
 use borrow.Author.Needs.{needs}
 use Rattle.ga.proofs.split.cut.Statement.{statement}

@@ -6,7 +6,7 @@ use lib.ListN.{length, getD}
 use denote.Ref.{now}
 use borrow.Author.Needs.{needs}
 use Rattle.models.specs.Load.{fitsLoad}
-use Rattle.ga.specs.Split.{askedF}
+use Rattle.evaluation.specs.Tables.{askedF}
 use Rattle.ga.proofs.Sorting.{Sorted, none-sorted, few-held, one-sorted}
 use Rattle.ga.proofs.split.hold_light.Statement.{statement}
 use Rattle.ga.proofs.split.hold_light.Tie as tie

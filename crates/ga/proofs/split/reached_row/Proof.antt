@@ -1,7 +1,8 @@
 -- `split::reached_row` meets its contract: a row whose start is not reached would win no cell. Assumes nothing.
 use denote.Ref.{now}
 use borrow.Author.Needs.{needs}
-use Rattle.ga.specs.Split.{tariffBy, askedF}
+use Rattle.evaluation.specs.Tables.{askedF}
+use Rattle.ga.specs.Split.{tariffBy}
 use Rattle.stretch.proofs.Along.{unreached}
 use Rattle.ga.proofs.split.reached_row.Statement.{statement}
 use Rattle.ga.proofs.split.reached_row.Tie as tie

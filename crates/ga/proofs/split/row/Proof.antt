@@ -7,7 +7,8 @@ use borrow.Author.Needs.{needs}
 use Rattle.whole.specs.Bits.{fl-zero}
 use Rattle.distance.specs.Lookup.{lookupF}
 use Rattle.stretch.specs.Stretch.{placeOf}
-use Rattle.ga.specs.Split.{tariffBy, askedF}
+use Rattle.evaluation.specs.Tables.{askedF}
+use Rattle.ga.specs.Split.{tariffBy}
 use Rattle.stretch.proofs.Branches.{fails, holds}
 use Rattle.stretch.proofs.Along.{Along, setout, overfull, at-end, onward}
 use Rattle.ga.proofs.Gathered.{leg-into, at-place}

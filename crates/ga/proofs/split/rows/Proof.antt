@@ -9,7 +9,8 @@ use Rattle.cutting.specs.Tab.{cells, length-tab}
 use Rattle.cutting.specs.Carried.{next}
 use Rattle.distance.specs.Lookup.{lookupF}
 use Rattle.stretch.specs.Tariff.{stretches, runsOf, farsOf, TableOf}
-use Rattle.ga.specs.Split.{tariffBy, askedF}
+use Rattle.evaluation.specs.Tables.{askedF}
+use Rattle.ga.specs.Split.{tariffBy}
 use Rattle.stretch.proofs.Along.{lent-part, held-row}
 use Rattle.ga.proofs.Gathered.{legs-from, part-from}
 use Rattle.ga.proofs.split.rows.Statement.{statement}

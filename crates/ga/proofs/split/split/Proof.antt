@@ -7,7 +7,8 @@ use denote.Ref.{now}
 use borrow.Author.Needs.{needs}
 use borrow.Author.Needs.{needs}
 use Rattle.models.specs.Load.{fitsLoad}
-use Rattle.ga.specs.Split.{tariffBy, askedF, lightOnes}
+use Rattle.evaluation.specs.Tables.{askedF}
+use Rattle.ga.specs.Split.{tariffBy, lightOnes}
 use Rattle.ga.proofs.Sorting.{sorted-long}
 use Rattle.ga.proofs.Answering.{few-served, cut-lent, lent-few, few-ends, ends-written, answered}
 use Rattle.ga.proofs.Gathered.{split-by}

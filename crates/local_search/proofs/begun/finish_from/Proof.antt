@@ -30,11 +30,13 @@ returns c =
     rw e
 
 returns-2 : tie.Need-returns-2
+unfolding endedF
 returns-2 c =
     let e : c .before .before .before .before .before .before .before .args .begun ≡ Plain (c .before .before .begun .given .0 .0) = search needs in
     rw e (c .plain-from .ensures)
 
 returns-3 : tie.Need-returns-3
+unfolding endedF
 returns-3 c =
     let e : c .before .before .before .before .before .before .before .args .begun ≡ Clock (c .before .before .begun2 .given .0 .0) = search needs in
     rw e (c .clock-from .ensures)

@@ -1,10 +1,6 @@
 -- `begun::set_out` meets its contract. Assumes nothing.
-use mathlib.Core.Path.{_≡_, sym, ap₂}
-use lib.Ieee.{Float}
-use Rattle.whole.specs.Bits.{fl-zero}
+use mathlib.Core.Path.{_≡_, ap, ap₂}
 use Rattle.models.specs.declared.vehicle.Rest.the-variants.{Unbroken, Break}
-use Rattle.evaluation.specs.declared.schedule.Label.{Label}
-use Rattle.evaluation.specs.Records.{ClockF}
 use Rattle.local_search.specs.Begun.{plain, clocked}
 use borrow.Author.Needs.{needs}
 use Rattle.local_search.proofs.begun.set_out.Statement.{statement}
@@ -19,26 +15,18 @@ start-requires c κs = search needs
 enum-known-rest : tie.Need-enum-known-rest
 enum-known-rest c = search needs
 
-new-requires : tie.Need-new-requires
-new-requires c κs = search needs
+start-requires-2 : tie.Need-start-requires-2
+start-requires-2 c κs = search needs
 
 returns : tie.Need-returns
 returns c =
     let e : c .before .before .before .args .rest ≡ Unbroken = search needs in
-    rw e (ap₂ (λ (far : Float) (l : Label). plain (record { distance = far; label = l; prev = 0 })) (sym fl-zero) (c .start .ensures))
+    rw e (ap plain (c .start .ensures))
 
 returns-2 : tie.Need-returns-2
 returns-2 c =
     let e : c .before .before .before .before .args .rest ≡ Break (c .before .before .rest .given .0 .0) = search needs in
-    rw e (ap₂ (λ (x : ClockF) (far : Float). clocked x far) (c .new .ensures) (sym fl-zero))
+    rw e (ap₂ clocked (c .start2 .ensures .0) (c .start2 .ensures .1))
 
 pub set-out-spec : {M : Type 1} → statement M
-set-out-spec =
-    tie.close
-    (tie.spec
-    enum-told
-    start-requires
-    enum-known-rest
-    new-requires
-    returns
-    returns-2)
+set-out-spec = tie.close (tie.spec enum-told start-requires enum-known-rest start-requires-2 returns returns-2)

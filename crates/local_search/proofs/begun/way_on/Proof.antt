@@ -1,7 +1,7 @@
 -- `begun::way_on` meets its contract. Assumes nothing.
 use mathlib.Core.Path.{_≡_}
-use Rattle.evaluation.specs.declared.schedule.Reached.the-variants.{Nowhere, At}
-use Rattle.local_search.specs.Begun.{wayOnF, onF}
+use Rattle.evaluation.specs.declared.way.Driven.the-variants.{Failed, To}
+use Rattle.local_search.specs.Begun.{onF}
 use borrow.Author.Needs.{needs}
 use Rattle.local_search.proofs.begun.way_on.Statement.{statement}
 use Rattle.local_search.proofs.begun.way_on.Tie as tie
@@ -12,26 +12,28 @@ get-requires c κs = search needs
 travel-time-requires : tie.Need-travel-time-requires
 travel-time-requires c κs = search needs
 
-serve-requires : tie.Need-serve-requires
-serve-requires c κs = search needs
-
-enum-known-l : tie.Need-enum-known-l
-enum-known-l c = search needs
+on-requires : tie.Need-on-requires
+on-requires c κs = search needs
 
 enum-told : tie.Need-enum-told
 enum-told c = search needs
 
+enum-known-w : tie.Need-enum-known-w
+enum-known-w c = search needs
+
 returns : tie.Need-returns
-unfolding onF wayOnF
+unfolding onF
 returns c =
-    let e : c .before .before .serve .result ≡ Nowhere = search needs in
-    rw (← c .before .before .before .travel-time .ensures, ← c .before .before .serve .ensures, e)
+    let driven = c .before .before in
+    let e : driven .on .result ≡ Failed = search needs in
+    rw (← driven .before .before .get .ensures, ← driven .before .travel-time .ensures, ← driven .on .ensures, e)
 
 returns-2 : tie.Need-returns-2
-unfolding onF wayOnF
+unfolding onF
 returns-2 c =
-    let e : c .before .before .before .serve .result ≡ At (c .before .l .given .0 .0) = search needs in
-    rw (← c .before .before .before .before .travel-time .ensures, ← c .before .before .before .serve .ensures, e) (rw (c .before .before .before .before .before .before .get .ensures))
+    let driven = c .before .before .before in
+    let e : driven .on .result ≡ To (c .before .w .given .0 .0) = search needs in
+    rw (← driven .before .before .get .ensures, ← driven .before .travel-time .ensures, ← driven .on .ensures, e)
 
 pub way-on-spec : {M : Type 1} → statement M
 way-on-spec =
@@ -39,8 +41,8 @@ way-on-spec =
     (tie.spec
     get-requires
     travel-time-requires
-    serve-requires
-    enum-known-l
+    on-requires
     enum-told
+    enum-known-w
     returns
     returns-2)

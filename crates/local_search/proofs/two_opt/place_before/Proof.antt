@@ -1,28 +1,24 @@
 -- `two_opt::place_before` meets its contract. Assumes nothing.
-use Rattle.local_search.specs.Delta.{placeBefore}
+use mathlib.Core.Path.{refl, _∙_}
 use denote.Ref.{now}
-use mathlib.Core.Path.{refl}
+use Rattle.local_search.specs.Delta.{placeBefore}
 use Rattle.local_search.proofs.Reckoning.{place-before}
 use borrow.Author.Needs.{needs}
 use Rattle.local_search.proofs.two_opt.place_before.Statement.{statement}
 use Rattle.local_search.proofs.two_opt.place_before.Tie as tie
 
-sub-result : tie.Need-sub-result
-sub-result c = search needs
+sub-call-at : tie.Need-sub-call-at
+sub-call-at c = search needs
 
-mul-result : tie.Need-mul-result
-mul-result c = search needs
-
-shared-slice-read-result : tie.Need-shared-slice-read-result
-shared-slice-read-result c = search needs
+call-at-requires : tie.Need-call-at-requires
+call-at-requires c κs = search needs
 
 returns : tie.Need-returns
 unfolding placeBefore
 returns c = rw (c .if1 .taken) refl
 
 returns-2 : tie.Need-returns-2
-returns-2 c = let a = c .before .before .args in place-before (now (a .route)) (a .i) (c .before .if1 .left)
+returns-2 c = let a = c .before .before .before .args in c .call-at .ensures ∙ place-before (now (a .route)) (a .i) (c .before .if1 .left)
 
 pub place-before-spec : {M : Type 1} → statement M
-place-before-spec =
-    tie.close (tie.spec sub-result mul-result shared-slice-read-result returns returns-2)
+place-before-spec = tie.close (tie.spec sub-call-at call-at-requires returns returns-2)

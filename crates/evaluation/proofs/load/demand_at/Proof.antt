@@ -1,12 +1,11 @@
--- `loads::demand_at` meets its contract. Assumes nothing.
+-- `load::demand_at` meets its contract. Assumes nothing.
 use Prim.Native.Nat.{ℕ}
 use mathlib.Core.Path.{ap, _∙_}
 use lib.ListN.{getD}
 use denote.Ref.{now}
-use Rattle.elimination.specs.Loads.{demandAt}
 use borrow.Author.Needs.{needs}
-use Rattle.elimination.proofs.loads.demand_at.Statement.{statement}
-use Rattle.elimination.proofs.loads.demand_at.Tie as tie
+use Rattle.evaluation.proofs.load.demand_at.Statement.{statement}
+use Rattle.evaluation.proofs.load.demand_at.Tie as tie
 
 record-index-requires : tie.Need-record-index-requires
 record-index-requires c κs = search needs
@@ -21,7 +20,6 @@ wide-requires : tie.Need-wide-requires
 wide-requires c κs = search needs
 
 returns : tie.Need-returns
-unfolding demandAt
 returns c =
     let a = c .before .before .before .args in
     let wide = c .wide .ensures in

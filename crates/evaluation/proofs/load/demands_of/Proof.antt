@@ -1,15 +1,15 @@
--- `loads::demands_of` meets its contract. The loop's invariant: the demands of the first i customers are in. Assumes nothing.
+-- `load::demands_of` meets its contract. The loop's invariant: the demands of the first i customers are in. Assumes nothing.
 use Prim.Native.Nat.{_-_, _≤_}
 use native.Mathlib.Omega.{arith}
 use mathlib.Core.Path.{_≡_, refl, _∙_}
 use mathlib.Core.List.{map}
 use lib.ListN.{length, take, length-set}
 use Rattle.models.specs.Records.{customerOf}
-use Rattle.elimination.specs.Loads.{demandsOf}
-use Rattle.elimination.proofs.Demands.{demands-more, demands-all}
+use Rattle.evaluation.specs.Tables.{demandsOf}
+use Rattle.evaluation.proofs.Demands.{demands-more, demands-all}
 use borrow.Author.Needs.{needs}
-use Rattle.elimination.proofs.loads.demands_of.Statement.{statement}
-use Rattle.elimination.proofs.loads.demands_of.Tie as tie
+use Rattle.evaluation.proofs.load.demands_of.Statement.{statement}
+use Rattle.evaluation.proofs.load.demands_of.Tie as tie
 
 abbrev Inv-loop : tie.InvT-loop
 Inv-loop customers demands₀ i₀ demands i =
@@ -46,7 +46,9 @@ loop-again c =
     (omega arith, length-set (l .demands) (l .i) _ ∙ l .inv .1, demands-more customers (search needs) (l .demands) (l .i) (l .inv .2) (l .inv .1) _ (c .before .loop-test .taken))
 
 returns : tie.Need-returns Inv-loop μ-loop
-returns c = let l = c .before .loop in demands-all (c .before .before .args .t1) (search needs) (l .demands) (l .i) (l .inv .2) (l .inv .1) (c .loop-test .left)
+returns c =
+    let l = c .before .loop in
+    (l .inv .1, demands-all (c .before .before .args .t1) (search needs) (l .demands) (l .i) (l .inv .2) (l .inv .1) (c .loop-test .left))
 
 pub demands-of-spec : {M : Type 1} → statement M
 demands-of-spec =

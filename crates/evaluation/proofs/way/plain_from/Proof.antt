@@ -1,10 +1,10 @@
--- `begun::plain_from` meets its contract. Assumes nothing.
+-- `way::plain_from` meets its contract. Assumes nothing.
 use mathlib.Core.Path.{_≡_}
-use Rattle.evaluation.specs.declared.route.Driven.the-variants.{Failed, To}
-use Rattle.local_search.specs.Begun.{endedF}
+use Rattle.evaluation.specs.declared.way.Driven.the-variants.{Failed, To}
+use Rattle.evaluation.specs.Way.{plainF}
 use borrow.Author.Needs.{needs}
-use Rattle.local_search.proofs.begun.plain_from.Statement.{statement}
-use Rattle.local_search.proofs.begun.plain_from.Tie as tie
+use Rattle.evaluation.proofs.way.plain_from.Statement.{statement}
+use Rattle.evaluation.proofs.way.plain_from.Tie as tie
 
 way-through-requires : tie.Need-way-through-requires
 way-through-requires c κs = search needs
@@ -16,7 +16,7 @@ enum-told : tie.Need-enum-told
 enum-told c = search needs
 
 returns : tie.Need-returns
-unfolding endedF
+unfolding plainF
 returns c =
     let e : c .before .before .way-through .result ≡ Failed = search needs in
     rw (← c .before .before .way-through .ensures, e)
@@ -31,7 +31,7 @@ home-requires : tie.Need-home-requires
 home-requires c κs = search needs
 
 returns-2 : tie.Need-returns-2
-unfolding endedF
+unfolding plainF
 returns-2 c =
     let e : c .before .before .before .before .before .before .before .before .way-through .result ≡ To (c .before .before .before .before .before .before .d .given .0 .0) = search needs in
     rw (← c .before .before .before .before .before .before .before .before .way-through .ensures, e) (rw (c .home .ensures, c .before .travel-time .ensures, c .before .before .before .get .ensures))

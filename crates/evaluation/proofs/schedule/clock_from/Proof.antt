@@ -1,19 +1,18 @@
--- `begun::clock_from` meets its contract. The loop's invariant: what is left of the run, from the clock and the distance so far, ends as the whole run does. Assumes nothing.
+-- `schedule::clock_from` meets its contract. The loop's invariant: what is left of the run, from the clock and the distance so far, ends as the whole run does. Assumes nothing.
 use mathlib.Core.Path.{_≡_, refl, sym, ap, _∙_}
 use Prim.Native.Nat.{_+_, _-_, _≤_}
 use native.Mathlib.Omega.{arith}
 use lib.ListN.{length, drop}
 use borrow.Author.Tests.{not-true}
 use denote.Ref.{now}
 use Rattle.evaluation.specs.Records.{ClockF, clockOf, lent}
 use Rattle.evaluation.specs.Clock.{pushF}
 use Rattle.evaluation.specs.Schedule.{endF}
 use Rattle.evaluation.proofs.Reading.{read-record}
 use Rattle.evaluation.proofs.Growing.{end-turn, end-last, end-gone}
-use Rattle.local_search.specs.Begun.{endedF}
 use borrow.Author.Needs.{needs}
-use Rattle.local_search.proofs.begun.clock_from.Statement.{statement}
-use Rattle.local_search.proofs.begun.clock_from.Tie as tie
+use Rattle.evaluation.proofs.schedule.clock_from.Statement.{statement}
+use Rattle.evaluation.proofs.schedule.clock_from.Tie as tie
 
 abbrev Inv-loop : tie.InvT-loop
 Inv-loop calls distances times size customers clock₀ distance₀ i₀ clock distance i =
@@ -55,7 +54,6 @@ alive-requires : tie.Need-alive-requires Inv-loop μ-loop
 alive-requires c κs = search needs
 
 returns : tie.Need-returns Inv-loop μ-loop
-unfolding endedF
 returns c =
     let a = c .before .before .before .before .before .before .before .before .before .before .before .before .before .before .args in
     let x = c .before .before .before .before .before .before .before .before .before .loop in
@@ -91,7 +89,6 @@ finish-requires : tie.Need-finish-requires Inv-loop μ-loop
 finish-requires c κs = search needs
 
 returns-2 : tie.Need-returns-2 Inv-loop μ-loop
-unfolding endedF
 returns-2 c =
     let a = c .before .before .before .before .before .before .before .before .before .args in
     let x = c .before .before .before .before .loop in

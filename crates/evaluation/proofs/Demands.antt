@@ -1,18 +1,22 @@
--- What customers ask for, gathered one by one. Assumes nothing.
+-- What each record asks for: gathered one by one, and read for a call. Assumes nothing.
 use Prim.Native.Nat.{ℕ, _+_, _<_, _≤_}
 use native.Mathlib.Omega.{arith}
 use native.Mathlib.Numerals.{add-one}
 use mathlib.Core.Path.{_≡_, sym, ap, ap₂, _∙_}
 use mathlib.Core.List.{List, [], _∷_, _++_, map}
-use lib.ListN.{length, getD, set, take, length-map}
+use lib.ListN.{length, getD, set, take, length-map, List·getD-map}
 use lib.Seq.{take-suc, take-suc-set, take-all}
 use lib.Ieee.{Float}
 use Rattle.definitions.specs.Sheet.{CustomerOf}
 use Rattle.models.specs.declared.customer.Customer.{Customer}
 use Rattle.models.specs.Records.{customerOf}
-use Rattle.evaluation.specs.Tables.{blank}
+use Rattle.evaluation.specs.Tables.{recordIndex, blank, demandsOf, askedF, demandF}
 use Rattle.evaluation.proofs.Reading.{getD-of}
-use Rattle.elimination.specs.Loads.{demandsOf}
+
+-- what a call asks for, from the list of what each record asks for
+pub asked : (customers : List (CustomerOf Float)) (c : ℕ) → askedF (demandsOf customers) c ≡ demandF customers c
+unfolding demandF
+asked customers c = List·getD-map (λ (x : CustomerOf Float). x .demand) customers (recordIndex c) blank
 
 module _ (customers : List Customer) (long : length customers ≡ 64) where
   abbrev all : List ℕ

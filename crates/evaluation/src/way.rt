@@ -1,0 +1,123 @@
+// The way of a run with no break, from anywhere on: a call more, the calls that are left, and home.
+ghost use mathlib.Core.Path.{_≡_};
+ghost use Rattle.distance.specs.Lookup.{lookupF};
+ghost use Rattle.models.specs.Records.{customerOf};
+ghost use Rattle.evaluation.specs.Records.{finishedOf, drivenOf, lent};
+ghost use Rattle.evaluation.specs.Tables.{recordF};
+ghost use Rattle.evaluation.specs.Way.{startWay, wayOnF, throughF, wayF, plainF};
+use crate::schedule::Finished;
+use crate::schedule::Label;
+use crate::schedule::Reached;
+use crate::schedule::record_index;
+use crate::schedule::serve;
+use distance::matrix::get;
+use distance::matrix::travel_time;
+use models::customer::Customer;
+use models::vehicle::Rest;
+
+// Some way through the calls: the distance travelled, the label, and the last place.
+pub struct Way {
+    pub distance: f64,
+    pub label: Label,
+    pub prev: usize,
+}
+
+// A way that fails at a window, or one.
+pub enum Driven {
+    Failed,
+    To(Way),
+}
+
+impl Way {
+    // Before the first call.
+    pub fn start() -> Way
+        ensures { λ r. ⌜ r ≡ startWay ⌝ }
+    {
+        Way {
+            distance: 0.0,
+            label: Label::start(),
+            prev: 0,
+        }
+    }
+
+    // One call more, `leg` far and `travel` long away.
+    pub fn on(self, cid: usize, customer: Customer, leg: f64, travel: f64) -> Driven
+        ensures { λ r. ⌜ drivenOf r ≡ wayOnF (customerOf customer) leg travel self cid ⌝ }
+    {
+        let label = self.label;
+        let Reached::At(l) = serve(label, travel, customer, 0, Rest::Unbroken) else {
+            return Driven::Failed;
+        };
+        Driven::To(Way {
+            distance: self.distance + leg,
+            label: l,
+            prev: cid,
+        })
+    }
+}
+
+// The way on through these calls, by a table of travel times.
+pub fn drive_on(
+    from: Way,
+    calls: &[usize],
+    customers: [Customer; 64],
+    distances: &[f64],
+    table: &[f64],
+    size: usize,
+) -> Driven
+    ensures { λ r. ⌜ drivenOf r ≡ throughF (lookupF (now (distances .entry)) size) (lookupF (now (table .entry)) size) (recordF (lent customers (now (distances .entry)) (now (table .entry)) size)) from (now (calls .entry)) ⌝ }
+{
+    let mut way = from;
+    let mut i = 0;
+    while i < calls.len() {
+        let cid = calls[i];
+        let prev = way.prev;
+        let leg = get(distances, size, prev, cid);
+        let travel = get(table, size, prev, cid);
+        let index = record_index(cid);
+        let Driven::To(w) = way.on(cid, customers[index], leg, travel) else {
+            return Driven::Failed;
+        };
+        way = w;
+        i += 1;
+    }
+    Driven::To(way)
+}
+
+// The same by the travel times; without a time table they are the distances. Which table it is is asked once, and not at each leg.
+pub fn way_through(
+    from: Way,
+    calls: &[usize],
+    customers: [Customer; 64],
+    distances: &[f64],
+    times: &[f64],
+    size: usize,
+) -> Driven
+    ensures { λ r. ⌜ drivenOf r ≡ wayF (lent customers (now (distances .entry)) (now (times .entry)) size) from (now (calls .entry)) ⌝ }
+{
+    if times.len() == 0 {
+        drive_on(from, calls, customers, distances, distances, size)
+    } else {
+        drive_on(from, calls, customers, distances, times, size)
+    }
+}
+
+// The totals of a run that these calls end.
+pub fn plain_from(
+    from: Way,
+    calls: &[usize],
+    customers: [Customer; 64],
+    distances: &[f64],
+    times: &[f64],
+    size: usize,
+) -> Finished
+    ensures { λ r. ⌜ finishedOf r ≡ plainF (lent customers (now (distances .entry)) (now (times .entry)) size) from (now (calls .entry)) ⌝ }
+{
+    let Driven::To(d) = way_through(from, calls, customers, distances, times, size) else {
+        return Finished::Impossible;
+    };
+    let label = d.label;
+    let prev = d.prev;
+    let distance = d.distance + get(distances, size, prev, 0);
+    Finished::Home(label.home(distance, travel_time(distances, times, size, prev, 0)))
+}
