@@ -9,14 +9,9 @@ use lib.Ieee.{Float}
 use Rattle.definitions.specs.Sheet.{Sheet}
 use Rattle.definitions.specs.Reader.{sheet, read}
 use Rattle.definitions.specs.Answers as Call
-use Rattle.definitions.specs.Lent.{reversing, eliminating}
-use Rattle.definitions.specs.RunList.{runsOf}
-use Rattle.definitions.specs.Answers.{front, Improved, Eliminated, twoOpt, eliminate, twoOptOf, eliminateOf}
+use Rattle.definitions.specs.Answers.{front, Improved, Eliminated, twoOptOf, eliminateOf}
 use Rattle.definitions.specs.Room.{written}
 use Rattle.whole.specs.Whole.{fl}
-use Rattle.whole.specs.Value.{value}
-use Rattle.models.specs.declared.customer.Customer.{Customer}
-use Rattle.models.specs.declared.head.Head.{Head}
 use Rattle.sheet.specs.Summary as Summary
 use Rattle.sheet.specs.Summary.{summaryOf}
 use Rattle.elimination.specs.declared.route_elimination.Left.{Left}
@@ -25,46 +20,14 @@ use Rattle.checked.specs.declared.improving.Reversed.{Reversed}
 use Rattle.checked.specs.declared.improving.Reversed.the-variants as Reverseds
 use Rattle.checked.specs.declared.eliminating.Elimination.{Elimination}
 use Rattle.checked.specs.declared.eliminating.Elimination.the-variants as Eliminations
-use Rattle.checked.specs.Evaluating.{Answers}
-use Rattle.checked.specs.Improving.{reversalLent, improvedRunOf, reversedOf, Reverses}
-use Rattle.checked.specs.Eliminating as Checked
-use Rattle.checked.specs.Eliminating.{leftOf, eliminationOf, Eliminates}
-use Rattle.plan_listing.specs.Held.{InMemory}
+use Rattle.checked.specs.Improving.{improvedRunOf, reversedOf}
+use Rattle.checked.specs.Eliminating.{leftOf, eliminationOf}
 use Rattle.exports.specs.Answer.{gives, wordOf}
-use Rattle.exports.specs.Called.{lentWith, callNumber, setBy, listBy}
-use Rattle.exports.specs.Improve.{reverseAnswer, eliminateAnswer, countsLeft, RunLeft, RunsLeft}
-use Rattle.exports.proofs.OnSheet.{first, gathered, answered, unread, was-read}
-
--- ---- on the sheet in memory
-
-module _ (s : Sheet) (tour : List ℕ) (head : Head) (array : List Customer) (distances times : List Float) (H : InMemory s tour head array distances times) where
-  -- what a call says for every list of customers from which the array is gathered, said for those at its front
-  said : {R : Type 0} {answer : List Customer → R} {r : R} → Answers answer (head .places) array r → r ≡ answer (first s tour head array distances times H)
-  said told = told (first s tour head array distances times H) (gathered s tour head array distances times H)
-
-  module _ (run improved : List ℕ) (r : Reversed) (improved' : List ℕ) (R : Reverses (λ cs. twoOptOf value (reversalLent head cs distances times run (length improved))) (head .places) array improved r improved') where
-    same-reversed : twoOptOf value (reversalLent head (first s tour head array distances times H) distances times run (length improved)) ≡ twoOptOf some (lentWith s [] run [] [] (length improved ∷ []))
-    same-reversed = answered s tour head array distances times H reversing (λ x. twoOpt x run) [] run [] [] (length improved ∷ [])
-
-    pub reversed-on : RunLeft (twoOptOf some (lentWith s [] run [] [] (length improved ∷ []))) improved r improved'
-    reversed-on =
-        record {
-          answer = said (R .answer) ∙ ap reversedOf same-reversed;
-          calls-left = said (R .calls-left) ∙ ap (λ (a : Call.Answer Improved). written (front (λ x. x .calls) a) improved) same-reversed;
-        }
-
-  module _ (calls ends leftCalls leftEnds : List ℕ) (r : Elimination) (leftCalls' leftEnds' : List ℕ)
-      (E : Eliminates (λ cs. Checked.eliminateAnswer head cs distances times calls ends leftCalls leftEnds) (head .places) array leftCalls leftEnds r leftCalls' leftEnds') where
-    same-left : Checked.eliminateAnswer head (first s tour head array distances times H) distances times calls ends leftCalls leftEnds ≡ eliminateOf some (lentWith s [] calls ends [] (length leftCalls ∷ length leftEnds ∷ []))
-    same-left = answered s tour head array distances times H eliminating (λ x. eliminate x (runsOf calls ends)) [] calls ends [] (length leftCalls ∷ length leftEnds ∷ [])
-
-    pub eliminated-on : RunsLeft (eliminateOf some (lentWith s [] calls ends [] (length leftCalls ∷ length leftEnds ∷ []))) leftCalls leftEnds r leftCalls' leftEnds'
-    eliminated-on =
-        record {
-          answer = said (E .answer) ∙ ap eliminationOf same-left;
-          calls-left = said (E .calls-left) ∙ ap (λ (a : Call.Answer Eliminated). written (front (λ x. x .calls) a) leftCalls) same-left;
-          ends-left = said (E .ends-left) ∙ ap (λ (a : Call.Answer Eliminated). written (front (λ x. x .ends) a) leftEnds) same-left;
-        }
+use Rattle.exports.specs.Called.{callNumber, setBy, listBy}
+use Rattle.sheet_calls.specs.Lent.{lentWith}
+use Rattle.exports.specs.Improve.{reverseAnswer, eliminateAnswer, countsLeft}
+use Rattle.sheet_improve.specs.Improve.{RunLeft, RunsLeft}
+use Rattle.exports.proofs.Answering.{unread, was-read}
 
 -- ---- reversal
 

@@ -6,41 +6,28 @@ use mathlib.Core.List.{List, [], map}
 use mathlib.Core.Option.{some}
 use lib.Ieee.{Float}
 use Rattle.whole.specs.Whole.{fl}
-use Rattle.whole.specs.Value.{value}
 use Rattle.definitions.specs.Sheet.{Sheet}
-use Rattle.definitions.specs.Lent.{marking}
-use Rattle.definitions.specs.RunList.{runsOf}
 use Rattle.definitions.specs.Marker as Whole
-use Rattle.definitions.specs.Marker.{withPlaces, verdictNumber, verdictValues}
+use Rattle.definitions.specs.Marker.{verdictNumber, verdictValues}
 use Rattle.definitions.specs.Reader.{sheet, read}
 use Rattle.definitions.specs.Answers as Call
 use Rattle.definitions.specs.Answers.{markOf}
 use Rattle.definitions.specs.Room.{written}
-use Rattle.models.specs.declared.customer.Customer.{Customer}
-use Rattle.models.specs.declared.head.Head.{Head}
 use Rattle.marker.specs.declared.verdict.Verdict.{Verdict}
 use Rattle.marker.specs.Image.{flVerdict}
 use Rattle.sheet.specs.Summary as Summary
 use Rattle.sheet.specs.Summary.{summaryOf}
 use Rattle.checked.specs.declared.marking.Marking.{Marking}
 use Rattle.checked.specs.declared.marking.Marking.the-variants as Markings
-use Rattle.checked.specs.Evaluating.{Answers}
-use Rattle.checked.specs.Marking.{markLent, markIn}
-use Rattle.plan_listing.specs.Held.{InMemory}
+use Rattle.checked.specs.Marking.{markIn}
 use Rattle.exports.specs.Answer.{gives, wordOf}
-use Rattle.exports.specs.Called.{lentWith, callNumber, setBy, listBy}
-use Rattle.exports.specs.Mark.{markAnswer, numberIn, valuesIn, Small}
-use Rattle.exports.proofs.OnSheet.{first, gathered, answered, unread, was-read}
-use Rattle.exports.proofs.Verdicts.{same-number, same-values}
-use Rattle.exports.proofs.Small.{given-fits}
-
--- on the sheet in memory, whose tour is the one read
-pub marked-on : (s : Sheet) (tour : List ℕ) (head : Head) (array : List Customer) (distances times : List Float) → InMemory s tour head array distances times → (calls ends places visited : List ℕ) → tour ≡ visited
-    → (r : Marking) → Answers (λ cs. markIn (markOf value (markLent head cs distances times tour calls ends places))) (head .places) array r → r ≡ markIn (markOf some (lentWith s visited calls ends places []))
-marked-on s tour head array distances times H calls ends places visited e r told =
-    told (first s tour head array distances times H) (gathered s tour head array distances times H)
-    ∙ ap markIn (answered s tour head array distances times H marking (λ x. Whole.mark x tour (withPlaces (runsOf calls ends) places)) tour calls ends places [])
-    ∙ ap (λ (t : List ℕ). markIn (markOf some (lentWith s t calls ends places []))) e
+use Rattle.exports.specs.Called.{callNumber, setBy, listBy}
+use Rattle.sheet_calls.specs.Lent.{lentWith}
+use Rattle.exports.specs.Mark.{markAnswer}
+use Rattle.exports.proofs.Answering.{unread, was-read}
+use Rattle.sheet_mark.specs.Values.{numberIn, valuesIn, Small}
+use Rattle.sheet_mark.proofs.Verdicts.{same-number, same-values}
+use Rattle.sheet_mark.proofs.Small.{given-fits}
 
 -- ---- the cases of the code's answer
 

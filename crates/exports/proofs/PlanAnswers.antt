@@ -10,7 +10,8 @@ use Rattle.basics.specs.Tests.{Falses, falses}
 use Rattle.whole.specs.Whole.{fl}
 use Rattle.definitions.specs.Room.{short, written}
 use Rattle.exports.specs.Answer.{Answer, refused, gives, numberOf, wordOf, front, setTo}
-use Rattle.exports.specs.Plan.{Plan, countsOf, totalsOf, planNeeds, Left}
+use Rattle.sheet_plan.specs.Plan.{Plan, countsOf, totalsOf, Left}
+use Rattle.exports.specs.Plan.{planNeeds}
 
 -- lists that are not too short have the room
 pub roomy : (a b c d e : ℕ) (t : Bool) → t ≡ short planNeeds (a ∷ b ∷ c ∷ d ∷ e ∷ []) → t ≡ false → (128 ≤ a) × (128 ≤ b) × (128 ≤ c) × (128 ≤ d) × (128 ≤ e)

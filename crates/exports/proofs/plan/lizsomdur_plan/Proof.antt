@@ -6,7 +6,8 @@ use denote.Ref.{now}
 use Rattle.sheet.specs.declared.read.Reading.the-variants.{Sheet, Refused}
 use Rattle.sheet.specs.Summary.{heldCounts, heldSummary}
 use Rattle.plan_listing.proofs.Reading.{is-accepted, refused-is}
-use Rattle.exports.specs.Plan.{planNeeds, plan, planAnswer}
+use Rattle.sheet_plan.specs.Plan.{plan}
+use Rattle.exports.specs.Plan.{planNeeds, planAnswer}
 use Rattle.exports.proofs.Answering.{short-refused, read-refused, read-given}
 use Rattle.exports.proofs.PlanAnswers.{roomy, refused-ensures, given-ensures}
 use borrow.Author.Needs.{needs}

@@ -1,0 +1,2 @@
+-- The verdict by number and values.
+pub mod Values
