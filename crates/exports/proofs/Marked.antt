@@ -2,8 +2,7 @@
 use Prim.Native.Nat.{ℕ}
 use native.Mathlib.Omega.{arith}
 use mathlib.Core.Path.{_≡_, refl, sym, ap, subst, _∙_}
-use mathlib.Core.List.{List, [], map}
-use mathlib.Core.Option.{some}
+use mathlib.Core.List.{List, map}
 use lib.Ieee.{Float}
 use Rattle.whole.specs.Whole.{fl}
 use Rattle.definitions.specs.Sheet.{Sheet}
@@ -11,7 +10,6 @@ use Rattle.definitions.specs.Marker as Whole
 use Rattle.definitions.specs.Marker.{verdictNumber, verdictValues}
 use Rattle.definitions.specs.Reader.{sheet, read}
 use Rattle.definitions.specs.Answers as Call
-use Rattle.definitions.specs.Answers.{markOf}
 use Rattle.definitions.specs.Room.{written}
 use Rattle.marker.specs.declared.verdict.Verdict.{Verdict}
 use Rattle.marker.specs.Image.{flVerdict}
@@ -22,12 +20,12 @@ use Rattle.checked.specs.declared.marking.Marking.the-variants as Markings
 use Rattle.checked.specs.Marking.{markIn}
 use Rattle.exports.specs.Answer.{gives, wordOf}
 use Rattle.exports.specs.Called.{callNumber, setBy, listBy}
-use Rattle.sheet_calls.specs.Lent.{lentWith}
 use Rattle.exports.specs.Mark.{markAnswer}
 use Rattle.exports.proofs.Answering.{unread, was-read}
+use Rattle.sheet_mark.specs.Mark.{markedOn}
 use Rattle.sheet_mark.specs.Values.{numberIn, valuesIn, Small}
 use Rattle.sheet_mark.proofs.Verdicts.{same-number, same-values}
-use Rattle.sheet_mark.proofs.Small.{given-fits}
+use Rattle.sheet_mark.proofs.Small.{marked-fits}
 
 -- ---- the cases of the code's answer
 
@@ -51,22 +49,22 @@ module _ (bytes calls ends places : List ℕ) (word₀ verdict₀ : ℕ) (values
 
   pub mark-unread : (number word : ℕ) → Summary.refused number word ≡ summaryOf (read bytes) → Ensures number word verdict₀ values₀
   unfolding markAnswer
-  mark-unread number word e = rw (unread bytes (λ s tour. markOf some (lentWith s tour calls ends places [])) number word e) (refl, (refl, (refl, refl)))
+  mark-unread number word e = rw (unread bytes (λ s tour. markedOn s tour calls ends places) number word e) (refl, (refl, (refl, refl)))
 
-  module _ (s : Sheet) (tour : List ℕ) (e : read bytes ≡ sheet s tour) (r : Marking) (told : r ≡ markIn (markOf some (lentWith s tour calls ends places []))) where
-    mark-read : markAnswer bytes calls ends places ≡ gives (markOf some (lentWith s tour calls ends places []))
+  module _ (s : Sheet) (tour : List ℕ) (e : read bytes ≡ sheet s tour) (r : Marking) (told : r ≡ markIn (markedOn s tour calls ends places)) where
+    mark-read : markAnswer bytes calls ends places ≡ gives (markedOn s tour calls ends places)
     unfolding markAnswer
-    mark-read = was-read bytes (λ s tour. markOf some (lentWith s tour calls ends places [])) s tour e
+    mark-read = was-read bytes (λ s tour. markedOn s tour calls ends places) s tour e
 
     pub mark-refused : (number : ℕ) → r ≡ Markings.Refused number → Ensures number word₀ verdict₀ values₀
-    mark-refused number h = rw (mark-read, refused-in (markOf some (lentWith s tour calls ends places [])) number (sym h ∙ told)) (refl, (refl, (refl, refl)))
+    mark-refused number h = rw (mark-read, refused-in (markedOn s tour calls ends places) number (sym h ∙ told)) (refl, (refl, (refl, refl)))
 
     module _ (v : Verdict) (h : r ≡ Markings.Verdict v) where
-      found : (w : Whole.Verdict) × (markOf some (lentWith s tour calls ends places []) ≡ Call.gives w) × (v ≡ flVerdict w)
-      found = given-in (markOf some (lentWith s tour calls ends places [])) v (sym h ∙ told)
+      found : (w : Whole.Verdict) × (markedOn s tour calls ends places ≡ Call.gives w) × (v ≡ flVerdict w)
+      found = given-in (markedOn s tour calls ends places) v (sym h ∙ told)
 
       pub mark-small : Small v
-      mark-small = subst Small (sym (found .2)) (given-fits (lentWith s tour calls ends places []) (found .0) (found .1))
+      mark-small = subst Small (sym (found .2)) (marked-fits s tour calls ends places (found .0) (found .1))
 
       pub mark-given : (number : ℕ) (values : List Float) → number ≡ numberIn v → values ≡ written (valuesIn v) values₀ → Ensures 0 word₀ number values
       mark-given number values n l =

@@ -61,16 +61,16 @@ pub extern "C" fn lizsomdur_plan(
             number
         }
         Reading::Sheet(_) => {
-            plan_sheet(
+            let cut = plan_sheet(
                 sheet,
                 &mut *served,
                 &mut *run_ends,
                 &mut *break_places,
                 &mut *break_starts,
                 &mut *dropped,
-                &mut *counts,
-                &mut *totals,
             );
+            *counts = [cut.served, cut.runs, cut.dropped];
+            *totals = [cut.cost, cut.distance];
             0
         }
     }

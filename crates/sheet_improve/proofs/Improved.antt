@@ -2,14 +2,13 @@
 use Prim.Native.Nat.{ℕ}
 use mathlib.Core.Path.{_≡_, ap, _∙_}
 use mathlib.Core.List.{List, [], _∷_}
-use mathlib.Core.Option.{some}
 use lib.ListN.{length}
 use lib.Ieee.{Float}
 use Rattle.definitions.specs.Sheet.{Sheet}
 use Rattle.definitions.specs.Answers as Call
 use Rattle.definitions.specs.Lent.{reversing, eliminating}
 use Rattle.definitions.specs.RunList.{runsOf}
-use Rattle.definitions.specs.Answers.{front, Improved, Eliminated, twoOpt, eliminate, twoOptOf, eliminateOf}
+use Rattle.definitions.specs.Answers.{front, Improved, Eliminated, twoOpt, eliminate, twoOptOf}
 use Rattle.definitions.specs.Room.{written}
 use Rattle.whole.specs.Value.{value}
 use Rattle.models.specs.declared.customer.Customer.{Customer}
@@ -21,8 +20,7 @@ use Rattle.checked.specs.Improving.{reversalLent, reversedOf, Reverses}
 use Rattle.checked.specs.Eliminating as Checked
 use Rattle.checked.specs.Eliminating.{eliminationOf, Eliminates}
 use Rattle.plan_listing.specs.Held.{InMemory}
-use Rattle.sheet_calls.specs.Lent.{lentWith}
-use Rattle.sheet_improve.specs.Improve.{RunLeft, RunsLeft}
+use Rattle.sheet_improve.specs.Improve.{reversedOn, eliminatedOn, RunLeft, RunsLeft}
 use Rattle.sheet_calls.proofs.OnSheet.{first, gathered, answered}
 
 module _ (s : Sheet) (tour : List ℕ) (head : Head) (array : List Customer) (distances times : List Float) (H : InMemory s tour head array distances times) where
@@ -31,10 +29,11 @@ module _ (s : Sheet) (tour : List ℕ) (head : Head) (array : List Customer) (di
   said told = told (first s tour head array distances times H) (gathered s tour head array distances times H)
 
   module _ (run improved : List ℕ) (r : Reversed) (improved' : List ℕ) (R : Reverses (λ cs. twoOptOf value (reversalLent head cs distances times run (length improved))) (head .places) array improved r improved') where
-    same-reversed : twoOptOf value (reversalLent head (first s tour head array distances times H) distances times run (length improved)) ≡ twoOptOf some (lentWith s [] run [] [] (length improved ∷ []))
+    same-reversed : twoOptOf value (reversalLent head (first s tour head array distances times H) distances times run (length improved)) ≡ reversedOn s run improved
+    unfolding reversedOn
     same-reversed = answered s tour head array distances times H reversing (λ x. twoOpt x run) [] run [] [] (length improved ∷ [])
 
-    pub reversed-on : RunLeft (twoOptOf some (lentWith s [] run [] [] (length improved ∷ []))) improved r improved'
+    pub reversed-on : RunLeft (reversedOn s run improved) improved r improved'
     reversed-on =
         record {
           answer = said (R .answer) ∙ ap reversedOf same-reversed;
@@ -43,10 +42,11 @@ module _ (s : Sheet) (tour : List ℕ) (head : Head) (array : List Customer) (di
 
   module _ (calls ends leftCalls leftEnds : List ℕ) (r : Elimination) (leftCalls' leftEnds' : List ℕ)
       (E : Eliminates (λ cs. Checked.eliminateAnswer head cs distances times calls ends leftCalls leftEnds) (head .places) array leftCalls leftEnds r leftCalls' leftEnds') where
-    same-left : Checked.eliminateAnswer head (first s tour head array distances times H) distances times calls ends leftCalls leftEnds ≡ eliminateOf some (lentWith s [] calls ends [] (length leftCalls ∷ length leftEnds ∷ []))
+    same-left : Checked.eliminateAnswer head (first s tour head array distances times H) distances times calls ends leftCalls leftEnds ≡ eliminatedOn s calls ends leftCalls leftEnds
+    unfolding eliminatedOn
     same-left = answered s tour head array distances times H eliminating (λ x. eliminate x (runsOf calls ends)) [] calls ends [] (length leftCalls ∷ length leftEnds ∷ [])
 
-    pub eliminated-on : RunsLeft (eliminateOf some (lentWith s [] calls ends [] (length leftCalls ∷ length leftEnds ∷ []))) leftCalls leftEnds r leftCalls' leftEnds'
+    pub eliminated-on : RunsLeft (eliminatedOn s calls ends leftCalls leftEnds) leftCalls leftEnds r leftCalls' leftEnds'
     eliminated-on =
         record {
           answer = said (E .answer) ∙ ap eliminationOf same-left;

@@ -1,15 +1,11 @@
 // The improvers on an accepted sheet: its bytes are read into arrays, and the runs given are improved.
 ghost use mathlib.Core.Path.{_≡_};
-ghost use mathlib.Core.List.{List, [], _∷_};
-ghost use mathlib.Core.Option.{some};
+ghost use mathlib.Core.List.{List};
 ghost use Prim.Native.Nat.{ℕ};
-ghost use lib.ListN.{length};
 ghost use Rattle.definitions.specs.Sheet.{Sheet};
 ghost use Rattle.definitions.specs.Reader as Reader;
-ghost use Rattle.definitions.specs.Answers.{twoOptOf, eliminateOf};
 ghost use Rattle.plan_listing.specs.Held.{Accepted};
-ghost use Rattle.sheet_calls.specs.Lent.{lentWith};
-ghost use Rattle.sheet_improve.specs.Improve.{RunLeft, RunsLeft};
+ghost use Rattle.sheet_improve.specs.Improve.{reversedOn, eliminatedOn, RunLeft, RunsLeft};
 use checked::eliminating::Elimination;
 use checked::eliminating::eliminate_routes;
 use checked::improving::Reversed;
@@ -19,23 +15,19 @@ use plan_listing::held::load;
 // The reversal on an accepted sheet.
 pub fn reverse_sheet(bytes: &[u8], run: &[usize], improved: &mut [usize]) -> Reversed
     requires { ⌜ Accepted (now bytes) ⌝ }
-    ensures { λ r. ⌜ ((s : Sheet) (tour : List ℕ) → Reader.read (now (bytes .entry)) ≡ Reader.sheet s tour → RunLeft (twoOptOf some (lentWith s [] (now (run .entry)) [] [] (length (now (improved .entry)) ∷ []))) (now (improved .entry)) r (now (improved .exit))) ⌝ }
+    ensures { λ r. ⌜ ((s : Sheet) (tour : List ℕ) → Reader.read (now (bytes .entry)) ≡ Reader.sheet s tour → RunLeft (reversedOn s (now (run .entry)) (now (improved .entry))) (now (improved .entry)) r (now (improved .exit))) ⌝ }
 {
     let mut distances = [0.0; 4096];
     let mut times = [0.0; 4096];
     let mut tour = [0usize; 128];
     let l = load(bytes, &mut distances, &mut times, &mut tour);
-    let far = l.far;
-    let long = l.long;
-    let head = l.head;
-    let size = head.places;
     let customers = l.customers;
     two_opt_improve(
-        head,
+        l.head,
         customers,
-        size,
-        &distances[..far],
-        &times[..long],
+        l.head.places,
+        &distances[..l.far],
+        &times[..l.long],
         run,
         &mut *improved,
     )
@@ -50,23 +42,19 @@ pub fn eliminate_sheet(
     left_ends: &mut [usize],
 ) -> Elimination
     requires { ⌜ Accepted (now bytes) ⌝ }
-    ensures { λ r. ⌜ ((s : Sheet) (tour : List ℕ) → Reader.read (now (bytes .entry)) ≡ Reader.sheet s tour → RunsLeft (eliminateOf some (lentWith s [] (now (calls .entry)) (now (ends .entry)) [] (length (now («left_calls» .entry)) ∷ length (now («left_ends» .entry)) ∷ []))) (now («left_calls» .entry)) (now («left_ends» .entry)) r (now («left_calls» .exit)) (now («left_ends» .exit))) ⌝ }
+    ensures { λ r. ⌜ ((s : Sheet) (tour : List ℕ) → Reader.read (now (bytes .entry)) ≡ Reader.sheet s tour → RunsLeft (eliminatedOn s (now (calls .entry)) (now (ends .entry)) (now («left_calls» .entry)) (now («left_ends» .entry))) (now («left_calls» .entry)) (now («left_ends» .entry)) r (now («left_calls» .exit)) (now («left_ends» .exit))) ⌝ }
 {
     let mut distances = [0.0; 4096];
     let mut times = [0.0; 4096];
     let mut tour = [0usize; 128];
     let l = load(bytes, &mut distances, &mut times, &mut tour);
-    let far = l.far;
-    let long = l.long;
-    let head = l.head;
-    let size = head.places;
     let customers = l.customers;
     eliminate_routes(
-        head,
+        l.head,
         customers,
-        size,
-        &distances[..far],
-        &times[..long],
+        l.head.places,
+        &distances[..l.far],
+        &times[..l.long],
         calls,
         ends,
         &mut *left_calls,

@@ -2,7 +2,6 @@
 use Prim.Native.Nat.{ℕ}
 use mathlib.Core.Path.{_≡_, ap, _∙_}
 use mathlib.Core.List.{List, []}
-use mathlib.Core.Option.{some}
 use lib.Ieee.{Float}
 use Rattle.whole.specs.Value.{value}
 use Rattle.definitions.specs.Sheet.{Sheet}
@@ -17,13 +16,14 @@ use Rattle.checked.specs.declared.marking.Marking.{Marking}
 use Rattle.checked.specs.Evaluating.{Answers}
 use Rattle.checked.specs.Marking.{markLent, markIn}
 use Rattle.plan_listing.specs.Held.{InMemory}
-use Rattle.sheet_calls.specs.Lent.{lentWith}
+use Rattle.sheet_mark.specs.Mark.{markedOn}
 use Rattle.sheet_calls.proofs.OnSheet.{first, gathered, answered}
 
 -- its tour is the one read
 pub marked-on : (s : Sheet) (tour : List ℕ) (head : Head) (array : List Customer) (distances times : List Float) → InMemory s tour head array distances times → (calls ends places visited : List ℕ) → tour ≡ visited
-    → (r : Marking) → Answers (λ cs. markIn (markOf value (markLent head cs distances times tour calls ends places))) (head .places) array r → r ≡ markIn (markOf some (lentWith s visited calls ends places []))
+    → (r : Marking) → Answers (λ cs. markIn (markOf value (markLent head cs distances times tour calls ends places))) (head .places) array r → r ≡ markIn (markedOn s visited calls ends places)
+unfolding markedOn
 marked-on s tour head array distances times H calls ends places visited e r told =
     told (first s tour head array distances times H) (gathered s tour head array distances times H)
     ∙ ap markIn (answered s tour head array distances times H marking (λ x. Whole.mark x tour (withPlaces (runsOf calls ends) places)) tour calls ends places [])
-    ∙ ap (λ (t : List ℕ). markIn (markOf some (lentWith s t calls ends places []))) e
+    ∙ ap (λ (t : List ℕ). markIn (markedOn s t calls ends places)) e

@@ -30,6 +30,8 @@ use Rattle.bounds.specs.Bounds.{load-most}
 use Rattle.whole.specs.Whole.{limit}
 use Rattle.marker.specs.Image.{flVerdict}
 use Rattle.marker.proofs.GivenRuns.{rises, with-calls, with-all, Inside, runs-inside}
+use Rattle.sheet_calls.specs.Lent.{lentWith}
+use Rattle.sheet_mark.specs.Mark.{markedOn}
 use Rattle.sheet_mark.specs.Values.{Small}
 
 -- of a verdict of whole numbers
@@ -153,7 +155,7 @@ module _ (l : Lent ℕ) (h : refusalOf some marking l ≡ none) where
       (with-all (Inside s) (runsOf (l .calls) (l .ends)) (l .breaks) (runs-inside s 0 (l .calls) (l .ends) (few-calls s (l .calls) (A .calls), calls-inside s (l .calls) (A .calls))))
 
 -- the verdict that is given
-pub given-fits : (l : Lent ℕ) (v : Verdict) → markOf some l ≡ gives v → Fits v
+given-fits : (l : Lent ℕ) (v : Verdict) → markOf some l ≡ gives v → Fits v
 unfolding answer
 given-fits l v e = go (refusalOf some marking l) refl e
   where
@@ -162,3 +164,7 @@ given-fits l v e = go (refusalOf some marking l) refl e
         let same : mark (wholeSheet some (l .sheet)) (l .tour) (withPlaces (runsOf (l .calls) (l .ends)) (l .breaks)) ≡ v = cc in
         subst Fits same (accepted-small l h)
     go (some n) h g = let z : _≡_ {A = ℕ} 0 1 = cc in absurd (omega arith)
+
+pub marked-fits : (s : Sheet) (tour calls ends places : List ℕ) (v : Verdict) → markedOn s tour calls ends places ≡ gives v → Fits v
+unfolding markedOn
+marked-fits s tour calls ends places v e = given-fits (lentWith s tour calls ends places []) v e

@@ -1,2 +1,3 @@
--- The verdict by number and values.
+-- The mark on a sheet, and the verdict by number and values.
+pub mod Mark
 pub mod Values

@@ -12,6 +12,8 @@ use Rattle.definitions.specs.Drop.{Result, splitTw}
 use Rattle.definitions.specs.Marker.{withPlaces}
 use Rattle.definitions.specs.Room.{written}
 use Rattle.definitions.specs.RunList.{runsOf}
+use Rattle.ga.specs.declared.split.SplitResult.{SplitResult}
+use Rattle.plan_listing.specs.Cut.{CutLeft}
 
 -- the cutting of `split_tw`, and when the break of each run starts, 0 where it has none
 pub record Plan : Type 0 where
@@ -32,12 +34,8 @@ countsOf p = length (p .cut .served) ∷ length (p .cut .ends) ∷ length (p .cu
 abbrev pub totalsOf : Plan → List Float
 totalsOf p = fl (p .cut .cost) ∷ fl (p .cut .distance) ∷ []
 
--- what a plan leaves in what it is lent
-pub record Left (p : Plan) (served₀ ends₀ places₀ : List ℕ) (starts₀ : List Float) (dropped₀ served ends places : List ℕ) (starts : List Float) (dropped counts : List ℕ) (totals : List Float) : Type 0 where
-  pub served-left : served ≡ written (p .cut .served) served₀
-  pub ends-left : ends ≡ written (p .cut .ends) ends₀
+-- what a plan comes to, and the lists as it leaves them
+pub record Left (p : Plan) (r : SplitResult) (served₀ ends₀ places₀ : List ℕ) (starts₀ : List Float) (dropped₀ served ends places : List ℕ) (starts : List Float) (dropped : List ℕ) : Type 0 where
+  pub cut : CutLeft (p .cut) r served₀ ends₀ dropped₀ served ends dropped
   pub places-left : places ≡ written (p .cut .places) places₀
   pub starts-left : starts ≡ written (map fl (p .starts)) starts₀
-  pub dropped-left : dropped ≡ written (p .cut .dropped) dropped₀
-  pub counts-left : counts ≡ countsOf p
-  pub totals-left : totals ≡ totalsOf p

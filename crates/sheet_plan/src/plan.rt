@@ -8,9 +8,10 @@ ghost use Rattle.definitions.specs.Reader as Reader;
 ghost use Rattle.plan_listing.specs.Held.{InMemory, Held, Accepted};
 ghost use Rattle.sheet_plan.specs.Plan.{plan, Left};
 use crate::breaks::write_breaks;
-use ga::split_tw::split_tw;
+use ga::split::SplitResult;
 use models::customer::Customer;
 use models::head::Head;
+use plan_listing::cut::cut_held;
 use plan_listing::held::load;
 
 // The plan of the tour on the sheet that is held.
@@ -25,33 +26,26 @@ fn plan_held(
     break_places: &mut [usize],
     break_starts: &mut [f64],
     dropped: &mut [usize],
-    counts: &mut [usize; 3],
-    totals: &mut [f64; 2],
-)
+) -> SplitResult
     requires { ⌜ Held (now tour) head customers (now distances) (now times) ⌝ }
     requires { ⌜ (128 ≤ length (now served)) × (128 ≤ length (now «run_ends»)) × (128 ≤ length (now «break_places»)) × (128 ≤ length (now «break_starts»)) × (128 ≤ length (now dropped)) ⌝ }
-    ensures { λ _. ⌜ ((s : Sheet) → InMemory s (now (tour .entry)) head customers (now (distances .entry)) (now (times .entry)) → Left (plan s (now (tour .entry))) (now (served .entry)) (now («run_ends» .entry)) (now («break_places» .entry)) (now («break_starts» .entry)) (now (dropped .entry)) (now (served .exit)) (now («run_ends» .exit)) (now («break_places» .exit)) (now («break_starts» .exit)) (now (dropped .exit)) (now (counts .exit)) (now (totals .exit))) ⌝ }
+    ensures { λ r. ⌜ ((s : Sheet) → InMemory s (now (tour .entry)) head customers (now (distances .entry)) (now (times .entry)) → Left (plan s (now (tour .entry))) r (now (served .entry)) (now («run_ends» .entry)) (now («break_places» .entry)) (now («break_starts» .entry)) (now (dropped .entry)) (now (served .exit)) (now («run_ends» .exit)) (now («break_places» .exit)) (now («break_starts» .exit)) (now (dropped .exit))) ⌝ }
 {
     let limits = head.limits;
     let rest = limits.rest;
-    let cut = split_tw(
+    let cut = cut_held(
         tour,
+        head,
         customers,
         distances,
         times,
-        head.places,
-        head.capacity,
-        head.fixed_cost,
-        limits,
         &mut *served,
         &mut *run_ends,
         &mut *dropped,
     );
-    let n = cut.served;
-    let runs = cut.runs;
     write_breaks(
-        &served[..n],
-        &run_ends[..runs],
+        &served[..cut.served],
+        &run_ends[..cut.runs],
         customers,
         distances,
         times,
@@ -60,11 +54,10 @@ fn plan_held(
         &mut *break_places,
         &mut *break_starts,
     );
-    *counts = [n, runs, cut.dropped];
-    *totals = [cut.cost, cut.distance];
+    cut
 }
 
-// The plan of an accepted sheet.
+// Its lists are written at the front of those lent; what the cut comes to is returned.
 pub fn plan_sheet(
     bytes: &[u8],
     served: &mut [usize],
@@ -72,34 +65,26 @@ pub fn plan_sheet(
     break_places: &mut [usize],
     break_starts: &mut [f64],
     dropped: &mut [usize],
-    counts: &mut [usize; 3],
-    totals: &mut [f64; 2],
-)
+) -> SplitResult
     requires { ⌜ Accepted (now bytes) ⌝ }
     requires { ⌜ (128 ≤ length (now served)) × (128 ≤ length (now «run_ends»)) × (128 ≤ length (now «break_places»)) × (128 ≤ length (now «break_starts»)) × (128 ≤ length (now dropped)) ⌝ }
-    ensures { λ _. ⌜ ((s : Sheet) (tour : List ℕ) → Reader.read (now (bytes .entry)) ≡ Reader.sheet s tour → Left (plan s tour) (now (served .entry)) (now («run_ends» .entry)) (now («break_places» .entry)) (now («break_starts» .entry)) (now (dropped .entry)) (now (served .exit)) (now («run_ends» .exit)) (now («break_places» .exit)) (now («break_starts» .exit)) (now (dropped .exit)) (now (counts .exit)) (now (totals .exit))) ⌝ }
+    ensures { λ r. ⌜ ((s : Sheet) (tour : List ℕ) → Reader.read (now (bytes .entry)) ≡ Reader.sheet s tour → Left (plan s tour) r (now (served .entry)) (now («run_ends» .entry)) (now («break_places» .entry)) (now («break_starts» .entry)) (now (dropped .entry)) (now (served .exit)) (now («run_ends» .exit)) (now («break_places» .exit)) (now («break_starts» .exit)) (now (dropped .exit))) ⌝ }
 {
     let mut distances = [0.0; 4096];
     let mut times = [0.0; 4096];
     let mut tour = [0usize; 128];
     let l = load(bytes, &mut distances, &mut times, &mut tour);
-    let far = l.far;
-    let long = l.long;
-    let calls = l.calls;
-    let head = l.head;
     let customers = l.customers;
     plan_held(
-        &tour[..calls],
-        head,
+        &tour[..l.calls],
+        l.head,
         customers,
-        &distances[..far],
-        &times[..long],
+        &distances[..l.far],
+        &times[..l.long],
         &mut *served,
         &mut *run_ends,
         &mut *break_places,
         &mut *break_starts,
         &mut *dropped,
-        &mut *counts,
-        &mut *totals,
-    );
+    )
 }

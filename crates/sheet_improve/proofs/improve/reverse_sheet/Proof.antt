@@ -12,25 +12,25 @@ load-requires c κs = search needs
 
 array-share-prefix-distances : tie.Need-array-share-prefix-distances
 array-share-prefix-distances c =
-    let x = c .before .before in
+    let x = c .before in
     let q = x .before .before .before .before .before .before .before .pre in
     far-inside (x .load .ensures (q .0) (q .1) (q .2))
 
 slice-aggregate-two-opt-improve : tie.Need-slice-aggregate-two-opt-improve
 slice-aggregate-two-opt-improve c =
-    let x = c .before .before .before in
+    let x = c .before .before in
     let q = x .before .before .before .before .before .before .before .pre in
     far-counted (x .load .ensures (q .0) (q .1) (q .2))
 
 array-share-prefix-times : tie.Need-array-share-prefix-times
 array-share-prefix-times c =
-    let x = c .before .before .before in
+    let x = c .before .before in
     let q = x .before .before .before .before .before .before .before .pre in
     long-inside (x .load .ensures (q .0) (q .1) (q .2))
 
 slice-aggregate-two-opt-improve-2 : tie.Need-slice-aggregate-two-opt-improve-2
 slice-aggregate-two-opt-improve-2 c =
-    let x = c .before .before .before .before in
+    let x = c .before .before .before in
     let q = x .before .before .before .before .before .before .before .pre in
     long-counted (x .load .ensures (q .0) (q .1) (q .2))
 
@@ -42,7 +42,7 @@ same-length c = search needs
 
 returns : tie.Need-returns
 returns c s tour e =
-    let x = c .before .before .before .before .before .before .before .before in
+    let x = c .before .before .before .before .before .before .before in
     let a = x .before .before .before .before .before .before .before .args in
     let l = x .load .result in
     let distances = take (l .far) (x .load .last .1 .0) in

@@ -12,37 +12,37 @@ load-requires c κs = search needs
 
 array-share-prefix-distances : tie.Need-array-share-prefix-distances
 array-share-prefix-distances c =
-    let x = c .before .before in
+    let x = c .before in
     let q = x .before .before .before .before .before .before .before .before .pre in
     far-inside (x .load .ensures (q .0) (q .1) (q .2))
 
 slice-aggregate-mark : tie.Need-slice-aggregate-mark
 slice-aggregate-mark c =
-    let x = c .before .before .before in
+    let x = c .before .before in
     let q = x .before .before .before .before .before .before .before .before .pre in
     far-counted (x .load .ensures (q .0) (q .1) (q .2))
 
 array-share-prefix-times : tie.Need-array-share-prefix-times
 array-share-prefix-times c =
-    let x = c .before .before .before in
+    let x = c .before .before in
     let q = x .before .before .before .before .before .before .before .before .pre in
     long-inside (x .load .ensures (q .0) (q .1) (q .2))
 
 slice-aggregate-mark-2 : tie.Need-slice-aggregate-mark-2
 slice-aggregate-mark-2 c =
-    let x = c .before .before .before .before in
+    let x = c .before .before .before in
     let q = x .before .before .before .before .before .before .before .before .pre in
     long-counted (x .load .ensures (q .0) (q .1) (q .2))
 
 array-share-prefix-tour : tie.Need-array-share-prefix-tour
 array-share-prefix-tour c =
-    let x = c .before .before .before .before in
+    let x = c .before .before .before in
     let q = x .before .before .before .before .before .before .before .before .pre in
     calls-inside (x .load .ensures (q .0) (q .1) (q .2))
 
 slice-aggregate-mark-3 : tie.Need-slice-aggregate-mark-3
 slice-aggregate-mark-3 c =
-    let x = c .before .before .before .before .before in
+    let x = c .before .before .before .before in
     let q = x .before .before .before .before .before .before .before .before .pre in
     calls-counted (x .load .ensures (q .0) (q .1) (q .2))
 
@@ -51,7 +51,7 @@ mark-requires c κs = search needs
 
 returns : tie.Need-returns
 returns c s tour e =
-    let x = c .before .before .before .before .before .before in
+    let x = c .before .before .before .before .before in
     let a = x .before .before .before .before .before .before .before .before .args in
     let l = x .load .result in
     let H = x .load .ensures s tour e in

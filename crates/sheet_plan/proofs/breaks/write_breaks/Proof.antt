@@ -6,8 +6,9 @@ use denote.Ref.{now}
 use borrow.Author.Needs.{needs}
 use Rattle.models.specs.Records.{restOf}
 use Rattle.evaluation.specs.Records.{lent}
+use Rattle.report.proofs.RunWalk.{begins, rises, inside}
 use Rattle.sheet_plan.specs.Breaks.{breakF}
-use Rattle.sheet_plan.proofs.BreakTurns.{BreaksTo, set-out, places-kept, starts-kept, begins, rises, inside, turn, places-ended, starts-ended}
+use Rattle.sheet_plan.proofs.BreakTurns.{BreaksTo, set-out, places-kept, starts-kept, turn, places-ended, starts-ended}
 use Rattle.sheet_plan.proofs.breaks.write_breaks.Statement.{statement}
 use Rattle.sheet_plan.proofs.breaks.write_breaks.Tie as tie
 
@@ -31,16 +32,16 @@ shared-slice-read-to : tie.Need-shared-slice-read-to Inv-loop μ-loop
 shared-slice-read-to c = omega arith
 
 mul-break-of : tie.Need-mul-break-of Inv-loop μ-loop
-mul-break-of c = omega (arith, begins (c .before .before .loop .inv))
+mul-break-of c = omega (arith, begins (c .before .before .loop .inv .at-run))
 
 sub-break-of : tie.Need-sub-break-of Inv-loop μ-loop
-sub-break-of c = rises (c .before .before .loop .inv) (c .before .loop-test .taken)
+sub-break-of c = rises (c .before .before .loop .inv .at-run) (c .before .loop-test .taken)
 
 part-break-of-start : tie.Need-part-break-of-start Inv-loop μ-loop
-part-break-of-start c = rises (c .before .before .loop .inv) (c .before .loop-test .taken)
+part-break-of-start c = rises (c .before .before .loop .inv .at-run) (c .before .loop-test .taken)
 
 part-break-of-end : tie.Need-part-break-of-end Inv-loop μ-loop
-part-break-of-end c = inside (c .before .before .loop .inv) (c .before .loop-test .taken)
+part-break-of-end c = inside (c .before .before .loop .inv .at-run) (c .before .loop-test .taken)
 
 break-of-requires : tie.Need-break-of-requires Inv-loop μ-loop
 break-of-requires c κs = search needs

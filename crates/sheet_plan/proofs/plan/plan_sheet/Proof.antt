@@ -11,49 +11,49 @@ load-requires c κs = search needs
 
 array-share-prefix-tour : tie.Need-array-share-prefix-tour
 array-share-prefix-tour c =
-    let x = c .before .before in
+    let x = c .before in
     let q = x .before .before .before .before .before .before .before .before .before .before .pre .0 in
     let H = x .load .ensures (q .0) (q .1) (q .2) in
     calls-inside H
 
 slice-aggregate-plan-held : tie.Need-slice-aggregate-plan-held
 slice-aggregate-plan-held c =
-    let x = c .before .before .before in
+    let x = c .before .before in
     let q = x .before .before .before .before .before .before .before .before .before .before .pre .0 in
     let H = x .load .ensures (q .0) (q .1) (q .2) in
     calls-counted H
 
 array-share-prefix-distances : tie.Need-array-share-prefix-distances
 array-share-prefix-distances c =
-    let x = c .before .before .before in
+    let x = c .before .before in
     let q = x .before .before .before .before .before .before .before .before .before .before .pre .0 in
     let H = x .load .ensures (q .0) (q .1) (q .2) in
     far-inside H
 
 slice-aggregate-plan-held-2 : tie.Need-slice-aggregate-plan-held-2
 slice-aggregate-plan-held-2 c =
-    let x = c .before .before .before .before in
+    let x = c .before .before .before in
     let q = x .before .before .before .before .before .before .before .before .before .before .pre .0 in
     let H = x .load .ensures (q .0) (q .1) (q .2) in
     far-counted H
 
 array-share-prefix-times : tie.Need-array-share-prefix-times
 array-share-prefix-times c =
-    let x = c .before .before .before .before in
+    let x = c .before .before .before in
     let q = x .before .before .before .before .before .before .before .before .before .before .pre .0 in
     let H = x .load .ensures (q .0) (q .1) (q .2) in
     long-inside H
 
 slice-aggregate-plan-held-3 : tie.Need-slice-aggregate-plan-held-3
 slice-aggregate-plan-held-3 c =
-    let x = c .before .before .before .before .before in
+    let x = c .before .before .before .before in
     let q = x .before .before .before .before .before .before .before .before .before .before .pre .0 in
     let H = x .load .ensures (q .0) (q .1) (q .2) in
     long-counted H
 
 plan-held-requires : tie.Need-plan-held-requires
 plan-held-requires c κs =
-    let x = c .before .before .before .before .before .before .before .before .before .before .before .before in
+    let x = c .before .before .before .before .before .before .before .before .before in
     let q = x .before .before .before .before .before .before .before .before .before .before .pre .0 in
     let H = x .load .ensures (q .0) (q .1) (q .2) in
     (held H, x .before .before .before .before .before .before .before .before .before .before .pre .1)
@@ -75,7 +75,7 @@ same-length-5 c = search needs
 
 returns : tie.Need-returns
 returns c =
-    let l = c .before .before .before .before .before .before .before .before .before .before .before .before .before .before .before .before .before .before .before .before .before .before .before in
+    let l = c .before .before .before .before .before .before .before .before .before .before .before .before .before .before .before .before .before .before .before .before in
     let a = l .before .before .before .before .before .before .before .before .before .before .args in
     let y = c .before .before .before .before .before .before .before .before .before .before .plan-held in
     λ s tour e. let H = l .load .ensures s tour e in of-tour s {served₀ = now (a .served)} {ends₀ = now (a .run-ends)} {places₀ = now (a .break-places)} {dropped₀ = now (a .dropped)} {starts₀ = now (a .break-starts)} (calls-are H) (y .ensures s (H .in-memory))

@@ -1,9 +1,9 @@
--- The runs of the planner's result, with their breaks where the clock puts them. Assumes nothing.
+-- The breaks of the runs of the planner's result, where the clock puts them. Assumes nothing.
 use Prim.Native.Nat.{ℕ, _≤_}
 use native.Mathlib.Omega.{arith}
-use mathlib.Core.Path.{_≡_, refl, sym, ap, ap₂, subst, _∙_}
-use mathlib.Core.Bool.{true, not, false≢true}
-use mathlib.Core.List.{List, [], _∷_, _++_, map}
+use mathlib.Core.Path.{_≡_, refl, sym, ap, ap₂, _∙_}
+use mathlib.Core.Bool.{true}
+use mathlib.Core.List.{List, [], _∷_, map}
 use mathlib.Core.Option.{Option, none, some, Option·map}
 use lib.Dec.{eqb}
 use lib.Ieee.{Float}
@@ -11,49 +11,26 @@ use lib.ListN.{length, length-append}
 use borrow.Author.Tests.{eqb-true}
 use Rattle.basics.specs.Tests.{both}
 use Rattle.basics.specs.Options.{holds, held, valueOr}
-use Rattle.basics.specs.Lists.{All, isEmpty}
+use Rattle.basics.specs.Lists.{All}
 use Rattle.whole.specs.Whole.{fl}
 use Rattle.definitions.specs.Domain.{mostCalls}
 use Rattle.definitions.specs.Sheet.{Sheet}
-use Rattle.definitions.specs.Run.{Run, legal}
+use Rattle.definitions.specs.Run.{Run}
 use Rattle.definitions.specs.RunList.{runsOf}
-use Rattle.definitions.specs.Clock.{clock, startOf, arc}
-use Rattle.definitions.specs.Cutting.{callsIn, joined, legalCutting}
+use Rattle.definitions.specs.Clock.{clock, startOf}
+use Rattle.definitions.specs.Cutting.{callsIn, joined}
 use Rattle.definitions.specs.Drop.{Result, splitTw}
-use Rattle.definitions.specs.Marker.{withPlaces}
 use Rattle.definitions.specs.Promise.{byClock, Promise}
-use Rattle.definitions.proofs.RunListLaws.{runs-back, ends-many}
-use Rattle.definitions.proofs.Legality.{legal-has}
 use Rattle.definitions.proofs.Promised.{promised}
-use Rattle.bounds.specs.Inside.{Sized, Place, held-inside}
-use Rattle.bounds.specs.CostBounds.{arc-priced, held-few}
+use Rattle.bounds.specs.Inside.{Sized, Place}
 use Rattle.models.specs.Image.{flBreak}
 use Rattle.evaluation.specs.Records.{Tables}
 use Rattle.evaluation.specs.Image.{Image}
 use Rattle.evaluation.proofs.RouteExact.{totals-exact, start-exact}
+use Rattle.report.proofs.PlanRuns.{all-both, runs-are, placed-are, served-few, served-inside}
 use Rattle.sheet_plan.specs.declared.breaks.Taken.{Taken}
 use Rattle.sheet_plan.specs.Breaks.{breakF}
 use Rattle.sheet_plan.specs.Plan.{startsOf}
-
-all-both : {A : Type 0} (P : A → Type 0) (l m : List A) → All P (l ++ m) → All P l × All P m
-all-both P [] m a = (tt, a)
-all-both P (x ∷ l) m a = let b = all-both P l m (a .1) in ((a .0, b .0), b .1)
-
--- runs to calls and places, and back
-places-back : (runs : List Run) → withPlaces (callsIn runs) (map (λ r. r .place) runs) ≡ runs
-places-back [] = refl
-places-back (r ∷ rs) = ap (λ (l : List Run). r ∷ l) (places-back rs)
-
--- a legal run has a call, so there are no more runs than calls
-some-call : (calls : List ℕ) → not (isEmpty calls) ≡ true → 1 ≤ length calls
-some-call [] e = absurd (false≢true e)
-some-call (c ∷ cs) e = omega arith
-
-few-runs : (s : Sheet) (runs : List Run) → legalCutting s runs ≡ true → length (callsIn runs) ≤ length (joined runs)
-few-runs s [] h = omega arith
-few-runs s (r ∷ rs) h =
-    let b = both (legal s r) (legalCutting s rs) h in
-    omega (arith, some-call (r .calls) (legal-has s r (b .0) .1 .some-calls), few-runs s rs (b .1), length-append (r .calls) (joined rs))
 
 value-fl : (o : Option ℕ) → valueOr (fl 0) (Option·map fl o) ≡ fl (valueOr 0 o)
 value-fl none = refl
@@ -94,20 +71,13 @@ module _ (s : Sheet) (S : Sized s) (t : Tables) (I : Image s t) where
     abbrev plan : Result
     plan = splitTw s tour
 
-    P : Promise s tour plan
+    abbrev P : Promise s tour plan
     P = promised s tour
-
-    runs-are : runsOf (plan .served) (plan .ends) ≡ callsIn (P .runs)
-    runs-are = rw (← P .cuts, ← P .ends-are) (runs-back 0 (callsIn (P .runs)))
-
-    served-few : length (joined (P .runs)) ≤ mostCalls
-    unfolding splitTw
-    served-few = subst (λ (l : List ℕ). length l ≤ mostCalls) (sym (P .cuts)) (held-few (arc s) (arc-priced s S) tour few)
 
     breaks-are : map by (runsOf (plan .served) (plan .ends)) ≡ map (taken s) (P .runs)
     breaks-are =
-        ap (λ (l : List (List ℕ)). map by l) runs-are
-        ∙ all-by-clock (P .runs) served-few (subst (All (Place s)) (P .served-are ∙ sym (P .cuts)) (held-inside s S tour (P .held) i)) (P .clocked)
+        ap (λ (l : List (List ℕ)). map by l) (runs-are s tour)
+        ∙ all-by-clock (P .runs) (served-few s tour S few) (served-inside s tour S i) (P .clocked)
 
     pub places-found : map (λ b. b .place) (map by (runsOf (plan .served) (plan .ends))) ≡ plan .places
     places-found = ap (λ (l : List Taken). map (λ b. b .place) l) breaks-are ∙ taken-places s (P .runs) ∙ P .places-are
@@ -116,10 +86,4 @@ module _ (s : Sheet) (S : Sized s) (t : Tables) (I : Image s t) where
     starts-found =
         ap (λ (l : List Taken). map (λ b. b .start) l) breaks-are
         ∙ taken-starts s (P .runs)
-        ∙ ap (λ (rs : List Run). map fl (map (λ r. valueOr 0 (startOf s r)) rs)) (sym placed-are)
-      where
-        placed-are : withPlaces (runsOf (plan .served) (plan .ends)) (plan .places) ≡ P .runs
-        placed-are = rw (runs-are, ← P .places-are) (places-back (P .runs))
-
-    pub ends-few : length (plan .ends) ≤ mostCalls
-    ends-few = omega (arith, ap length (P .ends-are), ends-many 0 (callsIn (P .runs)), few-runs s (P .runs) (P .all-legal), served-few)
+        ∙ ap (λ (rs : List Run). map fl (map (λ r. valueOr 0 (startOf s r)) rs)) (sym (placed-are s tour))
