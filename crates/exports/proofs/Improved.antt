@@ -3,20 +3,13 @@ use Prim.Native.Nat.{ℕ}
 use native.Mathlib.Omega.{arith}
 use mathlib.Core.Path.{_≡_, refl, sym, ap, _∙_}
 use mathlib.Core.List.{List, [], _∷_}
-use mathlib.Core.Option.{some}
-use lib.ListN.{length}
 use lib.Ieee.{Float}
 use Rattle.definitions.specs.Sheet.{Sheet}
 use Rattle.definitions.specs.Reader.{sheet, read}
 use Rattle.definitions.specs.Answers as Call
-use Rattle.definitions.specs.Lent.{reversing, eliminating}
-use Rattle.definitions.specs.RunList.{runsOf}
-use Rattle.definitions.specs.Answers.{front, Improved, Eliminated, twoOpt, eliminate, twoOptOf, eliminateOf}
+use Rattle.definitions.specs.Answers.{front, Improved, Eliminated}
 use Rattle.definitions.specs.Room.{written}
 use Rattle.whole.specs.Whole.{fl}
-use Rattle.whole.specs.Value.{value}
-use Rattle.models.specs.declared.customer.Customer.{Customer}
-use Rattle.models.specs.declared.head.Head.{Head}
 use Rattle.sheet.specs.Summary as Summary
 use Rattle.sheet.specs.Summary.{summaryOf}
 use Rattle.elimination.specs.declared.route_elimination.Left.{Left}
@@ -25,46 +18,13 @@ use Rattle.checked_improvers.specs.declared.improving.Reversed.{Reversed}
 use Rattle.checked_improvers.specs.declared.improving.Reversed.the-variants as Reverseds
 use Rattle.checked_improvers.specs.declared.eliminating.Elimination.{Elimination}
 use Rattle.checked_improvers.specs.declared.eliminating.Elimination.the-variants as Eliminations
-use Rattle.checked.specs.Answers.{Answers}
-use Rattle.checked_improvers.specs.Improving.{reversalLent, improvedRunOf, reversedOf, Reverses}
-use Rattle.checked_improvers.specs.Eliminating as Checked
-use Rattle.checked_improvers.specs.Eliminating.{leftOf, eliminationOf, Eliminates}
-use Rattle.plan_listing.specs.Held.{InMemory}
+use Rattle.checked_improvers.specs.Improving.{improvedRunOf, reversedOf}
+use Rattle.checked_improvers.specs.Eliminating.{leftOf, eliminationOf}
 use Rattle.exports.specs.Answer.{gives, wordOf}
-use Rattle.exports.specs.Called.{lentWith, callNumber, setBy, listBy}
-use Rattle.exports.specs.Improve.{reverseAnswer, eliminateAnswer, countsLeft, RunLeft, RunsLeft}
-use Rattle.exports.proofs.OnSheet.{first, gathered, answered, unread, was-read}
-
--- ---- on the sheet in memory
-
-module _ (s : Sheet) (tour : List ℕ) (head : Head) (array : List Customer) (distances times : List Float) (H : InMemory s tour head array distances times) where
-  -- what a call says for every list of customers from which the array is gathered, said for those at its front
-  said : {R : Type 0} {answer : List Customer → R} {r : R} → Answers answer (head .places) array r → r ≡ answer (first s tour head array distances times H)
-  said told = told (first s tour head array distances times H) (gathered s tour head array distances times H)
-
-  module _ (run improved : List ℕ) (r : Reversed) (improved' : List ℕ) (R : Reverses (λ cs. twoOptOf value (reversalLent head cs distances times run (length improved))) (head .places) array improved r improved') where
-    same-reversed : twoOptOf value (reversalLent head (first s tour head array distances times H) distances times run (length improved)) ≡ twoOptOf some (lentWith s [] run [] [] (length improved ∷ []))
-    same-reversed = answered s tour head array distances times H reversing (λ x. twoOpt x run) [] run [] [] (length improved ∷ [])
-
-    pub reversed-on : RunLeft (twoOptOf some (lentWith s [] run [] [] (length improved ∷ []))) improved r improved'
-    reversed-on =
-        record {
-          answer = said (R .answer) ∙ ap reversedOf same-reversed;
-          calls-left = said (R .calls-left) ∙ ap (λ (a : Call.Answer Improved). written (front (λ x. x .calls) a) improved) same-reversed;
-        }
-
-  module _ (calls ends leftCalls leftEnds : List ℕ) (r : Elimination) (leftCalls' leftEnds' : List ℕ)
-      (E : Eliminates (λ cs. Checked.eliminateAnswer head cs distances times calls ends leftCalls leftEnds) (head .places) array leftCalls leftEnds r leftCalls' leftEnds') where
-    same-left : Checked.eliminateAnswer head (first s tour head array distances times H) distances times calls ends leftCalls leftEnds ≡ eliminateOf some (lentWith s [] calls ends [] (length leftCalls ∷ length leftEnds ∷ []))
-    same-left = answered s tour head array distances times H eliminating (λ x. eliminate x (runsOf calls ends)) [] calls ends [] (length leftCalls ∷ length leftEnds ∷ [])
-
-    pub eliminated-on : RunsLeft (eliminateOf some (lentWith s [] calls ends [] (length leftCalls ∷ length leftEnds ∷ []))) leftCalls leftEnds r leftCalls' leftEnds'
-    eliminated-on =
-        record {
-          answer = said (E .answer) ∙ ap eliminationOf same-left;
-          calls-left = said (E .calls-left) ∙ ap (λ (a : Call.Answer Eliminated). written (front (λ x. x .calls) a) leftCalls) same-left;
-          ends-left = said (E .ends-left) ∙ ap (λ (a : Call.Answer Eliminated). written (front (λ x. x .ends) a) leftEnds) same-left;
-        }
+use Rattle.exports.specs.Called.{callNumber, setBy, listBy}
+use Rattle.exports.specs.Improve.{reverseAnswer, eliminateAnswer, countsLeft}
+use Rattle.sheet_improve.specs.Improve.{reversedOn, eliminatedOn, RunLeft, RunsLeft}
+use Rattle.exports.proofs.Answering.{unread, was-read}
 
 -- ---- reversal
 
@@ -77,10 +37,6 @@ reverse-given-in (Call.refused m) x e = let z : _≡_ {A = ℕ} 0 1 = cc in absu
 reverse-given-in (Call.gives y) x e = (y, refl, cc)
 
 module _ (bytes run improved₀ : List ℕ) (word₀ : ℕ) (distance₀ : Float) where
-  -- what the call answers on a sheet
-  abbrev reversed : Sheet → Call.Answer Improved
-  reversed s = twoOptOf some (lentWith s [] run [] [] (length improved₀ ∷ []))
-
   -- what it ensures
   abbrev ReverseEnsures : (r word : ℕ) → List ℕ → Float → Type 0
   ReverseEnsures r word improved distance =
@@ -91,24 +47,24 @@ module _ (bytes run improved₀ : List ℕ) (word₀ : ℕ) (distance₀ : Float
 
   pub reverse-unread : (number word : ℕ) → Summary.refused number word ≡ summaryOf (read bytes) → ReverseEnsures number word improved₀ distance₀
   unfolding reverseAnswer
-  reverse-unread number word e = rw (unread bytes (λ s tour. reversed s) number word e) (refl, (refl, (refl, refl)))
+  reverse-unread number word e = rw (unread bytes (λ s tour. reversedOn s run improved₀) number word e) (refl, (refl, (refl, refl)))
 
-  module _ (s : Sheet) (tour : List ℕ) (e : read bytes ≡ sheet s tour) (r : Reversed) (improved : List ℕ) (L : RunLeft (reversed s) improved₀ r improved) where
-    reverse-read : reverseAnswer bytes run improved₀ ≡ gives (reversed s)
+  module _ (s : Sheet) (tour : List ℕ) (e : read bytes ≡ sheet s tour) (r : Reversed) (improved : List ℕ) (L : RunLeft (reversedOn s run improved₀) improved₀ r improved) where
+    reverse-read : reverseAnswer bytes run improved₀ ≡ gives (reversedOn s run improved₀)
     unfolding reverseAnswer
-    reverse-read = was-read bytes (λ s tour. reversed s) s tour e
+    reverse-read = was-read bytes (λ s tour. reversedOn s run improved₀) s tour e
 
-    calls-by : (a : Call.Answer Improved) → reversed s ≡ a → improved ≡ written (front (λ x. x .calls) a) improved₀
+    calls-by : (a : Call.Answer Improved) → reversedOn s run improved₀ ≡ a → improved ≡ written (front (λ x. x .calls) a) improved₀
     calls-by a h = L .calls-left ∙ ap (λ (b : Call.Answer Improved). written (front (λ x. x .calls) b) improved₀) h
 
     pub reverse-refused : (number : ℕ) → r ≡ Reverseds.Refused number → ReverseEnsures number word₀ improved distance₀
     reverse-refused number h =
-        let z = reverse-refused-in (reversed s) number (sym h ∙ L .answer) in
+        let z = reverse-refused-in (reversedOn s run improved₀) number (sym h ∙ L .answer) in
         rw (reverse-read, z) (refl, (refl, (calls-by (Call.refused number) z, refl)))
 
     pub reverse-given : (x : ImprovedRun) → r ≡ Reverseds.Improved x → ReverseEnsures 0 word₀ improved (x .distance)
     reverse-given x h =
-        let y = reverse-given-in (reversed s) x (sym h ∙ L .answer) in
+        let y = reverse-given-in (reversedOn s run improved₀) x (sym h ∙ L .answer) in
         rw (reverse-read, y .1) (refl, (refl, (calls-by (Call.gives (y .0)) (y .1), ap (λ (z : ImprovedRun). z .distance) (y .2))))
 
 -- ---- elimination
@@ -122,9 +78,6 @@ eliminate-given-in (Call.refused m) x e = let z : _≡_ {A = ℕ} 0 1 = cc in ab
 eliminate-given-in (Call.gives y) x e = (y, refl, cc)
 
 module _ (bytes calls ends leftCalls₀ leftEnds₀ : List ℕ) (word₀ : ℕ) (counts₀ : List ℕ) where
-  abbrev left : Sheet → Call.Answer Eliminated
-  left s = eliminateOf some (lentWith s [] calls ends [] (length leftCalls₀ ∷ length leftEnds₀ ∷ []))
-
   abbrev EliminateEnsures : (r word : ℕ) (leftCalls leftEnds counts : List ℕ) → Type 0
   EliminateEnsures r word leftCalls leftEnds counts =
       (r ≡ callNumber (eliminateAnswer bytes calls ends leftCalls₀ leftEnds₀))
@@ -135,26 +88,26 @@ module _ (bytes calls ends leftCalls₀ leftEnds₀ : List ℕ) (word₀ : ℕ) 
 
   pub eliminate-unread : (number word : ℕ) → Summary.refused number word ≡ summaryOf (read bytes) → EliminateEnsures number word leftCalls₀ leftEnds₀ counts₀
   unfolding eliminateAnswer
-  eliminate-unread number word e = rw (unread bytes (λ s tour. left s) number word e) (refl, (refl, (refl, (refl, refl))))
+  eliminate-unread number word e = rw (unread bytes (λ s tour. eliminatedOn s calls ends leftCalls₀ leftEnds₀) number word e) (refl, (refl, (refl, (refl, refl))))
 
-  module _ (s : Sheet) (tour : List ℕ) (e : read bytes ≡ sheet s tour) (r : Elimination) (leftCalls leftEnds : List ℕ) (L : RunsLeft (left s) leftCalls₀ leftEnds₀ r leftCalls leftEnds) where
-    eliminate-read : eliminateAnswer bytes calls ends leftCalls₀ leftEnds₀ ≡ gives (left s)
+  module _ (s : Sheet) (tour : List ℕ) (e : read bytes ≡ sheet s tour) (r : Elimination) (leftCalls leftEnds : List ℕ) (L : RunsLeft (eliminatedOn s calls ends leftCalls₀ leftEnds₀) leftCalls₀ leftEnds₀ r leftCalls leftEnds) where
+    eliminate-read : eliminateAnswer bytes calls ends leftCalls₀ leftEnds₀ ≡ gives (eliminatedOn s calls ends leftCalls₀ leftEnds₀)
     unfolding eliminateAnswer
-    eliminate-read = was-read bytes (λ s tour. left s) s tour e
+    eliminate-read = was-read bytes (λ s tour. eliminatedOn s calls ends leftCalls₀ leftEnds₀) s tour e
 
-    left-calls-by : (a : Call.Answer Eliminated) → left s ≡ a → leftCalls ≡ written (front (λ x. x .calls) a) leftCalls₀
+    left-calls-by : (a : Call.Answer Eliminated) → eliminatedOn s calls ends leftCalls₀ leftEnds₀ ≡ a → leftCalls ≡ written (front (λ x. x .calls) a) leftCalls₀
     left-calls-by a h = L .calls-left ∙ ap (λ (b : Call.Answer Eliminated). written (front (λ x. x .calls) b) leftCalls₀) h
 
-    left-ends-by : (a : Call.Answer Eliminated) → left s ≡ a → leftEnds ≡ written (front (λ x. x .ends) a) leftEnds₀
+    left-ends-by : (a : Call.Answer Eliminated) → eliminatedOn s calls ends leftCalls₀ leftEnds₀ ≡ a → leftEnds ≡ written (front (λ x. x .ends) a) leftEnds₀
     left-ends-by a h = L .ends-left ∙ ap (λ (b : Call.Answer Eliminated). written (front (λ x. x .ends) b) leftEnds₀) h
 
     pub eliminate-refused : (number : ℕ) → r ≡ Eliminations.Refused number → EliminateEnsures number word₀ leftCalls leftEnds counts₀
     eliminate-refused number h =
-        let z = eliminate-refused-in (left s) number (sym h ∙ L .answer) in
+        let z = eliminate-refused-in (eliminatedOn s calls ends leftCalls₀ leftEnds₀) number (sym h ∙ L .answer) in
         rw (eliminate-read, z) (refl, (refl, (left-calls-by (Call.refused number) z, (left-ends-by (Call.refused number) z, refl))))
 
     pub eliminate-given : (x : Left) → r ≡ Eliminations.Left x → EliminateEnsures 0 word₀ leftCalls leftEnds (x .calls ∷ x .runs ∷ [])
     eliminate-given x h =
-        let y = eliminate-given-in (left s) x (sym h ∙ L .answer) in
+        let y = eliminate-given-in (eliminatedOn s calls ends leftCalls₀ leftEnds₀) x (sym h ∙ L .answer) in
         rw (eliminate-read, y .1)
         (refl, (refl, (left-calls-by (Call.gives (y .0)) (y .1), (left-ends-by (Call.gives (y .0)) (y .1), ap (λ (z : Left). z .calls ∷ z .runs ∷ []) (y .2)))))

@@ -2,45 +2,30 @@
 use Prim.Native.Nat.{ℕ}
 use native.Mathlib.Omega.{arith}
 use mathlib.Core.Path.{_≡_, refl, sym, ap, subst, _∙_}
-use mathlib.Core.List.{List, [], map}
-use mathlib.Core.Option.{some}
+use mathlib.Core.List.{List, map}
 use lib.Ieee.{Float}
 use Rattle.whole.specs.Whole.{fl}
-use Rattle.whole.specs.Value.{value}
 use Rattle.definitions.specs.Sheet.{Sheet}
-use Rattle.definitions.specs.Lent.{marking}
-use Rattle.definitions.specs.RunList.{runsOf}
 use Rattle.definitions.specs.Marker as Whole
-use Rattle.definitions.specs.Marker.{withPlaces, verdictNumber, verdictValues}
+use Rattle.definitions.specs.Marker.{verdictNumber, verdictValues}
 use Rattle.definitions.specs.Reader.{sheet, read}
 use Rattle.definitions.specs.Answers as Call
-use Rattle.definitions.specs.Answers.{markOf}
 use Rattle.definitions.specs.Room.{written}
-use Rattle.models.specs.declared.customer.Customer.{Customer}
-use Rattle.models.specs.declared.head.Head.{Head}
 use Rattle.marker.specs.declared.verdict.Verdict.{Verdict}
 use Rattle.marker.specs.Image.{flVerdict}
 use Rattle.sheet.specs.Summary as Summary
 use Rattle.sheet.specs.Summary.{summaryOf}
 use Rattle.checked_cuts.specs.declared.marking.Marking.{Marking}
 use Rattle.checked_cuts.specs.declared.marking.Marking.the-variants as Markings
-use Rattle.checked.specs.Answers.{Answers}
-use Rattle.checked_cuts.specs.Marking.{markLent, markIn}
-use Rattle.plan_listing.specs.Held.{InMemory}
+use Rattle.checked_cuts.specs.Marking.{markIn}
 use Rattle.exports.specs.Answer.{gives, wordOf}
-use Rattle.exports.specs.Called.{lentWith, callNumber, setBy, listBy}
-use Rattle.exports.specs.Mark.{markAnswer, numberIn, valuesIn, Small}
-use Rattle.exports.proofs.OnSheet.{first, gathered, answered, unread, was-read}
-use Rattle.exports.proofs.Verdicts.{same-number, same-values}
-use Rattle.exports.proofs.Small.{given-fits}
-
--- on the sheet in memory, whose tour is the one read
-pub marked-on : (s : Sheet) (tour : List ℕ) (head : Head) (array : List Customer) (distances times : List Float) → InMemory s tour head array distances times → (calls ends places visited : List ℕ) → tour ≡ visited
-    → (r : Marking) → Answers (λ cs. markIn (markOf value (markLent head cs distances times tour calls ends places))) (head .places) array r → r ≡ markIn (markOf some (lentWith s visited calls ends places []))
-marked-on s tour head array distances times H calls ends places visited e r told =
-    told (first s tour head array distances times H) (gathered s tour head array distances times H)
-    ∙ ap markIn (answered s tour head array distances times H marking (λ x. Whole.mark x tour (withPlaces (runsOf calls ends) places)) tour calls ends places [])
-    ∙ ap (λ (t : List ℕ). markIn (markOf some (lentWith s t calls ends places []))) e
+use Rattle.exports.specs.Called.{callNumber, setBy, listBy}
+use Rattle.exports.specs.Mark.{markAnswer}
+use Rattle.exports.proofs.Answering.{unread, was-read}
+use Rattle.sheet_mark.specs.Mark.{markedOn}
+use Rattle.sheet_mark.specs.Values.{numberIn, valuesIn, Small}
+use Rattle.sheet_mark.proofs.Verdicts.{same-number, same-values}
+use Rattle.sheet_mark.proofs.Small.{marked-fits}
 
 -- ---- the cases of the code's answer
 
@@ -64,22 +49,22 @@ module _ (bytes calls ends places : List ℕ) (word₀ verdict₀ : ℕ) (values
 
   pub mark-unread : (number word : ℕ) → Summary.refused number word ≡ summaryOf (read bytes) → Ensures number word verdict₀ values₀
   unfolding markAnswer
-  mark-unread number word e = rw (unread bytes (λ s tour. markOf some (lentWith s tour calls ends places [])) number word e) (refl, (refl, (refl, refl)))
+  mark-unread number word e = rw (unread bytes (λ s tour. markedOn s tour calls ends places) number word e) (refl, (refl, (refl, refl)))
 
-  module _ (s : Sheet) (tour : List ℕ) (e : read bytes ≡ sheet s tour) (r : Marking) (told : r ≡ markIn (markOf some (lentWith s tour calls ends places []))) where
-    mark-read : markAnswer bytes calls ends places ≡ gives (markOf some (lentWith s tour calls ends places []))
+  module _ (s : Sheet) (tour : List ℕ) (e : read bytes ≡ sheet s tour) (r : Marking) (told : r ≡ markIn (markedOn s tour calls ends places)) where
+    mark-read : markAnswer bytes calls ends places ≡ gives (markedOn s tour calls ends places)
     unfolding markAnswer
-    mark-read = was-read bytes (λ s tour. markOf some (lentWith s tour calls ends places [])) s tour e
+    mark-read = was-read bytes (λ s tour. markedOn s tour calls ends places) s tour e
 
     pub mark-refused : (number : ℕ) → r ≡ Markings.Refused number → Ensures number word₀ verdict₀ values₀
-    mark-refused number h = rw (mark-read, refused-in (markOf some (lentWith s tour calls ends places [])) number (sym h ∙ told)) (refl, (refl, (refl, refl)))
+    mark-refused number h = rw (mark-read, refused-in (markedOn s tour calls ends places) number (sym h ∙ told)) (refl, (refl, (refl, refl)))
 
     module _ (v : Verdict) (h : r ≡ Markings.Verdict v) where
-      found : (w : Whole.Verdict) × (markOf some (lentWith s tour calls ends places []) ≡ Call.gives w) × (v ≡ flVerdict w)
-      found = given-in (markOf some (lentWith s tour calls ends places [])) v (sym h ∙ told)
+      found : (w : Whole.Verdict) × (markedOn s tour calls ends places ≡ Call.gives w) × (v ≡ flVerdict w)
+      found = given-in (markedOn s tour calls ends places) v (sym h ∙ told)
 
       pub mark-small : Small v
-      mark-small = subst Small (sym (found .2)) (given-fits (lentWith s tour calls ends places []) (found .0) (found .1))
+      mark-small = subst Small (sym (found .2)) (marked-fits s tour calls ends places (found .0) (found .1))
 
       pub mark-given : (number : ℕ) (values : List Float) → number ≡ numberIn v → values ≡ written (valuesIn v) values₀ → Ensures 0 word₀ number values
       mark-given number values n l =

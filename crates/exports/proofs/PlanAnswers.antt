@@ -10,7 +10,9 @@ use Rattle.basics.specs.Tests.{Falses, falses}
 use Rattle.whole.specs.Whole.{fl}
 use Rattle.definitions.specs.Room.{short, written}
 use Rattle.exports.specs.Answer.{Answer, refused, gives, numberOf, wordOf, front, setTo}
-use Rattle.exports.specs.Plan.{Plan, countsOf, totalsOf, planNeeds, Left}
+use Rattle.ga.specs.declared.split.SplitResult.{SplitResult}
+use Rattle.sheet_plan.specs.Plan.{Plan, countsOf, totalsOf, Left}
+use Rattle.exports.specs.Plan.{planNeeds}
 
 -- lists that are not too short have the room
 pub roomy : (a b c d e : ℕ) (t : Bool) → t ≡ short planNeeds (a ∷ b ∷ c ∷ d ∷ e ∷ []) → t ≡ false → (128 ≤ a) × (128 ≤ b) × (128 ≤ c) × (128 ≤ d) × (128 ≤ e)
@@ -38,8 +40,10 @@ module _ (x : Answer Plan) (word₀ : ℕ) (served₀ ends₀ places₀ : List �
 
   -- the plan: all but the word is written
   pub given-ensures : (p : Plan) → x ≡ gives p
-      → {served ends places : List ℕ} {starts : List Float} {dropped counts : List ℕ} {totals : List Float}
-      → Left p served₀ ends₀ places₀ starts₀ dropped₀ served ends places starts dropped counts totals
-      → Ensures 0 word₀ served ends places starts dropped counts totals
-  given-ensures p e L =
-      rw e (refl, (refl, (L .served-left, (L .ends-left, (L .places-left, (L .starts-left, (L .dropped-left, (L .counts-left, L .totals-left))))))))
+      → {r : SplitResult} {served ends places : List ℕ} {starts : List Float} {dropped : List ℕ}
+      → Left p r served₀ ends₀ places₀ starts₀ dropped₀ served ends places starts dropped
+      → Ensures 0 word₀ served ends places starts dropped (r .served ∷ r .runs ∷ r .dropped ∷ []) (r .cost ∷ r .distance ∷ [])
+  given-ensures p e {r} L =
+      let counted : _≡_ {A = List ℕ} (r .served ∷ r .runs ∷ r .dropped ∷ []) (countsOf p) = rw (L .cut .served-count, L .cut .runs-count, L .cut .dropped-count) refl in
+      let totalled : _≡_ {A = List Float} (r .cost ∷ r .distance ∷ []) (totalsOf p) = rw (L .cut .cost-is, L .cut .distance-is) refl in
+      rw e (refl, (refl, (L .cut .served-left, (L .cut .ends-left, (L .places-left, (L .starts-left, (L .cut .dropped-left, (counted, totalled))))))))

@@ -1,18 +1,12 @@
 -- What a call on the sheet that bytes are answers, and what it leaves: refused as the reader refuses the bytes, refused by the call, or its result. Definitions only.
 use Prim.Native.Nat.{ℕ}
 use mathlib.Core.List.{List}
-use Rattle.definitions.specs.Sheet.{Sheet}
-use Rattle.definitions.specs.Lent.{Lent}
 use Rattle.definitions.specs.Answers as Call
 use Rattle.exports.specs.Answer.{Answer, refused, gives, front}
 
 -- the reader's refusal, or what the call answers on the sheet that was read
 abbrev pub Called : Type 0 → Type 0
 Called A = Answer (Call.Answer A)
-
--- what the call is lent with that sheet; what it does not take is empty
-abbrev pub lentWith : Sheet → (tour calls ends breaks rooms : List ℕ) → Lent ℕ
-lentWith s tour calls ends breaks rooms = record { sheet = s; tour = tour; calls = calls; ends = ends; breaks = breaks; rooms = rooms }
 
 -- what is returned: 0, or the number of either refusal
 abbrev pub callNumber : {A : Type 0} → Called A → ℕ

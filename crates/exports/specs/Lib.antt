@@ -1,6 +1,5 @@
 -- What the contracts of the exported calls cite.
 pub mod Answer
-pub mod Breaks
 pub mod Plan
 -- Calls on the sheet that bytes are.
 pub mod Called

@@ -1,37 +1,10 @@
 -- The complete answer of the plan call, over the bytes and the lengths of the lent lists, in whole numbers. Definitions only.
 use Prim.Native.Nat.{ℕ}
-use mathlib.Core.Path.{_≡_}
-use mathlib.Core.List.{List, [], _∷_, map}
+use mathlib.Core.List.{List, [], _∷_}
 use lib.Ieee.{Float}
 use lib.ListN.{length}
-use Rattle.basics.specs.Options.{valueOr}
-use Rattle.whole.specs.Whole.{fl}
-use Rattle.definitions.specs.Sheet.{Sheet}
-use Rattle.definitions.specs.Clock.{startOf}
-use Rattle.definitions.specs.Drop.{Result, splitTw}
-use Rattle.definitions.specs.Marker.{withPlaces}
-use Rattle.definitions.specs.Room.{written}
-use Rattle.definitions.specs.RunList.{runsOf}
+use Rattle.sheet_plan.specs.Plan.{Plan, plan}
 use Rattle.exports.specs.Answer.{Answer, answer}
-
--- the cutting of `split_tw`, and when the break of each run starts, 0 where it has none
-pub record Plan : Type 0 where
-  pub cut : Result
-  pub starts : List ℕ
-
-abbrev pub startsOf : Sheet → Result → List ℕ
-startsOf s x = map (λ r. valueOr 0 (startOf s r)) (withPlaces (runsOf (x .served) (x .ends)) (x .places))
-
-unfoldable pub plan : Sheet → List ℕ → Plan
-plan s tour = let x = splitTw s tour in record { cut = x; starts = startsOf s x }
-
--- how many calls are served, runs made and calls dropped
-abbrev pub countsOf : Plan → List ℕ
-countsOf p = length (p .cut .served) ∷ length (p .cut .ends) ∷ length (p .cut .dropped) ∷ []
-
--- cost and distance
-abbrev pub totalsOf : Plan → List Float
-totalsOf p = fl (p .cut .cost) ∷ fl (p .cut .distance) ∷ []
 
 -- each list has room for the longest tour: served customers, run ends, break places, break starts, dropped positions
 abbrev pub planNeeds : List ℕ
@@ -40,13 +13,3 @@ planNeeds = 128 ∷ 128 ∷ 128 ∷ 128 ∷ 128 ∷ []
 module _ (bytes served ends places : List ℕ) (starts : List Float) (dropped : List ℕ) where
   abbrev pub planAnswer : Answer Plan
   planAnswer = answer planNeeds (length served ∷ length ends ∷ length places ∷ length starts ∷ length dropped ∷ []) plan bytes
-
--- what a plan leaves in what it is lent
-pub record Left (p : Plan) (served₀ ends₀ places₀ : List ℕ) (starts₀ : List Float) (dropped₀ served ends places : List ℕ) (starts : List Float) (dropped counts : List ℕ) (totals : List Float) : Type 0 where
-  pub served-left : served ≡ written (p .cut .served) served₀
-  pub ends-left : ends ≡ written (p .cut .ends) ends₀
-  pub places-left : places ≡ written (p .cut .places) places₀
-  pub starts-left : starts ≡ written (map fl (p .starts)) starts₀
-  pub dropped-left : dropped ≡ written (p .cut .dropped) dropped₀
-  pub counts-left : counts ≡ countsOf p
-  pub totals-left : totals ≡ totalsOf p

@@ -1,50 +1,16 @@
-// The improvers on the sheet that bytes are: its bytes are read, and the runs given are improved.
+// The improvers' calls.
 ghost use mathlib.Core.Path.{_≡_};
-ghost use mathlib.Core.List.{List, [], _∷_};
-ghost use mathlib.Core.Option.{some};
-ghost use Prim.Native.Nat.{ℕ};
-ghost use lib.ListN.{length};
 ghost use Rattle.whole.specs.Whole.{fl};
-ghost use Rattle.definitions.specs.Sheet.{Sheet};
-ghost use Rattle.definitions.specs.Reader as Reader;
-ghost use Rattle.definitions.specs.Answers.{twoOptOf, eliminateOf};
 ghost use Rattle.definitions.specs.Room.{written};
-ghost use Rattle.plan_listing.specs.Held.{Accepted};
 ghost use Rattle.exports.specs.Answer.{wordOf};
-ghost use Rattle.exports.specs.Called.{lentWith, callNumber, setBy, listBy};
-ghost use Rattle.exports.specs.Improve.{reverseAnswer, eliminateAnswer, countsLeft, RunLeft, RunsLeft};
+ghost use Rattle.exports.specs.Called.{callNumber, setBy, listBy};
+ghost use Rattle.exports.specs.Improve.{reverseAnswer, eliminateAnswer, countsLeft};
 use checked_improvers::eliminating::Elimination;
-use checked_improvers::eliminating::eliminate_routes;
 use checked_improvers::improving::Reversed;
-use checked_improvers::improving::two_opt_improve;
-use plan_listing::held::load;
 use sheet::read::Reading;
 use sheet::read::read;
-
-// The reversal on an accepted sheet.
-fn reverse_sheet(bytes: &[u8], run: &[usize], improved: &mut [usize]) -> Reversed
-    requires { ⌜ Accepted (now bytes) ⌝ }
-    ensures { λ r. ⌜ ((s : Sheet) (tour : List ℕ) → Reader.read (now (bytes .entry)) ≡ Reader.sheet s tour → RunLeft (twoOptOf some (lentWith s [] (now (run .entry)) [] [] (length (now (improved .entry)) ∷ []))) (now (improved .entry)) r (now (improved .exit))) ⌝ }
-{
-    let mut distances = [0.0; 4096];
-    let mut times = [0.0; 4096];
-    let mut tour = [0usize; 128];
-    let l = load(bytes, &mut distances, &mut times, &mut tour);
-    let far = l.far;
-    let long = l.long;
-    let head = l.head;
-    let size = head.places;
-    let customers = l.customers;
-    two_opt_improve(
-        head,
-        customers,
-        size,
-        &distances[..far],
-        &times[..long],
-        run,
-        &mut *improved,
-    )
-}
+use sheet_improve::improve::eliminate_sheet;
+use sheet_improve::improve::reverse_sheet;
 
 // The run given with stretches of its calls reversed, on the sheet that the bytes are: its calls at the front of the lent list, and its distance. The answer is
 // 0, or the number of a refusal: the reader's, whose word is written, or the call's, which leaves everything as it was.
@@ -74,39 +40,6 @@ pub extern "C" fn lizsomdur_reverse(
             }
         },
     }
-}
-
-// The elimination on an accepted sheet.
-fn eliminate_sheet(
-    bytes: &[u8],
-    calls: &[usize],
-    ends: &[usize],
-    left_calls: &mut [usize],
-    left_ends: &mut [usize],
-) -> Elimination
-    requires { ⌜ Accepted (now bytes) ⌝ }
-    ensures { λ r. ⌜ ((s : Sheet) (tour : List ℕ) → Reader.read (now (bytes .entry)) ≡ Reader.sheet s tour → RunsLeft (eliminateOf some (lentWith s [] (now (calls .entry)) (now (ends .entry)) [] (length (now («left_calls» .entry)) ∷ length (now («left_ends» .entry)) ∷ []))) (now («left_calls» .entry)) (now («left_ends» .entry)) r (now («left_calls» .exit)) (now («left_ends» .exit))) ⌝ }
-{
-    let mut distances = [0.0; 4096];
-    let mut times = [0.0; 4096];
-    let mut tour = [0usize; 128];
-    let l = load(bytes, &mut distances, &mut times, &mut tour);
-    let far = l.far;
-    let long = l.long;
-    let head = l.head;
-    let size = head.places;
-    let customers = l.customers;
-    eliminate_routes(
-        head,
-        customers,
-        size,
-        &distances[..far],
-        &times[..long],
-        calls,
-        ends,
-        &mut *left_calls,
-        &mut *left_ends,
-    )
 }
 
 // The runs given with each that can be emptied into the others emptied, on the sheet that the bytes are: the calls and run ends that are left at the front of the

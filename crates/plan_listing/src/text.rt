@@ -6,8 +6,8 @@ ghost use Rattle.definitions.specs.Drop.{splitTw};
 ghost use Rattle.definitions.specs.Listing.{planText, listing};
 ghost use Rattle.report.specs.Put.{Put};
 ghost use Rattle.plan_listing.specs.Held.{InMemory, Held, Accepted};
+use crate::cut::cut_held;
 use crate::held::load;
-use ga::split_tw::split_tw;
 use models::customer::Customer;
 use models::head::Head;
 use report::lines::refusal_line;
@@ -34,15 +34,12 @@ fn cut_text(
     let mut dropped = [0usize; 128];
     let limits = head.limits;
     let rest = limits.rest;
-    let cut = split_tw(
+    let cut = cut_held(
         tour,
+        head,
         customers,
         distances,
         times,
-        head.places,
-        head.capacity,
-        head.fixed_cost,
-        limits,
         &mut served,
         &mut ends,
         &mut dropped,
@@ -78,18 +75,14 @@ fn sheet_text(out: &mut [u8], bytes: &[u8]) -> usize
     let mut times = [0.0; 4096];
     let mut tour = [0usize; 128];
     let l = load(bytes, &mut distances, &mut times, &mut tour);
-    let far = l.far;
-    let long = l.long;
-    let calls = l.calls;
-    let head = l.head;
     let customers = l.customers;
     cut_text(
         &mut *out,
-        &tour[..calls],
-        head,
+        &tour[..l.calls],
+        l.head,
         customers,
-        &distances[..far],
-        &times[..long],
+        &distances[..l.far],
+        &times[..l.long],
     )
 }
 

@@ -1,7 +1,7 @@
 -- On a sheet within the limits, held in floats, the text of the planner's result is the listing's text of it. Assumes nothing.
 use Prim.Native.Nat.{ℕ, zero, suc, _≤_}
 use native.Mathlib.Omega.{arith}
-use mathlib.Core.Path.{_≡_, refl, sym, ap, ap₂, subst, _∙_}
+use mathlib.Core.Path.{_≡_, refl, sym, ap, ap₂}
 use mathlib.Core.Bool.{true}
 use mathlib.Core.List.{List, [], _∷_, _++_, map}
 use mathlib.Core.Option.{Option, none, some, Option·map}
@@ -14,21 +14,18 @@ use Rattle.basics.specs.Lists.{All}
 use Rattle.definitions.specs.Domain.{mostCalls}
 use Rattle.definitions.specs.Sheet.{Sheet}
 use Rattle.definitions.specs.Run.{Run}
-use Rattle.definitions.specs.RunList.{runsOf}
 use Rattle.definitions.specs.Clock.{clock, startOf, arc}
 use Rattle.definitions.specs.Cutting.{callsIn, joined}
 use Rattle.definitions.specs.Drop.{Result, splitTw}
-use Rattle.definitions.specs.Marker.{withPlaces}
 use Rattle.definitions.specs.Promise.{byClock, Promise}
 use Rattle.definitions.specs.Refusals.{Within, WithinCalls}
 use Rattle.definitions.specs.Listing.{text, customersText, restText, endOfLine, runLine, runLines, dropLines, totalLine, planText}
-use Rattle.definitions.proofs.RunListLaws.{runs-back}
 use Rattle.definitions.proofs.Promised.{promised}
 use Rattle.whole.specs.Whole.{fl, limit}
 use Rattle.whole.specs.Bits.{fl-back, minus-one-lt, lt-top}
-use Rattle.bounds.specs.Inside.{Sized, sized, Place, few-calls, calls-inside, held-inside}
+use Rattle.bounds.specs.Inside.{Sized, sized, Place, few-calls, calls-inside}
 use Rattle.bounds.specs.Bounds.{start-most}
-use Rattle.bounds.specs.CostBounds.{arc-priced, held-few, plan-fits}
+use Rattle.bounds.specs.CostBounds.{arc-priced, plan-fits}
 use Rattle.models.specs.Image.{flBreak}
 use Rattle.evaluation.specs.Records.{Tables}
 use Rattle.evaluation.specs.Image.{Image}
@@ -38,20 +35,12 @@ use Rattle.report.specs.Lines.{startIf}
 use Rattle.report.specs.Number.{wholePart}
 use Rattle.report.specs.Shown.{noBreak, shownF}
 use Rattle.report.specs.Plan.{shownText, runsText, planF}
+use Rattle.report.proofs.PlanRuns.{all-both, runs-are, placed-are, served-few, served-inside}
 
 -- a whole number is its own whole part
 whole-part-fl : (n : ℕ) → n ≤ limit → wholePart (fl n) ≡ n
 unfolding wholePart
 whole-part-fl n h = rw (minus-one-lt n h, lt-top n h) (fl-back n h)
-
-all-both : {A : Type 0} (P : A → Type 0) (l m : List A) → All P (l ++ m) → All P l × All P m
-all-both P [] m a = (tt, a)
-all-both P (x ∷ l) m a = let b = all-both P l m (a .1) in ((a .0, b .0), b .1)
-
--- runs to calls and places, and back
-places-back : (runs : List Run) → withPlaces (callsIn runs) (map (λ r. r .place) runs) ≡ runs
-places-back [] = refl
-places-back (r ∷ rs) = ap (λ (l : List Run). r ∷ l) (places-back rs)
 
 module _ (s : Sheet) (S : Sized s) (t : Tables) (I : Image s t) where
   -- what each run shows
@@ -90,22 +79,8 @@ module _ (s : Sheet) (S : Sized s) (t : Tables) (I : Image s t) where
     abbrev plan : Result
     plan = splitTw s tour
 
-    P : Promise s tour plan
+    abbrev P : Promise s tour plan
     P = promised s tour
-
-    -- the runs of the planner's calls and ends, and with its places
-    runs-are : runsOf (plan .served) (plan .ends) ≡ callsIn (P .runs)
-    runs-are = rw (← P .cuts, ← P .ends-are) (runs-back 0 (callsIn (P .runs)))
-
-    placed-are : withPlaces (runsOf (plan .served) (plan .ends)) (plan .places) ≡ P .runs
-    placed-are = rw (runs-are, ← P .places-are) (places-back (P .runs))
-
-    served-few : length (joined (P .runs)) ≤ mostCalls
-    unfolding splitTw
-    served-few = subst (λ (l : List ℕ). length l ≤ mostCalls) (sym (P .cuts)) (held-few (arc s) (arc-priced s S) tour few)
-
-    served-inside : All (Place s) (joined (P .runs))
-    served-inside = subst (All (Place s)) (P .served-are ∙ sym (P .cuts)) (held-inside s S tour (P .held) i)
 
     fits : (plan .cost ≤ limit) × (plan .distance ≤ limit)
     unfolding splitTw
@@ -114,8 +89,8 @@ module _ (s : Sheet) (S : Sized s) (t : Tables) (I : Image s t) where
     plan-exact : planF t (Option·map flBreak (s .rest)) tour (plan .served) (plan .ends) (plan .dropped) (fl (plan .distance)) (fl (plan .cost)) ≡ planText s tour plan
     unfolding planF planText
     plan-exact =
-        rw (runs-are, shown-lines (P .runs) served-few served-inside (P .clocked), whole-part-fl (plan .distance) (fits .1), whole-part-fl (plan .cost) (fits .0), ← runs-are)
-        (ap (λ (rs : List Run). runLines s rs ++ dropLines tour (plan .dropped) ++ totalLine plan) (sym placed-are))
+        rw (runs-are s tour, shown-lines (P .runs) (served-few s tour S few) (served-inside s tour S i) (P .clocked), whole-part-fl (plan .distance) (fits .1), whole-part-fl (plan .cost) (fits .0), ← runs-are s tour)
+        (ap (λ (rs : List Run). runLines s rs ++ dropLines tour (plan .dropped) ++ totalLine plan) (sym (placed-are s tour)))
 
 -- by the limits of the Domain
 pub plan-whole : (s : Sheet) → Within s → (t : Tables) → Image s t → (tour : List ℕ) → WithinCalls s tour

@@ -57,11 +57,11 @@ module _ (s : Sheet) (tour : List ℕ) where
       (subst (λ (n : ℕ). RiseTo 0 (runEnds (P .runs)) n) (omega (arith, ap length (P .cuts))) (ends-rise 0 (callsIn (P .runs))))
 
   -- each call is served or dropped, and there are no more runs than served calls
-  served-and-dropped : length (splitTw s tour .served) + length (splitTw s tour .dropped) ≡ length tour
+  pub served-and-dropped : length (splitTw s tour .served) + length (splitTw s tour .dropped) ≡ length tour
   served-and-dropped =
       omega (arith, ap length (P .served-are), length-map (P .held) (callAt tour), parts-many (P .parted), length-count 1 (length tour))
 
-  few-ends : length (splitTw s tour .ends) ≤ length (splitTw s tour .served)
+  pub few-ends : length (splitTw s tour .ends) ≤ length (splitTw s tour .served)
   few-ends =
       omega (arith, ap length (P .ends-are), ends-many 0 (callsIn (P .runs)), length-map (P .runs) (λ r. r .calls), few-runs s (P .runs) (P .all-legal), ap length (P .cuts))
 

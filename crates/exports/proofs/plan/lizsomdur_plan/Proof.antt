@@ -6,7 +6,8 @@ use denote.Ref.{now}
 use Rattle.sheet.specs.declared.read.Reading.the-variants.{Sheet, Refused}
 use Rattle.sheet.specs.Summary.{heldCounts, heldSummary}
 use Rattle.plan_listing.proofs.Reading.{is-accepted, refused-is}
-use Rattle.exports.specs.Plan.{planNeeds, plan, planAnswer}
+use Rattle.sheet_plan.specs.Plan.{plan}
+use Rattle.exports.specs.Plan.{planNeeds, planAnswer}
 use Rattle.exports.proofs.Answering.{short-refused, read-refused, read-given}
 use Rattle.exports.proofs.PlanAnswers.{roomy, refused-ensures, given-ensures}
 use borrow.Author.Needs.{needs}
@@ -34,12 +35,12 @@ enum-told c = search needs
 
 plan-sheet-requires : tie.Need-plan-sheet-requires
 plan-sheet-requires c κs =
-    let r = c .before .before .before .before .before .before .before .before .before in
+    let r = c .before .before .before .before .before .before .before in
     let a = r .before .before .before .before .before .before .before .before .before .args in
-    let e : r .read .result ≡ Sheet (c .before .before .before .before .before .before .before .enum-told .given .0 .0) = search needs in
+    let e : r .read .result ≡ Sheet (c .before .before .before .before .before .enum-told .given .0 .0) = search needs in
     let t = r .before .before .too-short in
     let h = r .before .if1 .left in
-    (is-accepted (now (a .sheet)) (heldCounts (c .before .before .before .before .before .before .before .enum-told .given .0 .0)) (sym (ap heldSummary e) ∙ r .read .ensures), roomy _ _ _ _ _ (t .result) (t .ensures) h)
+    (is-accepted (now (a .sheet)) (heldCounts (c .before .before .before .before .before .enum-told .given .0 .0)) (sym (ap heldSummary e) ∙ r .read .ensures), roomy _ _ _ _ _ (t .result) (t .ensures) h)
 
 returns-2 : tie.Need-returns-2
 returns-2 c =
@@ -76,7 +77,7 @@ returns-3 c =
     let t = r .before .before .too-short in
     let h = r .before .if1 .left in
     let q = is-accepted (now (a .sheet)) (heldCounts x) (sym (ap heldSummary (k .1)) ∙ r .read .ensures) in
-    given-ensures (planAnswer (now (a .sheet)) (now (a .served)) (now (a .run-ends)) (now (a .break-places)) (now (a .break-starts)) (now (a .dropped))) (now (a .word)) (now (a .served)) (now (a .run-ends)) (now (a .break-places)) (now (a .break-starts)) (now (a .dropped)) (now (a .counts)) (now (a .totals)) (plan (q .0) (q .1)) (read-given planNeeds (length (now (a .served)) ∷ length (now (a .run-ends)) ∷ length (now (a .break-places)) ∷ length (now (a .break-starts)) ∷ length (now (a .dropped)) ∷ []) plan (now (a .sheet)) (t .result) (t .ensures) h (q .0) (q .1) (q .2)) (c .before .before .before .before .before .before .before .before .before .before .plan-sheet .ensures (q .0) (q .1) (q .2))
+    given-ensures (planAnswer (now (a .sheet)) (now (a .served)) (now (a .run-ends)) (now (a .break-places)) (now (a .break-starts)) (now (a .dropped))) (now (a .word)) (now (a .served)) (now (a .run-ends)) (now (a .break-places)) (now (a .break-starts)) (now (a .dropped)) (now (a .counts)) (now (a .totals)) (plan (q .0) (q .1)) (read-given planNeeds (length (now (a .served)) ∷ length (now (a .run-ends)) ∷ length (now (a .break-places)) ∷ length (now (a .break-starts)) ∷ length (now (a .dropped)) ∷ []) plan (now (a .sheet)) (t .result) (t .ensures) h (q .0) (q .1) (q .2)) (c .before .before .before .before .before .before .before .before .before .before .before .before .plan-sheet .ensures (q .0) (q .1) (q .2))
 
 pub lizsomdur-plan-spec : {M : Type 1} → statement M
 lizsomdur-plan-spec =

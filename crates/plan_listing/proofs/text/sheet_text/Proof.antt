@@ -17,49 +17,49 @@ load-requires c κs = search needs
 
 array-share-prefix-tour : tie.Need-array-share-prefix-tour
 array-share-prefix-tour c =
-    let x = c .before .before .before in
+    let x = c .before .before in
     let q = x .before .before .before .before .before .before .pre .1 in
     let H = x .load .ensures (q .0) (q .1) (q .2) in
     calls-inside H
 
 slice-aggregate-cut-text : tie.Need-slice-aggregate-cut-text
 slice-aggregate-cut-text c =
-    let x = c .before .before .before .before in
+    let x = c .before .before .before in
     let q = x .before .before .before .before .before .before .pre .1 in
     let H = x .load .ensures (q .0) (q .1) (q .2) in
     calls-counted H
 
 array-share-prefix-distances : tie.Need-array-share-prefix-distances
 array-share-prefix-distances c =
-    let x = c .before .before .before .before in
+    let x = c .before .before .before in
     let q = x .before .before .before .before .before .before .pre .1 in
     let H = x .load .ensures (q .0) (q .1) (q .2) in
     far-inside H
 
 slice-aggregate-cut-text-2 : tie.Need-slice-aggregate-cut-text-2
 slice-aggregate-cut-text-2 c =
-    let x = c .before .before .before .before .before in
+    let x = c .before .before .before .before in
     let q = x .before .before .before .before .before .before .pre .1 in
     let H = x .load .ensures (q .0) (q .1) (q .2) in
     far-counted H
 
 array-share-prefix-times : tie.Need-array-share-prefix-times
 array-share-prefix-times c =
-    let x = c .before .before .before .before .before in
+    let x = c .before .before .before .before in
     let q = x .before .before .before .before .before .before .pre .1 in
     let H = x .load .ensures (q .0) (q .1) (q .2) in
     long-inside H
 
 slice-aggregate-cut-text-3 : tie.Need-slice-aggregate-cut-text-3
 slice-aggregate-cut-text-3 c =
-    let x = c .before .before .before .before .before .before in
+    let x = c .before .before .before .before .before in
     let q = x .before .before .before .before .before .before .pre .1 in
     let H = x .load .ensures (q .0) (q .1) (q .2) in
     long-counted H
 
 cut-text-requires : tie.Need-cut-text-requires
 cut-text-requires c κs =
-    let x = c .before .before .before .before .before .before in
+    let x = c .before .before .before .before .before in
     let q = x .before .before .before .before .before .before .pre .1 in
     let H = x .load .ensures (q .0) (q .1) (q .2) in
     (x .before .before .before .before .before .before .pre .0, held H)
@@ -69,7 +69,7 @@ same-length c = search needs
 
 returns : tie.Need-returns
 returns c =
-    let x = c .before .before .before .before .before .before .before .before .before in
+    let x = c .before .before .before .before .before .before .before .before in
     let q = x .before .before .before .before .before .before .pre .1 in
     let H = x .load .ensures (q .0) (q .1) (q .2) in
     let start = x .before .before .before .before .before .before in

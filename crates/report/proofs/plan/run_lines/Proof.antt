@@ -12,7 +12,8 @@ use Rattle.models.specs.Records.{restOf}
 use Rattle.evaluation.specs.Records.{lent}
 use Rattle.report.specs.declared.shown.Shown.{Shown}
 use Rattle.report.specs.Shown.{shownF}
-use Rattle.report.proofs.RunTurns.{RunsTo, set-out, kept, begins, rises, inside, room, turn, ended, short-end}
+use Rattle.report.proofs.RunWalk.{begins, rises, inside}
+use Rattle.report.proofs.RunTurns.{RunsTo, set-out, kept, room, turn, ended, short-end}
 use Rattle.report.proofs.plan.run_lines.Statement.{statement}
 use Rattle.report.proofs.plan.run_lines.Tie as tie
 
@@ -40,28 +41,16 @@ shared-slice-read-to : tie.Need-shared-slice-read-to Inv-loop μ-loop
 shared-slice-read-to c = omega arith
 
 mul-run : tie.Need-mul-run Inv-loop μ-loop
-mul-run c =
-    let l = c .before .before in
-    let a = l .before .before .before .before .before .before .args in
-    omega (arith, begins (by (a .customers) (now (a .distances)) (now (a .times)) (a .size) (a .rest)) (now (a .calls)) (now (a .ends)) (l .loop .inv))
+mul-run c = omega (arith, begins (c .before .before .loop .inv .at-run))
 
 sub-run : tie.Need-sub-run Inv-loop μ-loop
-sub-run c =
-    let l = c .before .before in
-    let a = l .before .before .before .before .before .before .args in
-    rises (by (a .customers) (now (a .distances)) (now (a .times)) (a .size) (a .rest)) (now (a .calls)) (now (a .ends)) (l .loop .inv) (c .before .loop-test .taken)
+sub-run c = rises (c .before .before .loop .inv .at-run) (c .before .loop-test .taken)
 
 part-run-start : tie.Need-part-run-start Inv-loop μ-loop
-part-run-start c =
-    let l = c .before .before in
-    let a = l .before .before .before .before .before .before .args in
-    rises (by (a .customers) (now (a .distances)) (now (a .times)) (a .size) (a .rest)) (now (a .calls)) (now (a .ends)) (l .loop .inv) (c .before .loop-test .taken)
+part-run-start c = rises (c .before .before .loop .inv .at-run) (c .before .loop-test .taken)
 
 part-run-end : tie.Need-part-run-end Inv-loop μ-loop
-part-run-end c =
-    let l = c .before .before in
-    let a = l .before .before .before .before .before .before .args in
-    inside (by (a .customers) (now (a .distances)) (now (a .times)) (a .size) (a .rest)) (now (a .calls)) (now (a .ends)) (l .loop .inv) (c .before .loop-test .taken)
+part-run-end c = inside (c .before .before .loop .inv .at-run) (c .before .loop-test .taken)
 
 break-shown-requires : tie.Need-break-shown-requires Inv-loop μ-loop
 break-shown-requires c κs = search needs

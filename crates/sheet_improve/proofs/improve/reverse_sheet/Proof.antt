@@ -1,0 +1,65 @@
+-- `improve::reverse_sheet` meets its contract. Assumes nothing.
+use lib.ListN.{take}
+use denote.Ref.{now}
+use Rattle.plan_listing.proofs.Loading.{far-inside, far-counted, long-inside, long-counted}
+use Rattle.sheet_improve.proofs.Improved.{reversed-on}
+use borrow.Author.Needs.{needs}
+use Rattle.sheet_improve.proofs.improve.reverse_sheet.Statement.{statement}
+use Rattle.sheet_improve.proofs.improve.reverse_sheet.Tie as tie
+
+load-requires : tie.Need-load-requires
+load-requires c κs = search needs
+
+array-share-prefix-distances : tie.Need-array-share-prefix-distances
+array-share-prefix-distances c =
+    let x = c .before in
+    let q = x .before .before .before .before .before .before .before .pre in
+    far-inside (x .load .ensures (q .0) (q .1) (q .2))
+
+slice-aggregate-two-opt-improve : tie.Need-slice-aggregate-two-opt-improve
+slice-aggregate-two-opt-improve c =
+    let x = c .before .before in
+    let q = x .before .before .before .before .before .before .before .pre in
+    far-counted (x .load .ensures (q .0) (q .1) (q .2))
+
+array-share-prefix-times : tie.Need-array-share-prefix-times
+array-share-prefix-times c =
+    let x = c .before .before in
+    let q = x .before .before .before .before .before .before .before .pre in
+    long-inside (x .load .ensures (q .0) (q .1) (q .2))
+
+slice-aggregate-two-opt-improve-2 : tie.Need-slice-aggregate-two-opt-improve-2
+slice-aggregate-two-opt-improve-2 c =
+    let x = c .before .before .before in
+    let q = x .before .before .before .before .before .before .before .pre in
+    long-counted (x .load .ensures (q .0) (q .1) (q .2))
+
+two-opt-improve-requires : tie.Need-two-opt-improve-requires
+two-opt-improve-requires c κs = search needs
+
+same-length : tie.Need-same-length
+same-length c = search needs
+
+returns : tie.Need-returns
+returns c s tour e =
+    let x = c .before .before .before .before .before .before .before in
+    let a = x .before .before .before .before .before .before .before .args in
+    let l = x .load .result in
+    let distances = take (l .far) (x .load .last .1 .0) in
+    let times = take (l .long) (x .load .last .1 .1 .0) in
+    let visited = take (l .calls) (x .load .last .1 .1 .1 .0) in
+    let done = c .before .before .two-opt-improve in
+    reversed-on s visited (l .head) (l .customers) distances times (x .load .ensures s tour e .in-memory) (now (a .run)) (now (a .improved)) (done .result) (done .last .1 .1 .1 .1 .1 .1 .0) (done .ensures)
+
+pub reverse-sheet-spec : {M : Type 1} → statement M
+reverse-sheet-spec =
+    tie.close
+    (tie.spec
+    load-requires
+    array-share-prefix-distances
+    slice-aggregate-two-opt-improve
+    array-share-prefix-times
+    slice-aggregate-two-opt-improve-2
+    two-opt-improve-requires
+    same-length
+    returns)

@@ -1,0 +1,2 @@
+// The improvers on the sheet that bytes are.
+pub mod improve;

@@ -1,0 +1,41 @@
+-- The plan of a sheet in whole numbers: the cut, and when the breaks of its runs start. Definitions only.
+use Prim.Native.Nat.{ℕ}
+use mathlib.Core.Path.{_≡_}
+use mathlib.Core.List.{List, [], _∷_, map}
+use lib.Ieee.{Float}
+use lib.ListN.{length}
+use Rattle.basics.specs.Options.{valueOr}
+use Rattle.whole.specs.Whole.{fl}
+use Rattle.definitions.specs.Sheet.{Sheet}
+use Rattle.definitions.specs.Clock.{startOf}
+use Rattle.definitions.specs.Drop.{Result, splitTw}
+use Rattle.definitions.specs.Marker.{withPlaces}
+use Rattle.definitions.specs.Room.{written}
+use Rattle.definitions.specs.RunList.{runsOf}
+use Rattle.ga.specs.declared.split.SplitResult.{SplitResult}
+use Rattle.plan_listing.specs.Cut.{CutLeft}
+
+-- the cutting of `split_tw`, and when the break of each run starts, 0 where it has none
+pub record Plan : Type 0 where
+  pub cut : Result
+  pub starts : List ℕ
+
+abbrev pub startsOf : Sheet → Result → List ℕ
+startsOf s x = map (λ r. valueOr 0 (startOf s r)) (withPlaces (runsOf (x .served) (x .ends)) (x .places))
+
+unfoldable pub plan : Sheet → List ℕ → Plan
+plan s tour = let x = splitTw s tour in record { cut = x; starts = startsOf s x }
+
+-- how many calls are served, runs made and calls dropped
+abbrev pub countsOf : Plan → List ℕ
+countsOf p = length (p .cut .served) ∷ length (p .cut .ends) ∷ length (p .cut .dropped) ∷ []
+
+-- cost and distance
+abbrev pub totalsOf : Plan → List Float
+totalsOf p = fl (p .cut .cost) ∷ fl (p .cut .distance) ∷ []
+
+-- what a plan comes to, and the lists as it leaves them
+pub record Left (p : Plan) (r : SplitResult) (served₀ ends₀ places₀ : List ℕ) (starts₀ : List Float) (dropped₀ served ends places : List ℕ) (starts : List Float) (dropped : List ℕ) : Type 0 where
+  pub cut : CutLeft (p .cut) r served₀ ends₀ dropped₀ served ends dropped
+  pub places-left : places ≡ written (p .cut .places) places₀
+  pub starts-left : starts ≡ written (map fl (p .starts)) starts₀
