@@ -18,7 +18,7 @@ use evaluation::schedule::record_index;
 use models::customer::Customer;
 use models::load::fits;
 use models::load::wide;
-use stretch::way::joined;
+use stretch::way::way_to;
 use table::cells::offer;
 use table::cells::read_back;
 use table::held::write_front;
@@ -61,13 +61,6 @@ fn write_legs(
     }
 }
 
-// The leg into a call of a run: from the depot into the first, and else from the call before it.
-pub fn leg_in(out: f64, leg: f64, first: bool) -> f64
-    ensures { λ r. ⌜ r ≡ cond first out leg ⌝ }
-{
-    if first { out } else { leg }
-}
-
 // Row i: the runs along the stretch that starts at call i, each after the best of the calls before it.
 pub fn row(
     cost: &mut [f64; 129],
@@ -100,8 +93,7 @@ pub fn row(
         if !fits(load, capacity) {
             return;
         }
-        let first = m == 0;
-        gone = joined(gone, leg_in(out, ins[m], first), first);
+        gone = way_to(ins, out, gone, m);
         let total = gone + backs[m];
         m += 1;
         let new = base + total;

@@ -9,8 +9,8 @@ use Rattle.distance.specs.Lookup.{lookupF}
 use Rattle.stretch.specs.Stretch.{placeOf}
 use Rattle.ga.specs.Split.{tariffBy, askedF}
 use Rattle.stretch.proofs.Branches.{fails, holds}
-use Rattle.stretch.proofs.Along.{Along, setout, overfull, at-end, onward}
-use Rattle.ga.proofs.Gathered.{leg-into, at-place}
+use Rattle.stretch.proofs.Along.{Along, setout, in-place, overfull, at-end, onward}
+use Rattle.ga.proofs.Gathered.{leg-into}
 use Rattle.ga.proofs.split.row.Statement.{statement}
 use Rattle.ga.proofs.split.row.Tie as tie
 
@@ -45,7 +45,7 @@ loop-holds : tie.Need-loop-holds Inv-loop μ-loop
 loop-holds c =
     let a = c .before .before .before .before .before .before .before .before .before .args in
     let T = tariffBy (askedF (now (a .demands))) (now (a .distances)) (a .size) (a .capacity) (a .fixed) in
-    (c .get .ensures ∙ ap (lookupF (now (a .distances)) (a .size) 0) (c .before .call-at .ensures), at-place (setout T (now (a .stretch)) (a .i) (now (a .cost)) (now (a .dist)) (now (a .pred)) _ _ _ (sym fl-zero) (c .before .before .before .before .before .before .before .before .before .pre .0 .0) (c .before .before .before .before .before .before .before .before .before .pre .0 .1) (c .before .before .before .before .before .before .before .before .before .pre .0 .2) refl refl))
+    (c .get .ensures ∙ ap (lookupF (now (a .distances)) (a .size) 0) (c .before .call-at .ensures), in-place (setout T (now (a .stretch)) (a .i) (now (a .cost)) (now (a .dist)) (now (a .pred)) _ _ _ (sym fl-zero) (c .before .before .before .before .before .before .before .before .before .pre .0 .0) (c .before .before .before .before .before .before .before .before .before .pre .0 .1) (c .before .before .before .before .before .before .before .before .before .pre .0 .2) refl refl))
 
 mul-record-index : tie.Need-mul-record-index Inv-loop μ-loop
 mul-record-index c = search needs
@@ -77,17 +77,8 @@ returns c =
     let T = tariffBy (askedF (now (a .demands))) (now (a .distances)) (a .size) (a .capacity) (a .fixed) in
     overfull T (now (a .stretch)) (a .i) (now (a .cost)) (now (a .dist)) (now (a .pred)) _ _ _ _ _ _ _ _ _ (c .before .before .before .before .before .before .before .loop .inv .1) _ (c .before .before .wide .ensures .0 ∙ ap (λ (j : ℕ). getD (now (a .demands)) j 0) (c .before .before .before .before .record-index .ensures .0)) (fails _ _ (c .before .fits2 .ensures) (c .if1 .taken))
 
-mul-leg-in : tie.Need-mul-leg-in Inv-loop μ-loop
-mul-leg-in c = search needs
-
-shared-slice-read-leg-in : tie.Need-shared-slice-read-leg-in Inv-loop μ-loop
-shared-slice-read-leg-in c = search needs
-
-leg-in-requires : tie.Need-leg-in-requires Inv-loop μ-loop
-leg-in-requires c κs = search needs
-
-joined-requires : tie.Need-joined-requires Inv-loop μ-loop
-joined-requires c κs = search needs
+way-to-requires : tie.Need-way-to-requires Inv-loop μ-loop
+way-to-requires c κs = search needs
 
 mul-total : tie.Need-mul-total Inv-loop μ-loop
 mul-total c = search needs
@@ -109,14 +100,14 @@ loop-less c = search needs
 
 loop-again : tie.Need-loop-again Inv-loop μ-loop
 loop-again c =
-    let a = c .before .before .before .before .before .before .before .before .before .before .before .before .before .before .before .before .before .before .before .before .before .before .before .before .before .args in
+    let a = c .before .before .before .before .before .before .before .before .before .before .before .before .before .before .before .before .before .before .before .before .before .before .before .args in
     let T = tariffBy (askedF (now (a .demands))) (now (a .distances)) (a .size) (a .capacity) (a .fixed) in
-    let L = c .before .before .before .before .before .before .before .before .before .before .before .before .before .before .before .before .before .before .before .before .before .before .before .before .before .pre .1 .1 in
-    let in-is = c .before .before .before .before .before .before .leg-in .ensures ∙ leg-into (lookupF (now (a .distances)) (a .size)) (now (a .stretch)) (now (a .ins)) (now (a .backs)) _ _ L (c .before .before .before .before .before .before .before .before .before .before .before .before .before .before .loop-test .taken) (c .before .before .before .before .before .before .before .before .before .before .before .before .before .before .before .loop .inv .0) in (
-      c .before .before .before .before .before .before .before .before .before .before .before .before .before .before .before .loop .inv .0,
-      at-place
-          (onward T (now (a .stretch)) (a .i) (now (a .cost)) (now (a .dist)) (now (a .pred)) _ _ _ _ _ _ _ _ _ (c .before .before .before .before .before .before .before .before .before .before .before .before .before .before .before .loop .inv .1) _ _ _ (c .before .before .before .before .before .before .before .before .before .before .before .before .before .before .loop-test .taken) (c .before .before .before .before .before .before .before .before .before .before .before .before .before .before .before .before .before .before .before .before .before .before .before .before .before .pre .1 .0 .0) (c .before .before .before .before .before .before .before .before .before .before .wide .ensures .0 ∙ ap (λ (j : ℕ). getD (now (a .demands)) j 0) (c .before .before .before .before .before .before .before .before .before .before .before .before .record-index .ensures .0)) (holds _ _ (c .before .before .before .before .before .before .before .before .before .fits2 .ensures) (c .before .before .before .before .before .before .before .before .if1 .left)) in-is (c .before .before .before .before .before .joined .ensures) _ _ _ _ _
-          (L .backs-are _ (c .before .before .before .before .before .before .before .before .before .before .before .before .before .before .loop-test .taken)) refl refl (c .offer .ensures)),
+    let L = c .before .before .before .before .before .before .before .before .before .before .before .before .before .before .before .before .before .before .before .before .before .before .before .pre .1 .1 in
+    let in-is = leg-into (lookupF (now (a .distances)) (a .size)) (now (a .stretch)) (now (a .ins)) (now (a .backs)) _ _ L (c .before .before .before .before .before .before .before .before .before .before .before .before .loop-test .taken) (c .before .before .before .before .before .before .before .before .before .before .before .before .before .loop .inv .0) in (
+      c .before .before .before .before .before .before .before .before .before .before .before .before .before .loop .inv .0,
+      in-place
+          (onward T (now (a .stretch)) (a .i) (now (a .cost)) (now (a .dist)) (now (a .pred)) _ _ _ _ _ _ _ _ _ (c .before .before .before .before .before .before .before .before .before .before .before .before .before .loop .inv .1) _ _ _ (c .before .before .before .before .before .before .before .before .before .before .before .before .loop-test .taken) (c .before .before .before .before .before .before .before .before .before .before .before .before .before .before .before .before .before .before .before .before .before .before .before .pre .1 .0 .0) (c .before .before .before .before .before .before .before .before .wide .ensures .0 ∙ ap (λ (j : ℕ). getD (now (a .demands)) j 0) (c .before .before .before .before .before .before .before .before .before .before .record-index .ensures .0)) (holds _ _ (c .before .before .before .before .before .before .before .fits2 .ensures) (c .before .before .before .before .before .before .if1 .left)) in-is (c .before .before .before .before .before .way-to .ensures) _ _ _ _ _
+          (L .backs-are _ (c .before .before .before .before .before .before .before .before .before .before .before .before .loop-test .taken)) refl refl (c .offer .ensures)),
     )
 
 returns-2 : tie.Need-returns-2 Inv-loop μ-loop
@@ -147,10 +138,7 @@ row-spec =
     add-load
     fits-requires
     returns
-    mul-leg-in
-    shared-slice-read-leg-in
-    leg-in-requires
-    joined-requires
+    way-to-requires
     mul-total
     shared-slice-read-total
     add-m

@@ -10,8 +10,9 @@ use Rattle.cutting.specs.Carried.{next}
 use Rattle.distance.specs.Lookup.{lookupF}
 use Rattle.stretch.specs.Tariff.{stretches, runsOf, farsOf, TableOf}
 use Rattle.ga.specs.Split.{tariffBy, askedF}
-use Rattle.stretch.proofs.Along.{lent-part, held-row}
-use Rattle.ga.proofs.Gathered.{legs-from, part-from}
+use Rattle.basics.specs.Parts.{rest-is}
+use Rattle.stretch.proofs.Along.{held-row}
+use Rattle.ga.proofs.Gathered.{legs-from}
 use Rattle.ga.proofs.split.rows.Statement.{statement}
 use Rattle.ga.proofs.split.rows.Tie as tie
 
@@ -74,8 +75,8 @@ reached-row-requires c κs =
     let held = now (a .held) in (
       (ap length (T .costs-are) ∙ length-tab _ cells, ap length (T .fars-are) ∙ length-tab _ cells, ap length (T .preds-are) ∙ length-tab _ cells),
       (
-        (omega (arith, ap length (lent-part held (l .i)), length-drop (l .i) held, c .before .before .before .before .before .before .before .before .before .before .before .before .before .before .before .before .pre .0 .0), c .before .before .before .before .before .before .before .before .before .before .before .before .before .before .before .before .pre .0 .1),
-        legs-from (lookupF (now (a .distances)) (a .size)) held _ _ (l .i) _ _ _ (lent-part held (l .i)) (part-from _ (l .i) (W .1 .0)) (part-from _ (l .i) (W .1 .1)) (W .0),
+        (omega (arith, ap length (rest-is _ (l .i) held refl), length-drop (l .i) held, c .before .before .before .before .before .before .before .before .before .before .before .before .before .before .before .before .pre .0 .0), c .before .before .before .before .before .before .before .before .before .before .before .before .before .before .before .before .pre .0 .1),
+        legs-from (lookupF (now (a .distances)) (a .size)) held _ _ (l .i) _ _ _ (rest-is _ (l .i) held refl) (rest-is 128 (l .i) _ (W .1 .0)) (rest-is 128 (l .i) _ (W .1 .1)) (W .0),
       ),
     )
 
@@ -93,7 +94,7 @@ loop-again c =
     let held = now (a .held) in (
       omega arith,
       next (runsOf T (stretches held)) (farsOf T (stretches held)) (l .i) (omega (arith, c .before .before .before .before .before .before .before .before .before .before .before .before .before .before .before .before .before .pre .0 .0)) (l .cost) (l .dist) (l .pred) (l .inv .1) _ _ _
-          (held-row T held _ (l .i) (l .cost) (l .dist) (l .pred) _ _ _ (lent-part held (l .i)) (c .reached-row .ensures)),
+          (held-row T held _ (l .i) (l .cost) (l .dist) (l .pred) _ _ _ (rest-is _ (l .i) held refl) (c .reached-row .ensures)),
     )
 
 returns : tie.Need-returns Inv-loop μ-loop

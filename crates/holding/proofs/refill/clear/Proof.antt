@@ -1,4 +1,4 @@
--- `split_tw::clear` meets its contract. The loop's invariant is `Clearing`: the cells up to k are cleared. The measure is what is left of the cells. Assumes nothing.
+-- `refill::clear` meets its contract. The loop's invariant is `Clearing`: the cells up to k are cleared. The measure is what is left of the cells. Assumes nothing.
 use Prim.Native.Nat.{_-_, _≤_}
 use native.Mathlib.Nat.{le-refl}
 use native.Mathlib.Omega.{arith}
@@ -7,10 +7,10 @@ use mathlib.Core.Bool.{false}
 use lib.Ieee.{inf, nan, ofBits, ofInt}
 use denote.Ref.{now}
 use Rattle.whole.specs.Whole.{fl}
-use Rattle.ga.proofs.Clearing.{Clearing, none-cleared, one-cleared, all-cleared}
+use Rattle.holding.proofs.Clearing.{Clearing, none-cleared, one-cleared, all-cleared}
 use borrow.Author.Needs.{needs}
-use Rattle.ga.proofs.split_tw.clear.Statement.{statement}
-use Rattle.ga.proofs.split_tw.clear.Tie as tie
+use Rattle.holding.proofs.refill.clear.Statement.{statement}
+use Rattle.holding.proofs.refill.clear.Tie as tie
 
 abbrev Inv-loop : tie.InvT-loop
 Inv-loop cost₀ dist₀ pred₀ from top k₀ cost dist pred k =

@@ -9,7 +9,7 @@ use lib.Dec.{eqb}
 use borrow.Author.Tests.{eqb-true, eqb-false}
 use Rattle.basics.specs.Tests.{by-test}
 use Rattle.cutting.specs.Tab.{cells}
-use Rattle.ga.specs.Refill.{Cleared}
+use Rattle.holding.specs.Refill.{Cleared}
 
 -- the cells from `from` up to, and not with, k are cleared
 pub record Clearing {A : Type 0} (from k : ℕ) (v d : A) (l₀ l : List A) : Type 0 where

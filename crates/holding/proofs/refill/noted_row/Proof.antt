@@ -1,11 +1,13 @@
--- `split_tw::noted_row` meets its contract. Assumes nothing.
+-- `refill::noted_row` meets its contract. Assumes nothing.
 use native.Mathlib.Omega.{arith}
+use mathlib.Core.Path.{refl}
 use denote.Ref.{now}
 use Rattle.stretch.specs.Runs.{over}
-use Rattle.ga.proofs.Noting.{rest-long, below-rest, noted}
+use Rattle.basics.specs.Parts.{rest-long}
+use Rattle.holding.proofs.Noting.{below-rest, noted}
 use borrow.Author.Needs.{needs}
-use Rattle.ga.proofs.split_tw.noted_row.Statement.{statement}
-use Rattle.ga.proofs.split_tw.noted_row.Tie as tie
+use Rattle.holding.proofs.refill.noted_row.Statement.{statement}
+use Rattle.holding.proofs.refill.noted_row.Tie as tie
 
 mul-row : tie.Need-mul-row
 mul-row c = search needs
@@ -50,10 +52,10 @@ row-requires c κs =
     let p = s .pre in (
       (p .0 .0, p .0 .1, p .0 .2),
       (
-        (omega (arith, rest-long (now (a .held)) (a .i)), below-rest (now (a .held)) (a .i) (p .1 .0 .2)),
+        (omega (arith, rest-long _ (a .i) (now (a .held)) refl), below-rest (now (a .held)) (a .i) (p .1 .0 .2)),
         (
-          omega (arith, rest-long (now (a .held)) (a .i), rest-long (now (a .legs)) (a .i)),
-          omega (arith, rest-long (now (a .held)) (a .i), rest-long (now (a .time-legs)) (a .i)),
+          omega (arith, rest-long _ (a .i) (now (a .held)) refl, rest-long _ (a .i) (now (a .legs)) refl),
+          omega (arith, rest-long _ (a .i) (now (a .held)) refl, rest-long _ (a .i) (now (a .time-legs)) refl),
           p .1 .1 .2,
           p .1 .1 .3,
         ),
@@ -73,7 +75,7 @@ returns : tie.Need-returns
 returns c =
     let s = c .before .before .before .before .before .before .before .before .before .before .before .before in
     let a = s .args in
-    noted (λ t. over t (a .capacity) (a .fixed) (a .limits)) (now (a .held)) (now (a .legs)) (now (a .time-legs)) (now (a .codes)) (now (a .figures)) (a .i) (now (a .cost)) (now (a .dist)) (now (a .pred)) (now (a .reach)) _ _ _ (c .row .result) (c .row .ensures .0) (omega (arith, s .pre))
+    noted (λ t. over t (a .terms)) (now (a .held)) (now (a .legs)) (now (a .time-legs)) (now (a .codes)) (now (a .figures)) (a .i) (now (a .cost)) (now (a .dist)) (now (a .pred)) (now (a .reach)) _ _ _ (c .row .result) (c .row .ensures .0) (omega (arith, s .pre))
 
 pub noted-row-spec : {M : Type 1} → statement M
 noted-row-spec =

@@ -1,4 +1,4 @@
--- `split_tw::refill` meets its contract. The loop's invariant is `Again`: after s rows the cells behind q are those of the table of the rows below s. The measure is what is left of q. Assumes nothing.
+-- `refill::refill` meets its contract. The loop's invariant is `Again`: after s rows the cells behind q are those of the table of the rows below s. The measure is what is left of q. Assumes nothing.
 use Prim.Native.Nat.{_-_, _≤_}
 use native.Mathlib.Omega.{arith}
 use mathlib.Core.Path.{_≡_}
@@ -6,15 +6,15 @@ use lib.ListN.{length}
 use denote.Ref.{now}
 use Rattle.evaluation.specs.Records.{Tables}
 use Rattle.stretch.specs.Runs.{Instance, over}
-use Rattle.ga.proofs.Noting.{listed-long}
-use Rattle.ga.proofs.Again.{Again, none-again, row-again, row-passed, all-again}
+use Rattle.holding.proofs.Noting.{listed-long}
+use Rattle.holding.proofs.Again.{Again, none-again, row-again, row-passed, all-again}
 use borrow.Author.Needs.{needs}
-use Rattle.ga.proofs.split_tw.refill.Statement.{statement}
-use Rattle.ga.proofs.split_tw.refill.Tie as tie
+use Rattle.holding.proofs.refill.refill.Statement.{statement}
+use Rattle.holding.proofs.refill.refill.Tie as tie
 
 abbrev Inv-loop : tie.InvT-loop
-Inv-loop cost₀ dist₀ pred₀ reach₀ held legs time-legs codes figures capacity fixed limits q s₀ cost dist pred reach s =
-    Again (λ t. over t capacity fixed limits) held legs time-legs codes figures q s cost₀ dist₀ pred₀ reach₀ cost dist pred reach
+Inv-loop cost₀ dist₀ pred₀ reach₀ held legs time-legs codes figures terms q s₀ cost dist pred reach s =
+    Again (λ t. over t terms) held legs time-legs codes figures q s cost₀ dist₀ pred₀ reach₀ cost dist pred reach
     × (s ≤ q)
     × (length cost ≡ 129)
     × (length dist ≡ 129)
@@ -22,7 +22,7 @@ Inv-loop cost₀ dist₀ pred₀ reach₀ held legs time-legs codes figures capa
     × (length reach ≡ 129)
 
 abbrev μ-loop : tie.MeasureT-loop
-μ-loop cost₀ dist₀ pred₀ reach₀ held legs time-legs codes figures capacity fixed limits q s₀ cost dist pred reach s = q - s
+μ-loop cost₀ dist₀ pred₀ reach₀ held legs time-legs codes figures terms q s₀ cost dist pred reach s = q - s
 
 add-clear : tie.Need-add-clear Inv-loop μ-loop
 add-clear c = search needs
@@ -35,7 +35,7 @@ loop-holds c =
     let s = c .before .before .before .before .before .before .before .before .before in
     let a = s .args in
     let k = c .clear .ensures in (
-      none-again (λ t. over t (a .capacity) (a .fixed) (a .limits)) (now (a .held)) (now (a .legs)) (now (a .time-legs)) (now (a .codes)) (now (a .figures)) (a .q) _ _ _ (now (a .reach)),
+      none-again (λ t. over t (a .terms)) (now (a .held)) (now (a .legs)) (now (a .time-legs)) (now (a .codes)) (now (a .figures)) (a .q) _ _ _ (now (a .reach)),
       omega arith,
       k .0 .long,
       k .1 .long,
@@ -61,7 +61,7 @@ loop-again c =
     let s = c .before .before .before .before .before .before .before .before .before .before .before .before .before in
     let a = s .args in
     let v = l .inv in (
-      row-passed (λ t. over t (a .capacity) (a .fixed) (a .limits)) (now (a .held)) (now (a .legs)) (now (a .time-legs)) (now (a .codes)) (now (a .figures)) (a .q) _ _ _ (now (a .reach)) (l .s) (c .before .before .loop-test .taken) (s .pre .1 .0 .0) (s .pre .1 .0 .1) (l .cost) (l .dist) (l .pred) (l .reach) (v .0) (c .if1 .taken),
+      row-passed (λ t. over t (a .terms)) (now (a .held)) (now (a .legs)) (now (a .time-legs)) (now (a .codes)) (now (a .figures)) (a .q) _ _ _ (now (a .reach)) (l .s) (c .before .before .loop-test .taken) (s .pre .1 .0 .0) (s .pre .1 .0 .1) (l .cost) (l .dist) (l .pred) (l .reach) (v .0) (c .if1 .taken),
       omega arith,
       v .2,
       v .3,
@@ -87,7 +87,7 @@ loop-again-2 c =
     let s = c .before .before .before .before .before .before .before .before .before .before .before .before .before .before .before .before .before .before in
     let a = s .args in
     let v = l .inv in
-    let I : Tables → Instance = λ t. over t (a .capacity) (a .fixed) (a .limits) in
+    let I : Tables → Instance = λ t. over t (a .terms) in
     let n = c .noted-row .ensures in
     let k = listed-long I (now (a .held)) (now (a .legs)) (now (a .time-legs)) (now (a .codes)) (now (a .figures)) (l .s) (l .cost) (l .dist) (l .pred) (l .reach) _ _ _ _ (s .pre .1 .1 .1) (v .5) n in (
       row-again I (now (a .held)) (now (a .legs)) (now (a .time-legs)) (now (a .codes)) (now (a .figures)) (a .q) _ _ _ (now (a .reach)) (l .s) (c .before .before .before .before .before .before .before .loop-test .taken) (s .pre .1 .0 .0) (s .pre .1 .0 .1) (l .cost) (l .dist) (l .pred) (l .reach) (v .0) _ _ _ _ n,
@@ -105,7 +105,7 @@ returns c =
     let a = s .args in
     let v = l .inv in
     let k = c .before .before .clear .ensures in
-    all-again (λ t. over t (a .capacity) (a .fixed) (a .limits)) (now (a .held)) (now (a .legs)) (now (a .time-legs)) (now (a .codes)) (now (a .figures)) (a .q) _ _ _ (now (a .reach)) (now (a .cost)) (now (a .dist)) (now (a .pred)) (l .cost) (l .dist) (l .pred) (l .reach) (k .0 .long) (k .1 .long) (k .2 .long) k (v .5) (l .s) (omega arith) (v .0)
+    all-again (λ t. over t (a .terms)) (now (a .held)) (now (a .legs)) (now (a .time-legs)) (now (a .codes)) (now (a .figures)) (a .q) _ _ _ (now (a .reach)) (now (a .cost)) (now (a .dist)) (now (a .pred)) (l .cost) (l .dist) (l .pred) (l .reach) (k .0 .long) (k .1 .long) (k .2 .long) k (v .5) (l .s) (omega arith) (v .0)
 
 pub refill-spec : {M : Type 1} → statement M
 refill-spec =

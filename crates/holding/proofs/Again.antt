@@ -16,8 +16,8 @@ use Rattle.evaluation.specs.Records.{Tables}
 use Rattle.stretch.specs.Tariff.{Tariff, stretches, legalOf, runsOf, farsOf, Ended}
 use Rattle.stretch.specs.Stops.{WorkedOut, LegsAre}
 use Rattle.stretch.specs.Runs.{Instance, tariff}
-use Rattle.ga.specs.Refill.{Cleared, Reached, NotedRow, ReachedBelow, EarlyBelow, Noted, Refilled}
-use Rattle.ga.proofs.Refilling.{Refilling, refill-begins, refill-ends, refill-row, refill-passed}
+use Rattle.holding.specs.Refill.{Cleared, Reached, NotedRow, ReachedBelow, EarlyBelow, Noted, Refilled}
+use Rattle.holding.proofs.Refilling.{Refilling, refill-begins, refill-ends, refill-row, refill-passed}
 
 -- ---- how far the rows go
 

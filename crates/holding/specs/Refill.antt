@@ -14,13 +14,13 @@ use Rattle.definitions.specs.Drop.{callsAt}
 use Rattle.definitions.specs.Room.{written}
 use Rattle.whole.specs.Whole.{fl}
 use Rattle.models.specs.declared.customer.Customer.{Customer}
-use Rattle.models.specs.declared.limits.RouteLimits.{RouteLimits}
 use Rattle.evaluation.specs.Records as Records
 use Rattle.evaluation.specs.Records.{Tables}
 use Rattle.stretch.specs.Tariff.{Tariff, stretches, runsOf, farsOf, TableOf, Ended}
-use Rattle.stretch.specs.Stops.{WorkedOut, LegsAre}
-use Rattle.stretch.specs.Runs.{Instance, lent, tariff}
-use Rattle.ga.specs.SplitTw.{dropsF}
+use Rattle.stretch.specs.declared.terms.Terms.{Terms}
+use Rattle.stretch.specs.Stops.{WorkedOut, LegIs, LegsAre}
+use Rattle.stretch.specs.Runs.{Instance, over, tariff}
+use Rattle.holding.specs.Drops.{dropsF}
 
 -- from cell number `from` on all is v, and what stands before stays
 pub record Cleared {A : Type 0} (from : ℕ) (v d : A) (l l' : List A) : Type 0 where
@@ -54,6 +54,10 @@ module _ (T : Tariff) (held : List ℕ) where
 
   abbrev pub EarlyBelow : ℕ → List ℕ → Type 0
   EarlyBelow q reach = (s : ℕ) → s < q → getD reach s 0 < q → Reached reach s
+
+-- the legs before number q are those of the calls
+unfoldable pub LegsTo : (ℕ → ℕ → Float) → (ℕ → ℕ → Float) → List ℕ → ℕ → List Float → List Float → Type 0
+LegsTo distance time held q legs times = (k : ℕ) → 0 < k → k < q → k < length held → LegIs distance time held legs times k
 
 -- the lists are worked out from some tables
 unfoldable pub Listed : List ℕ → List Float → List Float → List ℕ → List Float → Type 0
@@ -94,6 +98,6 @@ module _ (distances times : List Float) (size : ℕ) (codes : List ℕ) (figures
   unfoldable pub SomeLists : Type 0
   SomeLists = (customers : List Customer) × ListsOf customers
 
-  unfoldable pub Holds : ℕ → Float → RouteLimits → List ℕ → List ℕ → ℕ → List ℕ → List ℕ → List Float → List Float → List ℕ → Type 0
-  Holds capacity fixed limits tour dropped n hs dropped' cost far pred =
-      (customers : List Customer) → ListsOf customers → Stayed (lent customers distances times size capacity fixed limits) tour dropped n hs dropped' cost far pred
+  unfoldable pub Holds : Terms → List ℕ → List ℕ → ℕ → List ℕ → List ℕ → List Float → List Float → List ℕ → Type 0
+  Holds terms tour dropped n hs dropped' cost far pred =
+      (customers : List Customer) → ListsOf customers → Stayed (over (Records.lent customers distances times size) terms) tour dropped n hs dropped' cost far pred

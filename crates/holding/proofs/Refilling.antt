@@ -19,8 +19,8 @@ use Rattle.cutting.specs.Tab.{cells, tab-of, length-tab, getD-tab}
 use Rattle.cutting.specs.Floats.{lt-inf}
 use Rattle.cutting.specs.Rows.{Legs, rule64, wins, made}
 use Rattle.cutting.specs.Carried.{Carry, carried, carriedTo, RowDone, RowsDone}
-use Rattle.ga.specs.Refill.{Cleared, Fronted}
-use Rattle.ga.proofs.LessThan.{lt-self, lt-trans}
+use Rattle.holding.specs.Refill.{Cleared, Fronted}
+use Rattle.whole.specs.LessThan.{lt-self, lt-trans}
 
 -- ---- what stands at j is not above what a row has offered there
 

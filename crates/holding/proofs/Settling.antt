@@ -7,34 +7,41 @@ use mathlib.Core.List.{List, [], _∷_}
 use mathlib.Core.Option.{none, some}
 use lib.ListN.{length, getD, take, length-map}
 use lib.Seq.{length-take-le}
-use lib.Dec.{eqb, ltb}
+use lib.Dec.{eqb}
 use lib.Ieee.{Float, nan, inf, lt}
-use borrow.Author.Tests.{eqb-true, eqb-false, ltb-true, ltb-false}
+use borrow.Author.Tests.{eqb-true, eqb-false}
 use Rattle.basics.specs.Tests.{by-test}
 use Rattle.basics.specs.Lists.{without, count, length-count, length-without}
+use Rattle.basics.specs.Parts.{without-alike}
 use Rattle.cutting.specs.Tab.{cells}
 use Rattle.cutting.specs.First.{FirstOf, first-none, first-some}
 use Rattle.cutting.specs.Rows.{last-has}
 use Rattle.cutting.specs.Carried.{next}
 use Rattle.definitions.specs.Drop.{callAt, callsAt, Held, dropAt, allHeld}
 use Rattle.definitions.specs.Room.{written}
+use Rattle.evaluation.specs.Records.{Tables}
 use Rattle.evaluation.specs.Tables as Lookup
 use Rattle.table.specs.Table.{DropCall}
 use Rattle.table.proofs.Writing.{front-written}
 use Rattle.table.proofs.Holding.{Holding, all-holding, call-goes}
 use Rattle.stretch.specs.Tariff.{stretches, runsOf, farsOf, TableOf}
-use Rattle.stretch.specs.Stops.{Below64, LegIs, LegsAre, LegsWritten}
+use Rattle.stretch.specs.Stops.{Below64, LegsAre}
 use Rattle.stretch.specs.Runs.{Instance, tariff}
-use Rattle.ga.specs.SplitTw.{haveF, stuckF, dropFromF, dropsF, Settled}
-use Rattle.ga.specs.Refill.{NotedRow, FrontOf, ReachedBelow, EarlyBelow, Stayed}
+use Rattle.holding.specs.Drops.{haveF, stuckF, dropFromF, dropsF}
+use Rattle.holding.specs.Refill.{LegsTo, NotedRow, FrontOf, ReachedBelow, EarlyBelow, Stayed}
 use Rattle.stretch.proofs.Alike.{call-alike, place-alike}
-use Rattle.stretch.proofs.Local.{tariff-local, without-alike, steps-alike, fars-alike, ended-alike}
-use Rattle.ga.proofs.Refilling.{cost-same, front-same}
-use Rattle.ga.proofs.Again.{reached-more}
+use Rattle.stretch.proofs.Local.{tariff-local, steps-alike, fars-alike, ended-alike}
+use Rattle.holding.proofs.Refilling.{cost-same, front-same}
+use Rattle.holding.proofs.Again.{reached-more}
 
 -- so many calls are lent, and not more
 pub few-taken : (n k : ℕ) (l : List ℕ) → n ≤ k → n ≤ length l → length (take n l) ≤ k
 few-taken n k l h b = omega (arith, length-take-le n l b)
+
+-- the positions of all calls, from 1
+pub numbered : (n : ℕ) (positions₀ positions : List ℕ) → positions ≡ written (count 1 n) positions₀ → take n positions ≡ count 1 n
+numbered n positions₀ positions e =
+    ap (take n) e ∙ ap (λ (k : ℕ). take k (written (count 1 n) positions₀)) (sym (length-count 1 n)) ∙ front-written (count 1 n) positions₀
 
 -- ---- the calls held after a drop
 
@@ -56,20 +63,14 @@ module _ (n i : ℕ) (held held' : List ℕ) (b : i < n) (long : n ≤ length he
   pub below-after : Below64 (take n held) → Below64 (take (n - 1) held')
   below-after w = subst Below64 (sym less) (without-below i (take n held) w)
 
-  -- the legs up to the dropped call stay, and the others are written
-  pub legs-after : (I : Instance) (legs times legs' times' : List Float) → LegsAre (I .tables) (take n held) legs times
-      → LegsWritten (Lookup.distanceF (I .tables)) (Lookup.timeF (I .tables)) (take (n - 1) held') i legs times legs' times'
-      → LegsAre (I .tables) (take (n - 1) held') legs' times'
-  unfolding LegsAre
-  legs-after I legs times legs' times' L W k p h = by-test (ltb k i) (λ t. stays (ltb-true k i t)) (λ f. W .new k (ltb-false k i f) p h)
-    where
-      stays : k < i → LegIs (Lookup.distanceF (I .tables)) (Lookup.timeF (I .tables)) (take (n - 1) held') legs' times' k
-      stays g =
-          let o = W .old k g in
-          let a = L k p (omega (arith, length-take-le n held long)) in
-          let c = call-alike i (take n held) (take (n - 1) held') same-front k g in
-          let q = place-alike i (take n held) (take (n - 1) held') same-front k (omega arith) in
-          record { distance-is = o .0 ∙ a .distance-is ∙ rw (c, q) refl; time-is = o .1 ∙ a .time-is ∙ rw (c, q) refl }
+  -- the legs before the dropped call are those of the calls that are left
+  pub legs-kept : (t : Tables) (legs times : List Float) → LegsAre t (take n held) legs times → LegsTo (Lookup.distanceF t) (Lookup.timeF t) (take (n - 1) held') i legs times
+  unfolding LegsAre LegsTo
+  legs-kept t legs times L k p g h =
+      let a = L k p (omega (arith, length-take-le n held long)) in
+      let c = call-alike i (take n held) (take (n - 1) held') same-front k g in
+      let q = place-alike i (take n held) (take (n - 1) held') same-front k (omega arith) in
+      record { distance-is = a .distance-is ∙ rw (c, q) refl; time-is = a .time-is ∙ rw (c, q) refl }
 
 -- ---- what the loop keeps
 
@@ -117,13 +118,13 @@ module _ (I : Instance) (tour : List ℕ) where
   drop-some (suc n) k h b e = let p : suc n - 1 ≡ n = omega arith in rw (p, e, dropFromF) refl
 
   -- at first all calls are held, and no row is filled
-  pub all-settling : (n : ℕ) (positions₀ dropped₀ : List ℕ) (held positions : List ℕ) (legs₀ times₀ legs times cost far : List Float) (pred reach : List ℕ)
-      → length tour ≡ n → take n held ≡ tour → positions ≡ written (count 1 n) positions₀
-      → LegsWritten (Lookup.distanceF (I .tables)) (Lookup.timeF (I .tables)) (take n held) 0 legs₀ times₀ legs times
+  pub all-settling : (n : ℕ) (dropped₀ held positions : List ℕ) (legs times cost far : List Float) (pred reach : List ℕ)
+      → length tour ≡ n → take n held ≡ tour → take n positions ≡ count 1 n
+      → LegsTo (Lookup.distanceF (I .tables)) (Lookup.timeF (I .tables)) (take n held) n legs times
       → TableOf (tariff I) (take n held) 0 cost far pred
       → Settling I tour dropped₀ held positions dropped₀ n 0 legs times cost far pred reach
-  unfolding dropsF LegsAre
-  all-settling n positions₀ dropped₀ held positions legs₀ times₀ legs times cost far pred reach e eh ep W T =
+  unfolding dropsF LegsAre LegsTo
+  all-settling n dropped₀ held positions legs times cost far pred reach e eh ep L T =
       let A = all-holding tour dropped₀ [] [] in
       let z : length tour - n ≡ 0 = omega arith in
       record {
@@ -131,7 +132,7 @@ module _ (I : Instance) (tour : List ℕ) where
         holding =
             record {
               held-are = eh ∙ sym (front-written tour []) ∙ A .held-are;
-              positions-are = ap (take n) ep ∙ ap (λ (k : ℕ). take k (written (count 1 n) positions₀)) (sym (length-count 1 n)) ∙ front-written (count 1 n) positions₀ ∙ ap (count 1) (sym e);
+              positions-are = ep ∙ ap (count 1) (sym e);
               dropped-are = A .dropped-are;
               held-count = sym e ∙ A .held-count;
               gone-count = z ∙ A .gone-count;
@@ -140,7 +141,7 @@ module _ (I : Instance) (tour : List ℕ) where
         table = T;
         found = λ k h. absurd (clash k h);
         reached = λ k h. absurd (clash k h);
-        legs-are = λ k p h. W .new k (omega arith) p h;
+        legs-are = λ k p h. L k p (omega (arith, ap length eh)) h;
       }
     where
       clash : (k : ℕ) → k < 0 → ⊥
@@ -248,8 +249,3 @@ module _ (I : Instance) (tour : List ℕ) where
             dropped-are = S .holding .dropped-are ∙ ap (λ (h : Held). written (h .dropped) dropped₀) calls-are;
             table = subst (λ (k : ℕ). TableOf (tariff I) (take n held) k cost far pred) all (S .table);
           }
-
--- each call of the tour is held or dropped
-pub each-counted : (I : Instance) (tour : List ℕ) (n : ℕ) (cost distance : Float) (at : ℕ) (hs es : List ℕ) → Settled I tour n cost distance at hs es
-    → length (dropsF I tour .held) + length (dropsF I tour .dropped) ≡ length tour
-each-counted I tour n cost distance at hs es S = omega (arith, S .held-count, S .dropped-count, S .few)

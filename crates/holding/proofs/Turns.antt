@@ -12,21 +12,20 @@ use Rattle.basics.specs.Lists.{count}
 use Rattle.cutting.specs.Carried.{none-done}
 use Rattle.cutting.specs.Tab.{cells, length-tab}
 use Rattle.whole.specs.Whole.{fl}
-use Rattle.definitions.specs.Room.{written}
 use Rattle.definitions.specs.Sheet.{timeTable}
 use Rattle.distance.specs.Lookup.{lookupF}
 use Rattle.evaluation.specs.Records as Evaluation
 use Rattle.evaluation.specs.Records.{Tables}
 use Rattle.models.specs.declared.customer.Customer.{Customer}
-use Rattle.models.specs.declared.limits.RouteLimits.{RouteLimits}
+use Rattle.stretch.specs.declared.terms.Terms.{Terms}
 use Rattle.table.specs.Table.{DropCall}
 use Rattle.stretch.specs.Tariff.{stretches, runsOf, farsOf, TableOf}
 use Rattle.stretch.specs.Stops.{Below64, WorkedOut, LegsAre, LegsWritten}
-use Rattle.stretch.specs.Runs.{Instance, over, lent, tariff}
-use Rattle.ga.specs.SplitTw.{haveF}
-use Rattle.ga.specs.Refill.{NotedRow, ReachedBelow, Listed, Noted, Refilled, Unfilled, ListsOf, SomeLists, Holds}
-use Rattle.ga.proofs.Noting.{noted-long, listed, noted-at, refilled-at}
-use Rattle.ga.proofs.Settling.{Settling, Sized, have-is, one-on, legs-after, below-after, front-after, early-after, one-less, all-settling, stayed}
+use Rattle.stretch.specs.Runs.{Instance, over, tariff}
+use Rattle.holding.specs.Drops.{haveF}
+use Rattle.holding.specs.Refill.{NotedRow, ReachedBelow, LegsTo, Noted, Refilled, Unfilled, ListsOf, SomeLists, Holds}
+use Rattle.holding.proofs.Noting.{noted-long, legs-joined, noted-at, refilled-at}
+use Rattle.holding.proofs.Settling.{Settling, Sized, have-is, one-on, legs-kept, below-after, front-after, early-after, one-less, all-settling, stayed}
 
 zero-start : fl 0 ≡ fin false 0 (pos 0)
 unfolding fl ofInt
@@ -47,9 +46,7 @@ pub record Lent : Type 0 where
   pub distances : List Float
   pub times : List Float
   pub size : ℕ
-  pub capacity : ℕ
-  pub fixed : Float
-  pub limits : RouteLimits
+  pub terms : Terms
   pub codes : List ℕ
   pub figures : List Float
 
@@ -58,10 +55,10 @@ module _ (E : Lent) where
   tablesOf customers = Evaluation.lent customers (E .distances) (E .times) (E .size)
 
   abbrev instanceOf : List Customer → Instance
-  instanceOf customers = lent customers (E .distances) (E .times) (E .size) (E .capacity) (E .fixed) (E .limits)
+  instanceOf customers = over (tablesOf customers) (E .terms)
 
   abbrev byTables : Tables → Instance
-  byTables t = over t (E .capacity) (E .fixed) (E .limits)
+  byTables t = over t (E .terms)
 
   abbrev From : List Customer → Type 0
   From customers = WorkedOut (tablesOf customers) (E .codes) (E .figures)
@@ -135,14 +132,12 @@ module _ (E : Lent) where
             goes = subst (λ (k : ℕ). DropCall n i k held positions dropped held' positions' dropped') is-gone D
 
             legs-at : (customers : List Customer) → From customers → LegsAre (tablesOf customers) (take (n - 1) held') legs' times'
-            legs-at customers W = legs-after n i held held' b long (D .held-less) (instanceOf customers) legs times legs' times' (U .settling customers W .legs-are) G
+            legs-at customers W =
+                legs-joined (tablesOf customers) (take (n - 1) held') i legs times legs' times' (legs-kept n i held held' b long (D .held-less) (tablesOf customers) legs times (U .settling customers W .legs-are)) G
 
             none-there : (customers : List Customer) → From customers → haveF (instanceOf customers) (take n held) (suc i) ≡ false
             none-there customers W =
                 sym (have-is (instanceOf customers) tour dropped₀ held positions dropped n i legs times cost far pred reach few long (U .settling customers W) b cost' far' pred' reach' (row-at customers W) top is-top) ∙ h
-
-            pub listed-after : Listed (take (n - 1) held') legs' times' (E .codes) (E .figures)
-            listed-after = listed byTables (take (n - 1) held') legs' times' (E .codes) (E .figures) (tablesOf some-customers) from (legs-at some-customers from)
 
             module _ (cost″ far″ : List Float) (pred″ reach″ : List ℕ)
                 (F : Refilled byTables (take (n - 1) held') legs' times' (E .codes) (E .figures) i cost' far' pred' reach' cost″ far″ pred″ reach″) where
@@ -189,26 +184,26 @@ module _ (E : Lent) where
                   }
 
     -- all rows are filled
-    pub turn-ends : n ≤ i → Holds (E .distances) (E .times) (E .size) (E .codes) (E .figures) (E .capacity) (E .fixed) (E .limits) tour dropped₀ n held dropped cost far pred
+    pub turn-ends : n ≤ i → Holds (E .distances) (E .times) (E .size) (E .codes) (E .figures) (E .terms) tour dropped₀ n held dropped cost far pred
     unfolding Holds
     turn-ends h customers W =
         let v = U .sized in
         stayed (instanceOf customers) tour dropped₀ held positions dropped n i legs times cost far pred reach few long (U .settling customers W) (omega arith) (v .few)
 
   -- before the first row
-  pub turn-begins : (n : ℕ) (held positions₀ positions dropped : List ℕ) (legs₀ times₀ legs times cost far : List Float) (pred reach : List ℕ)
+  pub turn-begins : (n : ℕ) (held positions dropped : List ℕ) (legs times cost far : List Float) (pred reach : List ℕ)
       → (n ≤ 128) × (n ≤ length held) × (n ≤ length dropped) × Below64 (take n held)
-      → positions ≡ written (count 1 n) positions₀ → length positions ≡ 128
-      → LegsWritten (lookupF (E .distances) (E .size)) (lookupF (timeTable (E .distances) (E .times)) (E .size)) (take n held) 0 legs₀ times₀ legs times
-      → Unfilled cost far pred → length reach ≡ cells
+      → (length positions ≡ 128) × (take n positions ≡ count 1 n) × (length reach ≡ cells)
+      → (length legs ≡ 128) × (length times ≡ 128) × LegsTo (lookupF (E .distances) (E .size)) (lookupF (timeTable (E .distances) (E .times)) (E .size)) (take n held) n legs times
+      → Unfilled cost far pred
       → Turn (take n held) held dropped held positions dropped n 0 legs times cost far pred reach
   unfolding Unfilled
-  turn-begins n held positions₀ positions dropped legs₀ times₀ legs times cost far pred reach b ep lp G Z lr =
+  turn-begins n held positions dropped legs times cost far pred reach b P G Z =
       let m : length (take n held) ≡ n = length-take-le n held (b .1) in
       record {
         settling =
             λ customers _.
-            all-settling (instanceOf customers) (take n held) n positions₀ dropped held positions legs₀ times₀ legs times cost far pred reach m refl ep G
+            all-settling (instanceOf customers) (take n held) n dropped held positions legs times cost far pred reach m refl (P .1) (G .2)
             (let N = none-done (runsOf (tariff (instanceOf customers)) (stretches (take n held))) (farsOf (tariff (instanceOf customers)) (stretches (take n held))) (inf false) (fl 0) (fl 0) refl zero-start refl in
             record { costs-are = Z .0 ∙ N .costs-are; fars-are = Z .1 ∙ N .fars-are; preds-are = Z .2 ∙ N .preds-are });
         sized =
@@ -221,12 +216,12 @@ module _ (E : Lent) where
               below = b .3;
               held-long = refl;
               dropped-long = refl;
-              positions-long = lp;
-              legs-long = G .legs-long;
-              times-long = G .times-long;
+              positions-long = P .0;
+              legs-long = G .0;
+              times-long = G .1;
               cost-long = ap length (Z .0);
               far-long = ap length (Z .1);
               pred-long = ap length (Z .2);
-              reach-long = lr;
+              reach-long = P .2;
             };
       }
