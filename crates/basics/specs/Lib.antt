@@ -2,3 +2,4 @@
 pub mod Tests
 pub mod Options
 pub mod Lists
+pub mod Parts

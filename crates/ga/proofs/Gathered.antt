@@ -1,12 +1,12 @@
 -- What is gathered once for a cut: what each record asks for, and the legs along the calls. Written one by one, and read along a stretch. Assumes nothing.
-use Prim.Native.Nat.{ℕ, zero, suc, _+_, _-_, _<_, _≤_}
+use Prim.Native.Nat.{ℕ, zero, suc, _+_, _<_, _≤_}
 use native.Mathlib.Nat.{not-suc-le-zero}
 use native.Mathlib.Omega.{arith}
 use mathlib.Core.Path.{_≡_, refl, sym, ap, subst, fun-ext, _∙_}
 use mathlib.Core.Bool.{cond}
 use mathlib.Core.List.{List, map}
-use lib.ListN.{length, getD, set, take, drop, length-set, length-drop}
-use lib.Seq.{take-all, getD-set-same, getD-set-other, getD-drop}
+use lib.ListN.{length, getD, set, drop, length-set, length-drop}
+use lib.Seq.{getD-set-same, getD-set-other, getD-drop}
 use lib.Dec.{eqb, ltb, eqb·suc-zero}
 use borrow.Author.Tests.{ltb-true, ltb-false}
 use lib.Ieee.{Float, nan}
@@ -16,9 +16,7 @@ use Rattle.models.specs.Records.{customerOf}
 use Rattle.evaluation.specs.Tables.{demandsOf, askedF}
 use Rattle.evaluation.proofs.Demands.{asked}
 use Rattle.stretch.specs.Stretch.{placeOf}
-use Rattle.stretch.specs.Tariff.{Tariff}
 use Rattle.ga.specs.Split.{lent, planBy, splitF, LegsOf}
-use Rattle.stretch.proofs.Along.{Along}
 
 -- ---- lists written from the front
 
@@ -101,25 +99,4 @@ legs-from leg calls ins backs i st xs ys es ex ey L =
       backs-long = omega (arith, length-drop i calls, length-drop i backs, L .backs-long);
       ins-are = λ k h. let e : i + suc k ≡ suc (i + k) = omega arith in simp (getD-drop, e) (L .ins-are (i + k) (omega (arith, length-drop i calls)));
       backs-are = λ k h. simp getD-drop (L .backs-are (i + k) (omega (arith, length-drop i calls)));
-    }
-
--- the part of a list of 128 from i on
-pub part-from : (l : List Float) (i : ℕ) → length l ≡ 128 → take (128 - i) (drop i l) ≡ drop i l
-part-from l i e = take-all (128 - i) (drop i l) (omega (arith, length-drop i l))
-
--- ---- the row
-
--- the place that the loop does not keep is that after the calls so far
-pub at-place : {T : Tariff} {st : List ℕ} {i : ℕ} {costs fars : List Float} {preds : List ℕ} {base before : Float} {cost far : List Float} {pred : List ℕ} {load : ℕ} {gone : Float} {prev m : ℕ}
-    → Along T st i costs fars preds base before cost far pred load gone prev m → Along T st i costs fars preds base before cost far pred load gone (placeOf st m) m
-at-place A =
-    record {
-      is-base = A .is-base;
-      is-before = A .is-before;
-      within = A .within;
-      is-load = A .is-load;
-      fits = A .fits;
-      is-gone = A .is-gone;
-      is-prev = refl;
-      filling = A .filling;
     }

@@ -1,5 +1,3 @@
--- Numbers in order, whatever they are.
-pub mod LessThan
 -- What is gathered once for a cut by capacity alone.
 pub mod Gathered
 -- From the table to the cut, and to the answer.
@@ -7,12 +5,5 @@ pub mod Cutting
 pub mod Answering
 -- The calls that are too heavy, removed.
 pub mod Sorting
--- Rows that are filled again.
-pub mod Noting
-pub mod Refilling
-pub mod Clearing
-pub mod Again
--- The calls that cannot be cut, dropped.
-pub mod Settling
-pub mod Turns
+-- From the calls that stay to their cut.
 pub mod Stayed

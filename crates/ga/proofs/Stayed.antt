@@ -1,5 +1,5 @@
 -- From the table of the calls that stay to their cut. Assumes nothing.
-use Prim.Native.Nat.{ℕ, _≤_}
+use Prim.Native.Nat.{ℕ, _+_, _≤_}
 use native.Mathlib.Omega.{arith}
 use mathlib.Core.Path.{_≡_, refl, sym, ap, subst, _∙_}
 use mathlib.Core.Bool.{false}
@@ -13,11 +13,13 @@ use Rattle.cutting.specs.Tab.{cells}
 use Rattle.definitions.specs.Room.{written}
 use Rattle.whole.specs.Whole.{fl}
 use Rattle.models.specs.declared.customer.Customer.{Customer}
-use Rattle.models.specs.declared.limits.RouteLimits.{RouteLimits}
+use Rattle.evaluation.specs.Records as Evaluation
+use Rattle.stretch.specs.declared.terms.Terms.{Terms}
 use Rattle.stretch.specs.Tariff.{TableOf, CutDone}
-use Rattle.stretch.specs.Runs.{Instance, lent, tariff}
+use Rattle.stretch.specs.Runs.{Instance, over, tariff}
 use Rattle.ga.specs.SplitTw.{Settled}
-use Rattle.ga.specs.Refill.{Stayed, Unfilled, ListsOf, SomeLists, Holds}
+use Rattle.holding.specs.Drops.{dropsF}
+use Rattle.holding.specs.Refill.{Stayed, Unfilled, ListsOf, SomeLists, Holds}
 use Rattle.table.proofs.Writing.{front-written}
 use Rattle.ga.proofs.Cutting.{table-falls, table-cut}
 
@@ -27,12 +29,12 @@ module _ (distances times : List Float) (size : ℕ) (codes : List ℕ) (figures
   unfolding SomeLists
   worked = (customers, W)
 
-  pub stayed-of : (capacity : ℕ) (fixed : Float) (limits : RouteLimits) (calls tour dropped : List ℕ) (n : ℕ) (hs dropped' : List ℕ) (cost far : List Float) (pred : List ℕ) → calls ≡ tour
-      → Holds distances times size codes figures capacity fixed limits calls dropped n hs dropped' cost far pred
-      → Stayed (lent customers distances times size capacity fixed limits) tour dropped n hs dropped' cost far pred
+  pub stayed-of : (terms : Terms) (calls tour dropped : List ℕ) (n : ℕ) (hs dropped' : List ℕ) (cost far : List Float) (pred : List ℕ) → calls ≡ tour
+      → Holds distances times size codes figures terms calls dropped n hs dropped' cost far pred
+      → Stayed (over (Evaluation.lent customers distances times size) terms) tour dropped n hs dropped' cost far pred
   unfolding Holds
-  stayed-of capacity fixed limits calls tour dropped n hs dropped' cost far pred e H =
-      subst (λ (l : List ℕ). Stayed (lent customers distances times size capacity fixed limits) l dropped n hs dropped' cost far pred) e (H customers W)
+  stayed-of terms calls tour dropped n hs dropped' cost far pred e H =
+      subst (λ (l : List ℕ). Stayed (over (Evaluation.lent customers distances times size) terms) l dropped n hs dropped' cost far pred) e (H customers W)
 
 module _ (I : Instance) (tour dropped : List ℕ) (n : ℕ) (hs dropped' : List ℕ) (cost far : List Float) (pred : List ℕ) (few : n ≤ 128) (long : n ≤ length hs)
     (S : Stayed I tour dropped n hs dropped' cost far pred) where
@@ -73,3 +75,8 @@ unfilled x z d ex ez ed = (rw (ex, ez) refl, rw ed refl, refl)
 -- the tour, written at the front
 pub tour-front : (tour held₀ held : List ℕ) → held ≡ written tour held₀ → take (length tour) held ≡ tour
 tour-front tour held₀ held e = ap (take (length tour)) e ∙ front-written tour held₀
+
+-- each call of the tour is held or dropped
+pub each-counted : (I : Instance) (tour : List ℕ) (n : ℕ) (cost distance : Float) (at : ℕ) (hs es : List ℕ) → Settled I tour n cost distance at hs es
+    → length (dropsF I tour .held) + length (dropsF I tour .dropped) ≡ length tour
+each-counted I tour n cost distance at hs es S = omega (arith, S .held-count, S .dropped-count, S .few)

@@ -17,7 +17,7 @@ use evaluation::schedule::record_index;
 use models::customer::Customer;
 use models::load::fits;
 use models::load::wide;
-use stretch::way::joined;
+use stretch::way::way_to;
 use table::cells::offer;
 use table::cells::read_back;
 use table::held::write_front;
@@ -46,57 +46,8 @@ fn write_legs(
     }
 }
 
-// The leg into a call of a run: from the depot into the first, and else from the call before it.
-pub fn leg_in(out: f64, leg: f64, first: bool) -> f64
-    ensures { λ r. ⌜ r ≡ cond first out leg ⌝ }
-{
-    if first { out } else { leg }
-}
-
-// Row i: the runs along the stretch that starts at call i, each after the best of the calls before it.
+// Row i: the runs along the stretch that starts at call i, each after the best of the calls before it. Where these cannot be cut there is nothing to do.
 pub fn row(
-    cost: &mut [f64; 129],
-    dist: &mut [f64; 129],
-    pred: &mut [usize; 129],
-    stretch: &[usize],
-    demands: &[u32],
-    ins: &[f64],
-    backs: &[f64],
-    distances: &[f64],
-    size: usize,
-    capacity: u32,
-    fixed: f64,
-    i: usize,
-)
-    requires { ⌜ (length (now cost) ≡ 129) × (length (now dist) ≡ 129) × (length (now pred) ≡ 129) ⌝ }
-    requires { ⌜ (i + length (now stretch) ≤ 128) × (length (now demands) ≡ 64) ⌝ }
-    requires { ⌜ LegsOf (lookupF (now distances) size) (now stretch) (now ins) (now backs) ⌝ }
-    ensures { λ _. ⌜ RowOf (tariffBy (askedF (now (demands .entry))) (now (distances .entry)) size capacity fixed) (now (stretch .entry)) i (now (cost .entry)) (now (dist .entry)) (now (pred .entry)) (now (cost .exit)) (now (dist .exit)) (now (pred .exit)) ⌝ }
-{
-    let base = cost[i] + fixed;
-    let before = dist[i];
-    let out = get(distances, size, 0, call_at(stretch, 0));
-    let mut load: u64 = 0;
-    let mut gone = 0.0;
-    let mut m = 0;
-    while m < stretch.len() {
-        let index = record_index(stretch[m]);
-        load += wide(demands[index]);
-        if !fits(load, capacity) {
-            return;
-        }
-        let first = m == 0;
-        gone = joined(gone, leg_in(out, ins[m], first), first);
-        let total = gone + backs[m];
-        m += 1;
-        let new = base + total;
-        let far = before + total;
-        offer(&mut *cost, &mut *dist, &mut *pred, i + m, i, new, far);
-    }
-}
-
-// Row i where the calls before i can be cut at all; else there is nothing to do.
-pub fn reached_row(
     cost: &mut [f64; 129],
     dist: &mut [f64; 129],
     pred: &mut [usize; 129],
@@ -118,20 +69,25 @@ pub fn reached_row(
     if cost[i] == infinity() {
         return;
     }
-    row(
-        &mut *cost,
-        &mut *dist,
-        &mut *pred,
-        stretch,
-        demands,
-        ins,
-        backs,
-        distances,
-        size,
-        capacity,
-        fixed,
-        i,
-    );
+    let base = cost[i] + fixed;
+    let before = dist[i];
+    let out = get(distances, size, 0, call_at(stretch, 0));
+    let mut load: u64 = 0;
+    let mut gone = 0.0;
+    let mut m = 0;
+    while m < stretch.len() {
+        let index = record_index(stretch[m]);
+        load += wide(demands[index]);
+        if !fits(load, capacity) {
+            return;
+        }
+        gone = way_to(ins, out, gone, m);
+        let total = gone + backs[m];
+        m += 1;
+        let new = base + total;
+        let far = before + total;
+        offer(&mut *cost, &mut *dist, &mut *pred, i + m, i, new, far);
+    }
 }
 
 // Every row, in order.
@@ -155,7 +111,7 @@ pub fn rows(
     write_legs(held, distances, size, &mut ins, &mut backs);
     let mut i: usize = 0;
     while i < held.len() {
-        reached_row(
+        row(
             &mut *cost,
             &mut *dist,
             &mut *pred,

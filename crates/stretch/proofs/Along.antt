@@ -1,13 +1,12 @@
 -- Row i, call by call: what the loop keeps after m calls of the stretch that starts at call i. Assumes nothing.
 use Prim.Native.Nat.{ℕ, suc, _+_, _-_, _<_, _≤_}
-use native.Mathlib.Nat.{add-zero, le-refl}
+use native.Mathlib.Nat.{add-zero}
 use native.Mathlib.Numerals.{add-one}
 use native.Mathlib.Omega.{arith}
 use mathlib.Core.Path.{_≡_, refl, sym, ap, subst, _∙_}
 use mathlib.Core.Bool.{Bool, true, false, _&&_, and-false, false≢true}
 use mathlib.Core.List.{List, _∷_}
-use lib.ListN.{length, getD, take, drop, length-drop}
-use lib.Seq.{take-all}
+use lib.ListN.{length, getD, drop}
 use lib.Dec.{eqb}
 use borrow.Author.Tests.{leb-true, leb-false}
 use lib.Ieee.{Float, nan, inf, fin, binary64, add, eq, lt}
@@ -34,6 +33,21 @@ pub record Along (T : Tariff) (st : List ℕ) (i : ℕ) (costs fars : List Float
   pub is-prev : prev ≡ placeOf st m
   pub filling : Filling (runsOf T (λ _. st)) (farsOf T (λ _. st)) i costs fars preds (i + m) cost far pred
 
+-- the place is that of the first m calls
+pub in-place : {T : Tariff} {st : List ℕ} {i : ℕ} {costs fars : List Float} {preds : List ℕ} {base before : Float} {cost far : List Float} {pred : List ℕ} {load : ℕ} {gone : Float} {prev m : ℕ}
+    → Along T st i costs fars preds base before cost far pred load gone prev m → Along T st i costs fars preds base before cost far pred load gone (placeOf st m) m
+in-place A =
+    record {
+      is-base = A .is-base;
+      is-before = A .is-before;
+      within = A .within;
+      is-load = A .is-load;
+      fits = A .fits;
+      is-gone = A .is-gone;
+      is-prev = refl;
+      filling = A .filling;
+    }
+
 module _ (T : Tariff) (st : List ℕ) (i : ℕ) (costs fars : List Float) (preds : List ℕ) (base before : Float) where
   -- before the first call
   pub setout : (gone : Float) → gone ≡ fl 0 → length costs ≡ cells → length fars ≡ cells → length preds ≡ cells
@@ -59,10 +73,6 @@ module _ (T : Tariff) (st : List ℕ) (i : ℕ) (costs fars : List Float) (preds
 
     ended : ((k : ℕ) → m < k → legalOf T st k ≡ false) → Done
     ended z = finished (runsOf T (λ _. st)) (farsOf T (λ _. st)) i costs fars preds (i + m) cost far pred (A .filling) (λ k h. z (k - i) (omega arith))
-
-    -- the place is that of the first m calls
-    pub in-place : Along T st i costs fars preds base before cost far pred load gone (placeOf st m) m
-    in-place = subst (λ (p : ℕ). Along T st i costs fars preds base before cost far pred load gone p m) (A .is-prev) A
 
     -- a call that ends the row
     pub stopped : m < length st → Ended T st m → Done
@@ -160,10 +170,6 @@ unreached T st i costs fars preds top t e lc lf lp =
     skipped (runsOf T (λ _. st)) (farsOf T (λ _. st)) i costs fars preds (strict (priceOf T (λ _. st))) (not-reached (getD costs i nan) (rw t at e)) lc lf lp
 
 -- ---- the rows of the calls held
-
--- the part that is lent to row i
-pub lent-part : (held : List ℕ) (i : ℕ) → take (length held - i) (drop i held) ≡ drop i held
-lent-part held i = take-all (length held - i) (drop i held) (simp length-drop (le-refl _))
 
 -- a row along the stretch from i on is the row i of the calls held
 pub held-row : (T : Tariff) (held st : List ℕ) (i : ℕ) (costs fars : List Float) (preds : List ℕ) (cost far : List Float) (pred : List ℕ) → st ≡ drop i held

@@ -6,8 +6,8 @@ use mathlib.Core.Option.{Option}
 use lib.ListN.{length}
 use lib.Ieee.{Float}
 use Rattle.definitions.specs.Sheet.{BreakOf}
-use Rattle.models.specs.declared.limits.RouteLimits.{RouteLimits}
 use Rattle.evaluation.specs.Records.{Tables}
+use Rattle.stretch.specs.declared.terms.Terms.{Terms}
 use Rattle.stretch.specs.Stops.{WorkedOut, LegsAre}
 use Rattle.stretch.specs.Runs.{overBy, Rowed}
 
@@ -18,9 +18,9 @@ pub record Going (st : List ℕ) (legs times : List Float) (codes : List ℕ) (f
   pub keeps : (t : Tables) → WorkedOut t codes figures → LegsAre t st legs times → Keeps t
 
 -- breaks that are the same have the same rows
-pub same-break : (o o' : Option (BreakOf Float)) → o ≡ o' → (capacity : ℕ) (fixed : Float) (limits : RouteLimits) (st : List ℕ) (legs times : List Float) (codes : List ℕ) (figures : List Float)
+pub same-break : (o o' : Option (BreakOf Float)) → o ≡ o' → (terms : Terms) (st : List ℕ) (legs times : List Float) (codes : List ℕ) (figures : List Float)
     (i : ℕ) (cost dist : List Float) (pred : List ℕ) (cost' dist' : List Float) (pred' : List ℕ) (r : ℕ)
-    → Rowed (λ t. overBy t capacity fixed limits o) st legs times codes figures i cost dist pred cost' dist' pred' r
-    → Rowed (λ t. overBy t capacity fixed limits o') st legs times codes figures i cost dist pred cost' dist' pred' r
-same-break o o' e capacity fixed limits st legs times codes figures i cost dist pred cost' dist' pred' r R =
-    subst (λ (x : Option (BreakOf Float)). Rowed (λ t. overBy t capacity fixed limits x) st legs times codes figures i cost dist pred cost' dist' pred' r) e R
+    → Rowed (λ t. overBy t terms o) st legs times codes figures i cost dist pred cost' dist' pred' r
+    → Rowed (λ t. overBy t terms o') st legs times codes figures i cost dist pred cost' dist' pred' r
+same-break o o' e terms st legs times codes figures i cost dist pred cost' dist' pred' r R =
+    subst (λ (x : Option (BreakOf Float)). Rowed (λ t. overBy t terms x) st legs times codes figures i cost dist pred cost' dist' pred' r) e R

@@ -1,18 +1,16 @@
 -- A run's price and whether it is legal turn on its own calls alone: stretches that begin alike have the same runs as far as they are alike, and so have calls held that begin alike. Assumes nothing.
 use Prim.Native.Nat.{ℕ, zero, suc, _+_, _-_, _<_, _≤_}
-use native.Mathlib.Nat.{le-refl, add-zero, add-suc}
+use native.Mathlib.Nat.{le-refl}
 use native.Mathlib.Omega.{arith}
 use mathlib.Core.Path.{_≡_, refl, sym, ap, _∙_}
-use mathlib.Core.Bool.{true}
-use mathlib.Core.List.{List, [], _∷_}
+use mathlib.Core.List.{List}
 use mathlib.Core.Option.{Option, none, some}
-use lib.ListN.{length, take, drop, length-append, take-append-drop, length-drop}
-use lib.Seq.{length-take-le, take-take, take-nil}
+use lib.ListN.{length, take, drop, length-drop}
+use lib.Seq.{length-take-le}
 use lib.Dec.{leb}
 use lib.Ieee.{Float}
-use borrow.Author.Tests.{leb-true, le-leb}
 use Rattle.basics.specs.Tests.{same-test}
-use Rattle.basics.specs.Lists.{without}
+use Rattle.basics.specs.Parts.{parts-alike, shorter, long-alike}
 use Rattle.cutting.specs.Rows.{rule64}
 use Rattle.definitions.specs.Sheet.{BreakOf}
 use Rattle.evaluation.specs.Records.{Tables}
@@ -21,31 +19,6 @@ use Rattle.stretch.specs.Stretch.{fitsOf, goneOf, wayOf}
 use Rattle.stretch.specs.Tariff.{Tariff, stretches, legalOf, farOf, runsOf, farsOf, Ended}
 use Rattle.stretch.specs.Runs.{Instance, tariff, clockOf, endOf, allowedF, payF}
 use Rattle.stretch.proofs.Alike.{call-alike, place-alike, load-alike, timed-alike}
-
--- ---- lists that begin alike
-
-module _ {A : Type 0} where
-  -- a part of a list lies in its beginning
-  take-drop : (i m : ℕ) (l : List A) → take m (drop i l) ≡ drop i (take (m + i) l)
-  take-drop zero m l = ap (λ (n : ℕ). take n l) (sym (add-zero m))
-  take-drop (suc i) m [] = take-nil m ∙ sym (ap (drop (suc i)) (take-nil (m + suc i)))
-  take-drop (suc i) m (x ∷ l) = take-drop i m l ∙ ap (λ (n : ℕ). drop (suc i) (take n (x ∷ l))) (sym (add-suc m i))
-
-  pub parts-alike : (q : ℕ) (l l' : List A) → take q l ≡ take q l' → (i m : ℕ) → m + i ≤ q → take m (drop i l) ≡ take m (drop i l')
-  parts-alike q l l' e i m h =
-      take-drop i m l ∙ ap (drop i) (sym (take-take (m + i) q l h) ∙ ap (take (m + i)) e ∙ take-take (m + i) q l' h) ∙ sym (take-drop i m l')
-
-  -- a list without an element is as before up to it
-  pub without-alike : (q : ℕ) (l : List A) → take q (without q l) ≡ take q l
-  without-alike q [] = refl
-  without-alike zero (x ∷ l) = refl
-  without-alike (suc q) (x ∷ l) = ap (λ (m : List A). x ∷ m) (without-alike q l)
-
-  shorter : (m : ℕ) (l : List A) → length (take m l) ≤ length l
-  shorter m l = omega (arith, ap length (take-append-drop m l), length-append (take m l) (drop m l))
-
-  long-alike : (m : ℕ) (l l' : List A) → take m l ≡ take m l' → leb m (length l) ≡ true → leb m (length l') ≡ true
-  long-alike m l l' e t = le-leb m (length l') (omega (arith, length-take-le m l (leb-true m (length l) t), ap length e, shorter m l'))
 
 -- ---- stretches that begin alike
 

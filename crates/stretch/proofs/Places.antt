@@ -13,13 +13,13 @@ use lib.Dec.{eqb}
 use lib.Ieee.{Float, nan}
 use borrow.Author.Tests.{eqb-true, eqb-false, lt-ltb}
 use Rattle.basics.specs.Tests.{by-test}
-use Rattle.definitions.specs.Sheet.{WindowOf}
+use Rattle.definitions.specs.Sheet.{WindowOf, CustomerOf}
 use Rattle.models.specs.declared.customer.Customer.{Customer}
 use Rattle.models.specs.Records.{customerOf}
 use Rattle.evaluation.specs.Records.{Tables, lent}
 use Rattle.evaluation.specs.Tables.{recordIndex, distanceF, timeF}
 use Rattle.evaluation.proofs.Reading.{read-record}
-use Rattle.stretch.specs.Stops.{StopF, openingAt, penaltyAt, code, timesIn, priceIn, codesOf, figuresOf, stopIn, stopAt, WorkedOut}
+use Rattle.stretch.specs.Stops.{StopF, openingAt, penaltyAt, code, timesIn, priceIn, codesOf, recordFigures, figuresOf, stopIn, stopAt, WorkedOut}
 
 -- ---- a run of stores
 
@@ -48,33 +48,42 @@ penalty-back (some p) = refl
 
 -- ---- a place that is put
 
--- its numbers stored one after the other
-module _ (s : StopF) (i : ℕ) where
-  pub codes-stored : (l : List ℕ) (a b : ℕ) → a ≡ code (s .customer .window) → b ≡ code (s .customer .penalty)
-      → set (set (set l i (s .customer .demand)) (i + 1) a) (i + 2) b ≡ sets l i (codesOf s)
+-- the numbers of its record, stored one after the other
+module _ (x : CustomerOf Float) (i : ℕ) where
+  pub codes-stored : (l : List ℕ) (a b : ℕ) → a ≡ code (x .window) → b ≡ code (x .penalty) → set (set (set l i (x .demand)) (i + 1) a) (i + 2) b ≡ sets l i (codesOf x)
   unfolding codesOf
   codes-stored l a b ea eb = let e : i + 2 ≡ suc (suc i) = omega arith in rw (ea, eb, add-one, e) refl
 
-  pub figures-stored : (l : List Float) (w : WindowOf Float) (p : Float) → w ≡ timesIn (s .customer .window) → p ≡ priceIn (s .customer .penalty)
-      → set (set (set (set (set (set (set (set l i (s .out)) (i + 1) (s .back)) (i + 2) (s .timeOut)) (i + 3) (s .timeBack)) (i + 4) (s .customer .service)) (i + 5) (w .ready)) (i + 6) (w .due)) (i + 7) p
-      ≡ sets l i (figuresOf s)
-  unfolding figuresOf
+  pub figures-stored : (l : List Float) (w : WindowOf Float) (p : Float) → w ≡ timesIn (x .window) → p ≡ priceIn (x .penalty)
+      → set (set (set (set l (i + 4) (x .service)) (i + 5) (w .ready)) (i + 6) (w .due)) (i + 7) p ≡ sets l (i + 4) (recordFigures x)
   figures-stored l w p ew ep =
-      let e2 : i + 2 ≡ suc (suc i) = omega arith in
-      let e3 : i + 3 ≡ suc (suc (suc i)) = omega arith in
-      let e4 : i + 4 ≡ suc (suc (suc (suc i))) = omega arith in
-      let e5 : i + 5 ≡ suc (suc (suc (suc (suc i)))) = omega arith in
-      let e6 : i + 6 ≡ suc (suc (suc (suc (suc (suc i))))) = omega arith in
-      let e7 : i + 7 ≡ suc (suc (suc (suc (suc (suc (suc i)))))) = omega arith in
-      rw (ew, ep, add-one, e2, e3, e4, e5, e6, e7) refl
+      let e5 : i + 5 ≡ suc (i + 4) = omega arith in
+      let e6 : i + 6 ≡ suc (suc (i + 4)) = omega arith in
+      let e7 : i + 7 ≡ suc (suc (suc (i + 4))) = omega arith in
+      rw (ew, ep, e5, e6, e7) refl
+
+-- the four figures before them
+pub legs-stored : (s : StopF) (i : ℕ) (l : List Float) → sets (set (set (set (set l i (s .out)) (i + 1) (s .back)) (i + 2) (s .timeOut)) (i + 3) (s .timeBack)) (i + 4) (recordFigures (s .customer)) ≡ sets l i (figuresOf s)
+unfolding figuresOf
+legs-stored s i l =
+    let e2 : i + 2 ≡ suc (suc i) = omega arith in
+    let e3 : i + 3 ≡ suc (suc (suc i)) = omega arith in
+    let e4 : i + 4 ≡ suc (suc (suc (suc i))) = omega arith in
+    rw (add-one, e2, e3, e4) refl
 
 module _ (codes : List ℕ) (figures : List Float) (c : ℕ) where
-  -- read, with what its window and penalty are
-  pub stop-read : (o : Option (WindowOf Float)) (p : Option Float)
+  -- its record is read, with what its window and penalty are
+  pub record-read : (o : Option (WindowOf Float)) (p : Option Float)
       → o ≡ openingAt (getD codes (3 * c + 1) 0) (getD figures (8 * c + 5) nan) (getD figures (8 * c + 6) nan) → p ≡ penaltyAt (getD codes (3 * c + 2) 0) (getD figures (8 * c + 7) nan)
+      → _≡_ {A = CustomerOf Float} (record { demand = getD codes (3 * c) 0; service = getD figures (8 * c + 4) nan; window = o; penalty = p }) (stopAt codes figures c .customer)
+  unfolding stopAt
+  record-read o p eo ep = rw (eo, ep, add-zero (3 * c)) refl
+
+  -- and the rest of it
+  pub stop-read : (x : CustomerOf Float) → x ≡ stopAt codes figures c .customer
       → _≡_ {A = StopF}
       (record {
-        customer = record { demand = getD codes (3 * c) 0; service = getD figures (8 * c + 4) nan; window = o; penalty = p };
+        customer = x;
         out = getD figures (8 * c) nan;
         back = getD figures (8 * c + 1) nan;
         timeOut = getD figures (8 * c + 2) nan;
@@ -82,10 +91,10 @@ module _ (codes : List ℕ) (figures : List Float) (c : ℕ) where
       })
       (stopAt codes figures c)
   unfolding stopAt
-  stop-read o p eo ep = rw (eo, ep, add-zero (3 * c), add-zero (8 * c)) refl
+  stop-read x e = rw (e, add-zero (8 * c)) refl
 
   -- three codes and eight figures make a stop
-  stop-of : (s : StopF) → ((j : ℕ) → j < 3 → getD codes (3 * c + j) 0 ≡ getD (codesOf s) j 0) → ((j : ℕ) → j < 8 → getD figures (8 * c + j) nan ≡ getD (figuresOf s) j nan)
+  stop-of : (s : StopF) → ((j : ℕ) → j < 3 → getD codes (3 * c + j) 0 ≡ getD (codesOf (s .customer)) j 0) → ((j : ℕ) → j < 8 → getD figures (8 * c + j) nan ≡ getD (figuresOf s) j nan)
       → stopAt codes figures c ≡ s
   unfolding stopAt codesOf figuresOf
   stop-of s n f =
@@ -102,20 +111,20 @@ module _ (codes : List ℕ) (figures : List Float) (c : ℕ) where
 
 module _ (codes : List ℕ) (figures : List Float) (c : ℕ) (s : StopF) where
   abbrev codes' : List ℕ
-  codes' = sets codes (3 * c) (codesOf s)
+  codes' = sets codes (3 * c) (codesOf (s .customer))
 
   abbrev figures' : List Float
   figures' = sets figures (8 * c) (figuresOf s)
 
   pub stop-put : length codes ≡ 192 → length figures ≡ 512 → c < 64 → stopAt codes' figures' c ≡ s
   stop-put lc lf h =
-      stop-of codes' figures' c s (λ j k. sets-in 0 (codesOf s) codes (3 * c) j (unfold codesOf in omega arith) (unfold codesOf in k))
+      stop-of codes' figures' c s (λ j k. sets-in 0 (codesOf (s .customer)) codes (3 * c) j (unfold codesOf in omega arith) (unfold codesOf in k))
       (λ j k. sets-in nan (figuresOf s) figures (8 * c) j (unfold figuresOf in omega arith) (unfold figuresOf in k))
 
   pub stop-kept : (k : ℕ) → k ≢ c → stopAt codes' figures' k ≡ stopAt codes figures k
   unfolding codesOf figuresOf
   stop-kept k h =
-      same-stop codes figures k codes' figures' (λ j b. sets-out 0 (codesOf s) codes (3 * c) (3 * k + j) (λ x y. h (omega arith)))
+      same-stop codes figures k codes' figures' (λ j b. sets-out 0 (codesOf (s .customer)) codes (3 * c) (3 * k + j) (λ x y. h (omega arith)))
       (λ j b. sets-out nan (figuresOf s) figures (8 * c) (8 * k + j) (λ x y. h (omega arith)))
 
 -- ---- every place
@@ -128,11 +137,11 @@ pub record Worked (t : Tables) (codes : List ℕ) (figures : List Float) (n : �
 
 -- one more is put
 pub worked-more : (t : Tables) (codes : List ℕ) (figures : List Float) (n : ℕ) (s : StopF) (codes' : List ℕ) (figures' : List Float)
-    → Worked t codes figures n → n < 64 → s ≡ stopIn t n → codes' ≡ sets codes (3 * n) (codesOf s) → figures' ≡ sets figures (8 * n) (figuresOf s) → Worked t codes' figures' (n + 1)
+    → Worked t codes figures n → n < 64 → s ≡ stopIn t n → codes' ≡ sets codes (3 * n) (codesOf (s .customer)) → figures' ≡ sets figures (8 * n) (figuresOf s) → Worked t codes' figures' (n + 1)
 worked-more t codes figures n s codes' figures' W h es ec ef =
     rw (ec, ef)
     (record {
-      codes-long = length-sets codes (3 * n) (codesOf s) ∙ W .codes-long;
+      codes-long = length-sets codes (3 * n) (codesOf (s .customer)) ∙ W .codes-long;
       figures-long = length-sets figures (8 * n) (figuresOf s) ∙ W .figures-long;
       stops-are =
           λ k b.

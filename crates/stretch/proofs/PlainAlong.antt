@@ -31,7 +31,7 @@ pub record PlainAlong (I : Instance) (st : List ℕ) (i : ℕ) (costs fars : Lis
 pub plain-setout : (I : Instance) (st : List ℕ) (i : ℕ) (costs fars : List Float) (preds : List ℕ) (base before gone time late : Float)
     → Along (tariff I) st i costs fars preds base before costs fars preds 0 gone 0 0 → time ≡ fl 0 → late ≡ fl 0 → PlainAlong I st i costs fars preds base before costs fars preds 0 gone time late 0
 unfolding timedOf
-plain-setout I st i costs fars preds base before gone time late A et el = record { along = in-place (tariff I) st i costs fars preds base before costs fars preds 0 gone 0 0 A; timed = rw (et, el) refl }
+plain-setout I st i costs fars preds base before gone time late A et el = record { along = in-place A; timed = rw (et, el) refl }
 
 module _ (I : Instance) (unbroken : I .limits .rest ≡ none) (st : List ℕ) (i : ℕ) (costs fars : List Float) (preds : List ℕ) (base before : Float)
     (cost far : List Float) (pred : List ℕ) (load : ℕ) (gone time late : Float) (m : ℕ)
@@ -81,7 +81,7 @@ module _ (I : Instance) (unbroken : I .limits .rest ≡ none) (st : List ℕ) (i
     next : (cost' far' : List Float) (pred' : List ℕ) → Along (tariff I) st i costs fars preds base before cost' far' pred' (load + d) gone' (getD st m 0) (m + 1) → Next cost' far' pred'
     next cost' far' pred' N =
         record {
-          along = in-place (tariff I) st i costs fars preds base before cost' far' pred' (load + d) gone' (getD st m 0) (m + 1) N;
+          along = in-place N;
           timed = ap (timedOf (I .tables) st) (add-one m) ∙ timed-is ∙ ev;
         }
 

@@ -1,6 +1,5 @@
 -- The runs along a stretch by windows, limits and break on floats, as the code has them: the clocks of a stretch, the price of a run, and what a row does. Definitions only.
-use Prim.Native.Nat.{ℕ, zero, suc, _-_, _≤_}
-use mathlib.Core.Path.{_≡_}
+use Prim.Native.Nat.{ℕ, zero, suc}
 use mathlib.Core.Bool.{Bool, cond}
 use mathlib.Core.List.{List, [], _∷_}
 use mathlib.Core.Option.{Option, none, some}
@@ -9,7 +8,6 @@ use lib.Dec.{eqb}
 use lib.Ieee as Ieee
 use lib.Ieee.{Float, binary64}
 use Rattle.basics.specs.Options.{_>>=_, holds}
-use Rattle.cutting.specs.Drop as Dropping
 use Rattle.definitions.specs.Sheet.{WindowOf, BreakOf, CustomerOf}
 use Rattle.models.specs.declared.customer.Customer.{Customer}
 use Rattle.models.specs.declared.limits.RouteLimits.{RouteLimits}
@@ -24,6 +22,7 @@ use Rattle.evaluation.specs.Clock.{begunF, finishF}
 use Rattle.evaluation.specs.Tables as Lookup
 use Rattle.evaluation.specs.Tables.{recordF, demandF, timeF}
 use Rattle.evaluation.specs.Schedule.{clockFromF}
+use Rattle.stretch.specs.declared.terms.Terms.{Terms}
 use Rattle.stretch.specs.declared.rows.Timed.{Timed}
 use Rattle.stretch.specs.declared.rows.Visited.{Visited}
 use Rattle.stretch.specs.declared.rows.Visited.the-variants.{Shut, Open}
@@ -40,21 +39,22 @@ pub record Instance : Type 0 where
   pub fixed : Float
   pub limits : LimitsF
 
--- over tables, with this break, whatever break the limits have
-abbrev pub overBy : Tables → ℕ → Float → RouteLimits → Option (BreakOf Float) → Instance
-overBy t capacity fixed limits rest =
+-- over tables and on these terms, with this break, whatever break the limits have
+abbrev pub overBy : Tables → Terms → Option (BreakOf Float) → Instance
+overBy t terms rest =
     record {
       tables = t;
-      capacity = capacity;
-      fixed = fixed;
-      limits = record { maxDistance = limitOf (limits .«max_distance»); maxDuration = limitOf (limits .«max_duration»); rest = rest };
+      capacity = terms .capacity;
+      fixed = terms .fixed;
+      limits = record { maxDistance = limitOf (terms .limits .«max_distance»); maxDuration = limitOf (terms .limits .«max_duration»); rest = rest };
     }
 
-abbrev pub over : Tables → ℕ → Float → RouteLimits → Instance
-over t capacity fixed limits = overBy t capacity fixed limits (restOf (limits .rest))
+abbrev pub over : Tables → Terms → Instance
+over t terms = overBy t terms (restOf (terms .limits .rest))
 
 abbrev pub lent : List Customer → List Float → List Float → ℕ → ℕ → Float → RouteLimits → Instance
-lent customers distances times size capacity fixed limits = over (Evaluation.lent customers distances times size) capacity fixed limits
+lent customers distances times size capacity fixed limits =
+    over (Evaluation.lent customers distances times size) (record { capacity = capacity; fixed = fixed; limits = limits })
 
 -- ---- a call without a break, reached at this time with so much lateness cost
 

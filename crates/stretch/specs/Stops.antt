@@ -52,14 +52,15 @@ abbrev pub priceIn : Option Float → Float
 priceIn none = fl 0
 priceIn (some p) = p
 
--- three codes (demand, window, penalty) and eight figures
-unfoldable pub codesOf : StopF → List ℕ
-codesOf s = s .customer .demand ∷ code (s .customer .window) ∷ code (s .customer .penalty) ∷ []
+-- a record as three codes (demand, window, penalty) and four figures, and a stop as these and four figures before them
+unfoldable pub codesOf : CustomerOf Float → List ℕ
+codesOf x = x .demand ∷ code (x .window) ∷ code (x .penalty) ∷ []
+
+abbrev pub recordFigures : CustomerOf Float → List Float
+recordFigures x = x .service ∷ timesIn (x .window) .ready ∷ timesIn (x .window) .due ∷ priceIn (x .penalty) ∷ []
 
 unfoldable pub figuresOf : StopF → List Float
-figuresOf s =
-    s .out ∷ s .back ∷ s .timeOut ∷ s .timeBack ∷ s .customer .service ∷ timesIn (s .customer .window) .ready ∷ timesIn (s .customer .window) .due ∷ priceIn (s .customer .penalty)
-    ∷ []
+figuresOf s = s .out ∷ s .back ∷ s .timeOut ∷ s .timeBack ∷ recordFigures (s .customer)
 
 -- what the lists hold of place c
 unfoldable pub stopAt : List ℕ → List Float → ℕ → StopF

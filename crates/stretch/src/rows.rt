@@ -1,22 +1,20 @@
 // Row i of the table of the cut by windows, limits and break (ga/split_tw.rs): the runs that start at call i.
 ghost use mathlib.Core.Path.{_≡_};
-ghost use mathlib.Core.Bool.{cond};
 ghost use mathlib.Core.Option.{none, some};
-ghost use Prim.Native.Nat.{_+_, _<_, _≤_};
-ghost use lib.Dec.{eqb};
-ghost use lib.Ieee.{nan};
-ghost use lib.ListN.{length, getD};
+ghost use Prim.Native.Nat.{_+_, _≤_};
+ghost use lib.ListN.{length};
 ghost use Rattle.models.specs.Records.{openingOf, penaltyOf, customerOf, breakOf};
 ghost use Rattle.stretch.specs.Runs.{visitedOf, enterF, visitF, overBy, over, Rowed};
 ghost use Rattle.stretch.specs.Stops.{Below64};
 use crate::stops::stop_at;
-use crate::way::joined;
+use crate::terms::Terms;
+use crate::way::leg_to;
+use crate::way::way_to;
 use evaluation::schedule::BreakClock;
 use evaluation::schedule::Finished;
 use models::customer::Customer;
 use models::customer::Opening;
 use models::customer::Penalty;
-use models::limits::RouteLimits;
 use models::load::fits;
 use models::load::wide;
 use models::vehicle::Rest;
@@ -74,14 +72,6 @@ pub fn visit(customer: Customer, time: f64, late_cost: f64) -> Visited
     })
 }
 
-// The leg to call number m of a stretch: from the depot to the first, and else from the call before it.
-fn leg_to(legs: &[f64], out: f64, m: usize) -> f64
-    requires { ⌜ m < length (now legs) ⌝ }
-    ensures { λ r. ⌜ r ≡ cond (eqb m 0) out (getD (now (legs .entry)) m nan) ⌝ }
-{
-    if m == 0 { out } else { legs[m] }
-}
-
 // Row i without a break: the runs along the stretch that starts at call i, each after the best of the calls before it. Gives how many calls the row goes over; no run that goes on from there is legal.
 pub fn plain_row(
     cost: &mut [f64; 129],
@@ -92,18 +82,16 @@ pub fn plain_row(
     time_legs: &[f64],
     codes: &[u32],
     figures: &[f64],
-    capacity: u32,
-    fixed: f64,
-    limits: RouteLimits,
+    terms: Terms,
     i: usize,
 ) -> usize
     requires { ⌜ (length (now cost) ≡ 129) × (length (now dist) ≡ 129) × (length (now pred) ≡ 129) ⌝ }
     requires { ⌜ (i + length (now stretch) ≤ 128) × Below64 (now stretch) ⌝ }
     requires { ⌜ (length (now stretch) ≤ length (now legs)) × (length (now stretch) ≤ length (now «time_legs»)) × (length (now codes) ≡ 192) × (length (now figures) ≡ 512) ⌝ }
-    ensures { λ r. ⌜ Rowed (λ t. overBy t capacity fixed limits none) (now (stretch .entry)) (now (legs .entry)) (now («time_legs» .entry)) (now (codes .entry)) (now (figures .entry)) i (now (cost .entry)) (now (dist .entry)) (now (pred .entry)) (now (cost .exit)) (now (dist .exit)) (now (pred .exit)) r ⌝ }
+    ensures { λ r. ⌜ Rowed (λ t. overBy t terms none) (now (stretch .entry)) (now (legs .entry)) (now («time_legs» .entry)) (now (codes .entry)) (now (figures .entry)) i (now (cost .entry)) (now (dist .entry)) (now (pred .entry)) (now (cost .exit)) (now (dist .exit)) (now (pred .exit)) r ⌝ }
     ensures { λ r. ⌜ r ≤ length (now (stretch .entry)) ⌝ }
 {
-    let base = cost[i] + fixed;
+    let base = cost[i] + terms.fixed;
     let before = dist[i];
     let mut load: u64 = 0;
     let mut gone = 0.0;
@@ -111,23 +99,21 @@ pub fn plain_row(
     let mut late_cost = 0.0;
     let mut m = 0;
     while m < stretch.len() {
-        let cid = stretch[m];
-        let stop = stop_at(codes, figures, cid);
-        let customer = stop.customer;
-        load += wide(customer.demand);
-        if !fits(load, capacity) {
+        let stop = stop_at(codes, figures, stretch[m]);
+        load += wide(stop.customer.demand);
+        if !fits(load, terms.capacity) {
             return m;
         }
-        gone = joined(gone, leg_to(legs, stop.out, m), m == 0);
-        let arrival = joined(time, leg_to(time_legs, stop.time_out, m), m == 0);
-        let Visited::Open(v) = visit(customer, arrival, late_cost) else {
+        gone = way_to(legs, stop.out, gone, m);
+        let arrival = way_to(time_legs, stop.time_out, time, m);
+        let Visited::Open(v) = visit(stop.customer, arrival, late_cost) else {
             return m;
         };
         time = v.time;
         late_cost = v.late_cost;
         m += 1;
         let total = gone + stop.back;
-        if !limits.allow(total, time + stop.time_back) {
+        if !terms.limits.allow(total, time + stop.time_back) {
             continue;
         }
         let new = base + total + late_cost;
@@ -147,19 +133,17 @@ pub fn rest_row(
     time_legs: &[f64],
     codes: &[u32],
     figures: &[f64],
-    capacity: u32,
-    fixed: f64,
-    limits: RouteLimits,
+    terms: Terms,
     rest: VehicleBreak,
     i: usize,
 ) -> usize
     requires { ⌜ (length (now cost) ≡ 129) × (length (now dist) ≡ 129) × (length (now pred) ≡ 129) ⌝ }
     requires { ⌜ (i + length (now stretch) ≤ 128) × Below64 (now stretch) ⌝ }
     requires { ⌜ (length (now stretch) ≤ length (now legs)) × (length (now stretch) ≤ length (now «time_legs»)) × (length (now codes) ≡ 192) × (length (now figures) ≡ 512) ⌝ }
-    ensures { λ r. ⌜ Rowed (λ t. overBy t capacity fixed limits (some (breakOf rest))) (now (stretch .entry)) (now (legs .entry)) (now («time_legs» .entry)) (now (codes .entry)) (now (figures .entry)) i (now (cost .entry)) (now (dist .entry)) (now (pred .entry)) (now (cost .exit)) (now (dist .exit)) (now (pred .exit)) r ⌝ }
+    ensures { λ r. ⌜ Rowed (λ t. overBy t terms (some (breakOf rest))) (now (stretch .entry)) (now (legs .entry)) (now («time_legs» .entry)) (now (codes .entry)) (now (figures .entry)) i (now (cost .entry)) (now (dist .entry)) (now (pred .entry)) (now (cost .exit)) (now (dist .exit)) (now (pred .exit)) r ⌝ }
     ensures { λ r. ⌜ r ≤ length (now (stretch .entry)) ⌝ }
 {
-    let base = cost[i] + fixed;
+    let base = cost[i] + terms.fixed;
     let before = dist[i];
     let mut load: u64 = 0;
     let mut gone = 0.0;
@@ -168,13 +152,12 @@ pub fn rest_row(
     while m < stretch.len() {
         let cid = stretch[m];
         let stop = stop_at(codes, figures, cid);
-        let customer = stop.customer;
-        load += wide(customer.demand);
-        if !fits(load, capacity) {
+        load += wide(stop.customer.demand);
+        if !fits(load, terms.capacity) {
             return m;
         }
-        gone = joined(gone, leg_to(legs, stop.out, m), m == 0);
-        clock = clock.push(cid, customer, leg_to(time_legs, stop.time_out, m));
+        gone = way_to(legs, stop.out, gone, m);
+        clock = clock.push(cid, stop.customer, leg_to(time_legs, stop.time_out, m));
         if !clock.alive() {
             return m;
         }
@@ -183,7 +166,7 @@ pub fn rest_row(
         let Finished::Home(done) = clock.finish(total, stop.time_back) else {
             continue;
         };
-        if !limits.allow(total, done.duration) {
+        if !terms.limits.allow(total, done.duration) {
             continue;
         }
         let new = base + total + done.cost;
@@ -203,17 +186,16 @@ pub fn row(
     time_legs: &[f64],
     codes: &[u32],
     figures: &[f64],
-    capacity: u32,
-    fixed: f64,
-    limits: RouteLimits,
+    terms: Terms,
     i: usize,
 ) -> usize
     requires { ⌜ (length (now cost) ≡ 129) × (length (now dist) ≡ 129) × (length (now pred) ≡ 129) ⌝ }
     requires { ⌜ (i + length (now stretch) ≤ 128) × Below64 (now stretch) ⌝ }
     requires { ⌜ (length (now stretch) ≤ length (now legs)) × (length (now stretch) ≤ length (now «time_legs»)) × (length (now codes) ≡ 192) × (length (now figures) ≡ 512) ⌝ }
-    ensures { λ r. ⌜ Rowed (λ t. over t capacity fixed limits) (now (stretch .entry)) (now (legs .entry)) (now («time_legs» .entry)) (now (codes .entry)) (now (figures .entry)) i (now (cost .entry)) (now (dist .entry)) (now (pred .entry)) (now (cost .exit)) (now (dist .exit)) (now (pred .exit)) r ⌝ }
+    ensures { λ r. ⌜ Rowed (λ t. over t terms) (now (stretch .entry)) (now (legs .entry)) (now («time_legs» .entry)) (now (codes .entry)) (now (figures .entry)) i (now (cost .entry)) (now (dist .entry)) (now (pred .entry)) (now (cost .exit)) (now (dist .exit)) (now (pred .exit)) r ⌝ }
     ensures { λ r. ⌜ r ≤ length (now (stretch .entry)) ⌝ }
 {
+    let limits = terms.limits;
     let rest = limits.rest;
     match rest {
         Rest::Unbroken => plain_row(
@@ -225,9 +207,7 @@ pub fn row(
             time_legs,
             codes,
             figures,
-            capacity,
-            fixed,
-            limits,
+            terms,
             i,
         ),
         Rest::Break(b) => rest_row(
@@ -239,9 +219,7 @@ pub fn row(
             time_legs,
             codes,
             figures,
-            capacity,
-            fixed,
-            limits,
+            terms,
             b,
             i,
         ),

@@ -1,14 +1,14 @@
 // What the cut reads of each place and leg (ga/split_tw.rs looks it up anew for every run), worked out once as lists of numbers: these can be lent to every row, where a table of records would be copied.
 ghost use mathlib.Core.Path.{_≡_};
-ghost use Prim.Native.Nat.{_*_, _<_, _≤_};
+ghost use Prim.Native.Nat.{_+_, _*_, _<_, _≤_};
 ghost use lib.ListN.{length};
 ghost use lib.Seq.{sets};
 ghost use Rattle.definitions.specs.Sheet.{timeTable};
 ghost use Rattle.distance.specs.Lookup.{lookupF};
-ghost use Rattle.models.specs.Records.{windowOf, openingOf, penaltyOf};
+ghost use Rattle.models.specs.Records.{windowOf, openingOf, penaltyOf, customerOf};
 ghost use Rattle.evaluation.specs.Records.{lent};
 ghost use Rattle.stretch.specs.Stretch.{placeOf};
-ghost use Rattle.stretch.specs.Stops.{openingAt, penaltyAt, code, timesIn, priceIn, codesOf, figuresOf, stopOf, stopAt, WorkedOut, LegsWritten};
+ghost use Rattle.stretch.specs.Stops.{openingAt, penaltyAt, code, timesIn, priceIn, codesOf, recordFigures, figuresOf, stopOf, stopAt, WorkedOut, LegsWritten};
 use distance::matrix::get;
 use distance::matrix::travel_time;
 use models::customer::Customer;
@@ -47,21 +47,29 @@ fn penalty_of(charged: u32, each: f64) -> Penalty
     }
 }
 
+// The record of place c, from the lists.
+fn customer_at(codes: &[u32], figures: &[f64], c: usize) -> Customer
+    requires { ⌜ (length (now codes) ≡ 192) × (length (now figures) ≡ 512) × (c < 64) ⌝ }
+    ensures { λ r. ⌜ customerOf r ≡ stopAt (now (codes .entry)) (now (figures .entry)) c .customer ⌝ }
+{
+    let k = 3 * c;
+    let f = 8 * c;
+    Customer {
+        demand: codes[k],
+        service_duration: figures[f + 4],
+        time_window: opening_of(codes[k + 1], figures[f + 5], figures[f + 6]),
+        lateness_penalty: penalty_of(codes[k + 2], figures[f + 7]),
+    }
+}
+
 // Place c, from the lists.
 pub fn stop_at(codes: &[u32], figures: &[f64], c: usize) -> Stop
     requires { ⌜ (length (now codes) ≡ 192) × (length (now figures) ≡ 512) × (c < 64) ⌝ }
     ensures { λ r. ⌜ stopOf r ≡ stopAt (now (codes .entry)) (now (figures .entry)) c ⌝ }
 {
-    let k = 3 * c;
     let f = 8 * c;
-    let customer = Customer {
-        demand: codes[k],
-        service_duration: figures[f + 4],
-        time_window: opening_of(codes[k + 1], figures[f + 5], figures[f + 6]),
-        lateness_penalty: penalty_of(codes[k + 2], figures[f + 7]),
-    };
     Stop {
-        customer,
+        customer: customer_at(codes, figures, c),
         out: figures[f],
         back: figures[f + 1],
         time_out: figures[f + 2],
@@ -112,13 +120,12 @@ fn penalty_price(penalty: Penalty) -> f64
     }
 }
 
-// Puts place c into the lists.
-pub fn put_stop(stop: Stop, c: usize, codes: &mut [u32; 192], figures: &mut [f64; 512])
+// Puts the record of place c into the lists.
+fn put_customer(customer: Customer, c: usize, codes: &mut [u32; 192], figures: &mut [f64; 512])
     requires { ⌜ c < 64 ⌝ }
-    ensures { λ _. ⌜ now (codes .exit) ≡ sets (now (codes .entry)) (3 * c) (codesOf (stopOf stop)) ⌝ }
-    ensures { λ _. ⌜ now (figures .exit) ≡ sets (now (figures .entry)) (8 * c) (figuresOf (stopOf stop)) ⌝ }
+    ensures { λ _. ⌜ now (codes .exit) ≡ sets (now (codes .entry)) (3 * c) (codesOf (customerOf customer)) ⌝ }
+    ensures { λ _. ⌜ now (figures .exit) ≡ sets (now (figures .entry)) (8 * c + 4) (recordFigures (customerOf customer)) ⌝ }
 {
-    let customer = stop.customer;
     let opening = customer.time_window;
     let penalty = customer.lateness_penalty;
     let times = opening_times(opening);
@@ -127,14 +134,24 @@ pub fn put_stop(stop: Stop, c: usize, codes: &mut [u32; 192], figures: &mut [f64
     codes[k + 1] = opening_code(opening);
     codes[k + 2] = penalty_code(penalty);
     let f = 8 * c;
-    figures[f] = stop.out;
-    figures[f + 1] = stop.back;
-    figures[f + 2] = stop.time_out;
-    figures[f + 3] = stop.time_back;
     figures[f + 4] = customer.service_duration;
     figures[f + 5] = times.ready;
     figures[f + 6] = times.due;
     figures[f + 7] = penalty_price(penalty);
+}
+
+// Puts place c into the lists.
+pub fn put_stop(stop: Stop, c: usize, codes: &mut [u32; 192], figures: &mut [f64; 512])
+    requires { ⌜ c < 64 ⌝ }
+    ensures { λ _. ⌜ now (codes .exit) ≡ sets (now (codes .entry)) (3 * c) (codesOf (stopOf stop .customer)) ⌝ }
+    ensures { λ _. ⌜ now (figures .exit) ≡ sets (now (figures .entry)) (8 * c) (figuresOf (stopOf stop)) ⌝ }
+{
+    let f = 8 * c;
+    figures[f] = stop.out;
+    figures[f + 1] = stop.back;
+    figures[f + 2] = stop.time_out;
+    figures[f + 3] = stop.time_back;
+    put_customer(stop.customer, c, &mut *codes, &mut *figures);
 }
 
 // Works out every place.

@@ -7,6 +7,7 @@ pub mod Value
 pub mod Later
 pub mod Infinity
 pub mod Order
+pub mod LessThan
 pub mod Monotone
 pub mod Integers
 pub mod Signed

@@ -1,4 +1,4 @@
--- `split::row` meets its contract. Assumes nothing.
+-- `split::row` meets its contract. A row whose start is not reached would win no cell. The loop's invariant is `Along`: after m calls of the stretch, load and way are those of the first m calls, and the cells up to i + m are as the row leaves them. The measure is what is left of the stretch. Assumes nothing.
 use Prim.Native.Nat.{ℕ, _-_}
 use mathlib.Core.Path.{_≡_, refl, sym, ap, _∙_}
 use lib.ListN.{length, getD}
@@ -10,8 +10,8 @@ use Rattle.stretch.specs.Stretch.{placeOf}
 use Rattle.evaluation.specs.Tables.{askedF}
 use Rattle.ga.specs.Split.{tariffBy}
 use Rattle.stretch.proofs.Branches.{fails, holds}
-use Rattle.stretch.proofs.Along.{Along, setout, overfull, at-end, onward}
-use Rattle.ga.proofs.Gathered.{leg-into, at-place}
+use Rattle.stretch.proofs.Along.{Along, setout, in-place, overfull, at-end, onward, unreached}
+use Rattle.ga.proofs.Gathered.{leg-into}
 use Rattle.ga.proofs.split.row.Statement.{statement}
 use Rattle.ga.proofs.split.row.Tie as tie
 
@@ -23,6 +23,21 @@ Inv-loop cost₀ dist₀ pred₀ stretch demands ins backs distances size capaci
 abbrev μ-loop : tie.MeasureT-loop
 μ-loop cost₀ dist₀ pred₀ stretch demands ins backs distances size capacity fixed i base before out load₀ gone₀ m₀ cost dist pred load gone m =
     length stretch - m
+
+mul-if1 : tie.Need-mul-if1 Inv-loop μ-loop
+mul-if1 c = search needs
+
+element-copy-out-if1 : tie.Need-element-copy-out-if1 Inv-loop μ-loop
+element-copy-out-if1 c = search needs
+
+infinity-requires : tie.Need-infinity-requires Inv-loop μ-loop
+infinity-requires c κs = search needs
+
+returns : tie.Need-returns Inv-loop μ-loop
+returns c =
+    let s = c .before .before .before .before .before .before .before .before in
+    let a = s .args in
+    unreached (tariffBy (askedF (now (a .demands))) (now (a .distances)) (a .size) (a .capacity) (a .fixed)) (now (a .stretch)) (a .i) (now (a .cost)) (now (a .dist)) (now (a .pred)) _ (c .before .infinity .ensures) (c .if1 .taken) (s .pre .0 .0) (s .pre .0 .1) (s .pre .0 .2)
 
 mul-base : tie.Need-mul-base Inv-loop μ-loop
 mul-base c = search needs
@@ -44,9 +59,9 @@ get-requires c κs = search needs
 
 loop-holds : tie.Need-loop-holds Inv-loop μ-loop
 loop-holds c =
-    let a = c .before .before .before .before .before .before .before .before .before .args in
+    let a = c .before .before .before .before .before .before .before .before .before .before .before .before .args in
     let T = tariffBy (askedF (now (a .demands))) (now (a .distances)) (a .size) (a .capacity) (a .fixed) in
-    (c .get .ensures ∙ ap (lookupF (now (a .distances)) (a .size) 0) (c .before .call-at .ensures), at-place (setout T (now (a .stretch)) (a .i) (now (a .cost)) (now (a .dist)) (now (a .pred)) _ _ _ (sym fl-zero) (c .before .before .before .before .before .before .before .before .before .pre .0 .0) (c .before .before .before .before .before .before .before .before .before .pre .0 .1) (c .before .before .before .before .before .before .before .before .before .pre .0 .2) refl refl))
+    (c .get .ensures ∙ ap (lookupF (now (a .distances)) (a .size) 0) (c .before .call-at .ensures), in-place (setout T (now (a .stretch)) (a .i) (now (a .cost)) (now (a .dist)) (now (a .pred)) _ _ _ (sym fl-zero) (c .before .before .before .before .before .before .before .before .before .before .before .before .pre .0 .0) (c .before .before .before .before .before .before .before .before .before .before .before .before .pre .0 .1) (c .before .before .before .before .before .before .before .before .before .before .before .before .pre .0 .2) refl refl))
 
 mul-record-index : tie.Need-mul-record-index Inv-loop μ-loop
 mul-record-index c = search needs
@@ -72,23 +87,14 @@ add-load c = search needs
 fits-requires : tie.Need-fits-requires Inv-loop μ-loop
 fits-requires c κs = search needs
 
-returns : tie.Need-returns Inv-loop μ-loop
-returns c =
-    let a = c .before .before .before .before .before .before .before .before .before .before .before .before .before .before .before .before .before .args in
+returns-2 : tie.Need-returns-2 Inv-loop μ-loop
+returns-2 c =
+    let a = c .before .before .before .before .before .before .before .before .before .before .before .before .before .before .before .before .before .before .before .before .args in
     let T = tariffBy (askedF (now (a .demands))) (now (a .distances)) (a .size) (a .capacity) (a .fixed) in
-    overfull T (now (a .stretch)) (a .i) (now (a .cost)) (now (a .dist)) (now (a .pred)) _ _ _ _ _ _ _ _ _ (c .before .before .before .before .before .before .before .loop .inv .1) _ (c .before .before .wide .ensures .0 ∙ ap (λ (j : ℕ). getD (now (a .demands)) j 0) (c .before .before .before .before .record-index .ensures .0)) (fails _ _ (c .before .fits2 .ensures) (c .if1 .taken))
+    overfull T (now (a .stretch)) (a .i) (now (a .cost)) (now (a .dist)) (now (a .pred)) _ _ _ _ _ _ _ _ _ (c .before .before .before .before .before .before .before .loop .inv .1) _ (c .before .before .wide .ensures .0 ∙ ap (λ (j : ℕ). getD (now (a .demands)) j 0) (c .before .before .before .before .record-index .ensures .0)) (fails _ _ (c .before .fits2 .ensures) (c .if2 .taken))
 
-mul-leg-in : tie.Need-mul-leg-in Inv-loop μ-loop
-mul-leg-in c = search needs
-
-shared-slice-read-leg-in : tie.Need-shared-slice-read-leg-in Inv-loop μ-loop
-shared-slice-read-leg-in c = search needs
-
-leg-in-requires : tie.Need-leg-in-requires Inv-loop μ-loop
-leg-in-requires c κs = search needs
-
-joined-requires : tie.Need-joined-requires Inv-loop μ-loop
-joined-requires c κs = search needs
+way-to-requires : tie.Need-way-to-requires Inv-loop μ-loop
+way-to-requires c κs = search needs
 
 mul-total : tie.Need-mul-total Inv-loop μ-loop
 mul-total c = search needs
@@ -110,19 +116,19 @@ loop-less c = search needs
 
 loop-again : tie.Need-loop-again Inv-loop μ-loop
 loop-again c =
-    let a = c .before .before .before .before .before .before .before .before .before .before .before .before .before .before .before .before .before .before .before .before .before .before .before .before .before .args in
+    let a = c .before .before .before .before .before .before .before .before .before .before .before .before .before .before .before .before .before .before .before .before .before .before .before .before .before .before .args in
     let T = tariffBy (askedF (now (a .demands))) (now (a .distances)) (a .size) (a .capacity) (a .fixed) in
-    let L = c .before .before .before .before .before .before .before .before .before .before .before .before .before .before .before .before .before .before .before .before .before .before .before .before .before .pre .1 .1 in
-    let in-is = c .before .before .before .before .before .before .leg-in .ensures ∙ leg-into (lookupF (now (a .distances)) (a .size)) (now (a .stretch)) (now (a .ins)) (now (a .backs)) _ _ L (c .before .before .before .before .before .before .before .before .before .before .before .before .before .before .loop-test .taken) (c .before .before .before .before .before .before .before .before .before .before .before .before .before .before .before .loop .inv .0) in (
-      c .before .before .before .before .before .before .before .before .before .before .before .before .before .before .before .loop .inv .0,
-      at-place
-          (onward T (now (a .stretch)) (a .i) (now (a .cost)) (now (a .dist)) (now (a .pred)) _ _ _ _ _ _ _ _ _ (c .before .before .before .before .before .before .before .before .before .before .before .before .before .before .before .loop .inv .1) _ _ _ (c .before .before .before .before .before .before .before .before .before .before .before .before .before .before .loop-test .taken) (c .before .before .before .before .before .before .before .before .before .before .before .before .before .before .before .before .before .before .before .before .before .before .before .before .before .pre .1 .0 .0) (c .before .before .before .before .before .before .before .before .before .before .wide .ensures .0 ∙ ap (λ (j : ℕ). getD (now (a .demands)) j 0) (c .before .before .before .before .before .before .before .before .before .before .before .before .record-index .ensures .0)) (holds _ _ (c .before .before .before .before .before .before .before .before .before .fits2 .ensures) (c .before .before .before .before .before .before .before .before .if1 .left)) in-is (c .before .before .before .before .before .joined .ensures) _ _ _ _ _
-          (L .backs-are _ (c .before .before .before .before .before .before .before .before .before .before .before .before .before .before .loop-test .taken)) refl refl (c .offer .ensures)),
+    let L = c .before .before .before .before .before .before .before .before .before .before .before .before .before .before .before .before .before .before .before .before .before .before .before .before .before .before .pre .1 .1 in
+    let in-is = leg-into (lookupF (now (a .distances)) (a .size)) (now (a .stretch)) (now (a .ins)) (now (a .backs)) _ _ L (c .before .before .before .before .before .before .before .before .before .before .before .before .loop-test .taken) (c .before .before .before .before .before .before .before .before .before .before .before .before .before .loop .inv .0) in (
+      c .before .before .before .before .before .before .before .before .before .before .before .before .before .loop .inv .0,
+      in-place
+          (onward T (now (a .stretch)) (a .i) (now (a .cost)) (now (a .dist)) (now (a .pred)) _ _ _ _ _ _ _ _ _ (c .before .before .before .before .before .before .before .before .before .before .before .before .before .loop .inv .1) _ _ _ (c .before .before .before .before .before .before .before .before .before .before .before .before .loop-test .taken) (c .before .before .before .before .before .before .before .before .before .before .before .before .before .before .before .before .before .before .before .before .before .before .before .before .before .before .pre .1 .0 .0) (c .before .before .before .before .before .before .before .before .wide .ensures .0 ∙ ap (λ (j : ℕ). getD (now (a .demands)) j 0) (c .before .before .before .before .before .before .before .before .before .before .record-index .ensures .0)) (holds _ _ (c .before .before .before .before .before .before .before .fits2 .ensures) (c .before .before .before .before .before .before .if2 .left)) in-is (c .before .before .before .before .before .way-to .ensures) _ _ _ _ _
+          (L .backs-are _ (c .before .before .before .before .before .before .before .before .before .before .before .before .loop-test .taken)) refl refl (c .offer .ensures)),
     )
 
-returns-2 : tie.Need-returns-2 Inv-loop μ-loop
-returns-2 c =
-    let a = c .before .before .before .before .before .before .before .before .before .before .before .args in
+returns-3 : tie.Need-returns-3 Inv-loop μ-loop
+returns-3 c =
+    let a = c .before .before .before .before .before .before .before .before .before .before .before .before .before .before .args in
     let T = tariffBy (askedF (now (a .demands))) (now (a .distances)) (a .size) (a .capacity) (a .fixed) in
     at-end T (now (a .stretch)) (a .i) (now (a .cost)) (now (a .dist)) (now (a .pred)) _ _ _ _ _ _ _ _ _ (c .before .loop .inv .1) (c .loop-test .left)
 
@@ -132,6 +138,10 @@ row-spec =
     (tie.spec
     Inv-loop
     μ-loop
+    mul-if1
+    element-copy-out-if1
+    infinity-requires
+    returns
     mul-base
     element-copy-out-base
     mul-before
@@ -147,11 +157,8 @@ row-spec =
     wide-requires
     add-load
     fits-requires
-    returns
-    mul-leg-in
-    shared-slice-read-leg-in
-    leg-in-requires
-    joined-requires
+    returns-2
+    way-to-requires
     mul-total
     shared-slice-read-total
     add-m
@@ -159,4 +166,4 @@ row-spec =
     offer-requires
     loop-less
     loop-again
-    returns-2)
+    returns-3)

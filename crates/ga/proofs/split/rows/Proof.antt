@@ -10,9 +10,10 @@ use Rattle.cutting.specs.Carried.{next}
 use Rattle.distance.specs.Lookup.{lookupF}
 use Rattle.stretch.specs.Tariff.{stretches, runsOf, farsOf, TableOf}
 use Rattle.evaluation.specs.Tables.{askedF}
+use Rattle.basics.specs.Parts.{rest-is}
 use Rattle.ga.specs.Split.{tariffBy}
-use Rattle.stretch.proofs.Along.{lent-part, held-row}
-use Rattle.ga.proofs.Gathered.{legs-from, part-from}
+use Rattle.stretch.proofs.Along.{held-row}
+use Rattle.ga.proofs.Gathered.{legs-from}
 use Rattle.ga.proofs.split.rows.Statement.{statement}
 use Rattle.ga.proofs.split.rows.Tie as tie
 
@@ -30,44 +31,44 @@ write-legs-requires c κs = (c .before .before .before .before .before .pre .0 .
 loop-holds : tie.Need-loop-holds Inv-loop μ-loop
 loop-holds c = (omega arith, c .before .before .before .before .before .before .pre .1)
 
-mul-reached-row : tie.Need-mul-reached-row Inv-loop μ-loop
-mul-reached-row c = search needs
+mul-row : tie.Need-mul-row Inv-loop μ-loop
+mul-row c = search needs
 
-sub-reached-row : tie.Need-sub-reached-row Inv-loop μ-loop
-sub-reached-row c = search needs
+sub-row : tie.Need-sub-row Inv-loop μ-loop
+sub-row c = search needs
 
-part-reached-row-start : tie.Need-part-reached-row-start Inv-loop μ-loop
-part-reached-row-start c = search needs
+part-row-start : tie.Need-part-row-start Inv-loop μ-loop
+part-row-start c = search needs
 
-part-reached-row-end : tie.Need-part-reached-row-end Inv-loop μ-loop
-part-reached-row-end c = search needs
+part-row-end : tie.Need-part-row-end Inv-loop μ-loop
+part-row-end c = search needs
 
-mul-reached-row-2 : tie.Need-mul-reached-row-2 Inv-loop μ-loop
-mul-reached-row-2 c = search needs
+mul-row-2 : tie.Need-mul-row-2 Inv-loop μ-loop
+mul-row-2 c = search needs
 
-sub-reached-row-2 : tie.Need-sub-reached-row-2 Inv-loop μ-loop
-sub-reached-row-2 c = search needs
+sub-row-2 : tie.Need-sub-row-2 Inv-loop μ-loop
+sub-row-2 c = search needs
 
-part-reached-row-start-2 : tie.Need-part-reached-row-start-2 Inv-loop μ-loop
-part-reached-row-start-2 c = search needs
+part-row-start-2 : tie.Need-part-row-start-2 Inv-loop μ-loop
+part-row-start-2 c = search needs
 
-part-reached-row-end-2 : tie.Need-part-reached-row-end-2 Inv-loop μ-loop
-part-reached-row-end-2 c = omega (arith, c .before .before .before .before .before .before .before .write-legs .ensures .1 .0)
+part-row-end-2 : tie.Need-part-row-end-2 Inv-loop μ-loop
+part-row-end-2 c = omega (arith, c .before .before .before .before .before .before .before .write-legs .ensures .1 .0)
 
-mul-reached-row-3 : tie.Need-mul-reached-row-3 Inv-loop μ-loop
-mul-reached-row-3 c = search needs
+mul-row-3 : tie.Need-mul-row-3 Inv-loop μ-loop
+mul-row-3 c = search needs
 
-sub-reached-row-3 : tie.Need-sub-reached-row-3 Inv-loop μ-loop
-sub-reached-row-3 c = search needs
+sub-row-3 : tie.Need-sub-row-3 Inv-loop μ-loop
+sub-row-3 c = search needs
 
-part-reached-row-start-3 : tie.Need-part-reached-row-start-3 Inv-loop μ-loop
-part-reached-row-start-3 c = search needs
+part-row-start-3 : tie.Need-part-row-start-3 Inv-loop μ-loop
+part-row-start-3 c = search needs
 
-part-reached-row-end-3 : tie.Need-part-reached-row-end-3 Inv-loop μ-loop
-part-reached-row-end-3 c = omega (arith, c .before .before .before .before .before .before .before .before .before .write-legs .ensures .1 .1)
+part-row-end-3 : tie.Need-part-row-end-3 Inv-loop μ-loop
+part-row-end-3 c = omega (arith, c .before .before .before .before .before .before .before .before .before .write-legs .ensures .1 .1)
 
-reached-row-requires : tie.Need-reached-row-requires Inv-loop μ-loop
-reached-row-requires c κs =
+row-requires : tie.Need-row-requires Inv-loop μ-loop
+row-requires c κs =
     let l = c .before .before .before .before .before .before .before .before .before .loop in
     let T = l .inv .1 in
     let a = c .before .before .before .before .before .before .before .before .before .before .before .before .before .before .before .before .args in
@@ -75,8 +76,8 @@ reached-row-requires c κs =
     let held = now (a .held) in (
       (ap length (T .costs-are) ∙ length-tab _ cells, ap length (T .fars-are) ∙ length-tab _ cells, ap length (T .preds-are) ∙ length-tab _ cells),
       (
-        (omega (arith, ap length (lent-part held (l .i)), length-drop (l .i) held, c .before .before .before .before .before .before .before .before .before .before .before .before .before .before .before .before .pre .0 .0), c .before .before .before .before .before .before .before .before .before .before .before .before .before .before .before .before .pre .0 .1),
-        legs-from (lookupF (now (a .distances)) (a .size)) held _ _ (l .i) _ _ _ (lent-part held (l .i)) (part-from _ (l .i) (W .1 .0)) (part-from _ (l .i) (W .1 .1)) (W .0),
+        (omega (arith, ap length (rest-is _ (l .i) held refl), length-drop (l .i) held, c .before .before .before .before .before .before .before .before .before .before .before .before .before .before .before .before .pre .0 .0), c .before .before .before .before .before .before .before .before .before .before .before .before .before .before .before .before .pre .0 .1),
+        legs-from (lookupF (now (a .distances)) (a .size)) held _ _ (l .i) _ _ _ (rest-is _ (l .i) held refl) (rest-is 128 (l .i) _ (W .1 .0)) (rest-is 128 (l .i) _ (W .1 .1)) (W .0),
       ),
     )
 
@@ -94,7 +95,7 @@ loop-again c =
     let held = now (a .held) in (
       omega arith,
       next (runsOf T (stretches held)) (farsOf T (stretches held)) (l .i) (omega (arith, c .before .before .before .before .before .before .before .before .before .before .before .before .before .before .before .before .before .pre .0 .0)) (l .cost) (l .dist) (l .pred) (l .inv .1) _ _ _
-          (held-row T held _ (l .i) (l .cost) (l .dist) (l .pred) _ _ _ (lent-part held (l .i)) (c .reached-row .ensures)),
+          (held-row T held _ (l .i) (l .cost) (l .dist) (l .pred) _ _ _ (rest-is _ (l .i) held refl) (c .row .ensures)),
     )
 
 returns : tie.Need-returns Inv-loop μ-loop
@@ -112,19 +113,19 @@ rows-spec =
     μ-loop
     write-legs-requires
     loop-holds
-    mul-reached-row
-    sub-reached-row
-    part-reached-row-start
-    part-reached-row-end
-    mul-reached-row-2
-    sub-reached-row-2
-    part-reached-row-start-2
-    part-reached-row-end-2
-    mul-reached-row-3
-    sub-reached-row-3
-    part-reached-row-start-3
-    part-reached-row-end-3
-    reached-row-requires
+    mul-row
+    sub-row
+    part-row-start
+    part-row-end
+    mul-row-2
+    sub-row-2
+    part-row-start-2
+    part-row-end-2
+    mul-row-3
+    sub-row-3
+    part-row-start-3
+    part-row-end-3
+    row-requires
     add-i
     loop-less
     loop-again

@@ -54,7 +54,7 @@ read-back-requires c κs =
     let e = tour-front (now (a .tour)) (now (a .held)) _ (f .write-front .ensures) in
     let k = f .write-front .kept in
     let m = h .hold .kept in
-    let S = stayed-of (now (a .distances)) (now (a .times)) (a .size) _ _ (a .customers) (o .work-out .ensures) (a .capacity) (a .fixed) (a .limits) _ (now (a .tour)) _ (h .hold .result) _ _ _ _ _ e (h .hold .ensures .0) in
+    let S = stayed-of (now (a .distances)) (now (a .times)) (a .size) _ _ (a .customers) (o .work-out .ensures) (record { capacity = a .capacity; fixed = a .fixed; limits = a .limits }) _ (now (a .tour)) _ (h .hold .result) _ _ _ _ _ e (h .hold .ensures .0) in
     ((omega (arith, S .few, s .pre .0 .0), s .pre .0 .2), stayed-falls I (now (a .tour)) _ (h .hold .result) _ _ _ _ _ (omega (arith, S .few, s .pre .0 .0)) (omega (arith, S .few, s .pre .1 .0)) S)
 
 mul-t29 : tie.Need-mul-t29
@@ -62,18 +62,18 @@ mul-t29 c =
     let h = c .before .before .before .before .before .before .before in
     omega (arith, h .hold .ensures .1, h .before .before .before .before .before .before .before .before .before .before .before .before .before .before .before .before .before .before .before .before .before .pre .0 .0)
 
-array-read-t43 : tie.Need-array-read-t43
-array-read-t43 c =
+array-read-t44 : tie.Need-array-read-t44
+array-read-t44 c =
     let h = c .before .before .before .before .before .before .before in
     omega (arith, h .hold .ensures .1, h .before .before .before .before .before .before .before .before .before .before .before .before .before .before .before .before .before .before .before .before .before .pre .0 .0)
 
-mul-t44 : tie.Need-mul-t44
-mul-t44 c =
+mul-t45 : tie.Need-mul-t45
+mul-t45 c =
     let h = c .before .before .before .before .before .before .before in
     omega (arith, h .hold .ensures .1, h .before .before .before .before .before .before .before .before .before .before .before .before .before .before .before .before .before .before .before .before .before .pre .0 .0)
 
-array-read-t47 : tie.Need-array-read-t47
-array-read-t47 c =
+array-read-t48 : tie.Need-array-read-t48
+array-read-t48 c =
     let h = c .before .before .before .before .before .before .before in
     omega (arith, h .hold .ensures .1, h .before .before .before .before .before .before .before .before .before .before .before .before .before .before .before .before .before .before .before .before .before .pre .0 .0)
 
@@ -94,7 +94,7 @@ returns c =
     let e = tour-front (now (a .tour)) (now (a .held)) _ (f .write-front .ensures) in
     let k = f .write-front .kept in
     let m = h .hold .kept in
-    let S = stayed-of (now (a .distances)) (now (a .times)) (a .size) _ _ (a .customers) (o .work-out .ensures) (a .capacity) (a .fixed) (a .limits) _ (now (a .tour)) _ (h .hold .result) _ _ _ _ _ e (h .hold .ensures .0) in
+    let S = stayed-of (now (a .distances)) (now (a .times)) (a .size) _ _ (a .customers) (o .work-out .ensures) (record { capacity = a .capacity; fixed = a .fixed; limits = a .limits }) _ (now (a .tour)) _ (h .hold .result) _ _ _ _ _ e (h .hold .ensures .0) in
     let r = c .read-back .ensures in
     (stayed-settled I (now (a .tour)) _ (h .hold .result) _ _ _ _ _ (omega (arith, S .few, s .pre .0 .0)) (omega (arith, S .few, s .pre .1 .0)) S _ _ (r .0) (r .1), S .dropped-are)
 
@@ -111,9 +111,9 @@ settle-spec =
     hold-requires
     read-back-requires
     mul-t29
-    array-read-t43
-    mul-t44
-    array-read-t47
+    array-read-t44
+    mul-t45
+    array-read-t48
     same-length
     same-length-2
     returns)

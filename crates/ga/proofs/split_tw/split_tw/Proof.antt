@@ -7,8 +7,9 @@ use lib.Seq.{length-take-le}
 use denote.Ref.{now}
 use Rattle.definitions.specs.Room.{written}
 use Rattle.stretch.specs.Runs.{lent, tariff}
-use Rattle.ga.specs.SplitTw.{dropsF, splitTwF}
-use Rattle.ga.proofs.Settling.{each-counted}
+use Rattle.holding.specs.Drops.{dropsF}
+use Rattle.ga.specs.SplitTw.{splitTwF}
+use Rattle.ga.proofs.Stayed.{each-counted}
 use Rattle.ga.proofs.Answering.{lent-few, few-ends, ends-written, answered}
 use borrow.Author.Needs.{needs}
 use Rattle.ga.proofs.split_tw.split_tw.Statement.{statement}

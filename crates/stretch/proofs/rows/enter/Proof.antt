@@ -1,4 +1,4 @@
--- `split_tw::enter` meets its contract: without a window, in time, late without a penalty, or late with one. Assumes nothing.
+-- `rows::enter` meets its contract: without a window, in time, late without a penalty, or late with one. Assumes nothing.
 use mathlib.Core.Path.{_≡_}
 use Rattle.models.specs.declared.customer.Opening.the-variants.{Always, Window}
 use Rattle.models.specs.declared.customer.Penalty.the-variants.{Hard, Soft}

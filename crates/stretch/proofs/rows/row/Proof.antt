@@ -1,4 +1,4 @@
--- `split_tw::row` meets its contract, by whether the limits have a break. Assumes nothing.
+-- `rows::row` meets its contract, by whether the limits have a break. Assumes nothing.
 use mathlib.Core.Path.{_≡_, sym, ap}
 use denote.Ref.{now}
 use Rattle.models.specs.declared.vehicle.Rest.the-variants.{Unbroken, Break}
@@ -22,18 +22,18 @@ rest-row-requires c κs = search needs
 
 returns : tie.Need-returns
 returns c =
-    let a = c .before .before .before .before .before .before .before .before .before .before .before .args in
-    let e : a .limits .rest ≡ Unbroken = search needs in (
-      same-break _ _ (sym (ap restOf e)) (a .capacity) (a .fixed) (a .limits) (now (a .stretch)) (now (a .legs)) (now (a .time-legs)) (now (a .codes)) (now (a .figures))
+    let a = c .before .before .before .before .before .before .before .before .before .before .before .before .args in
+    let e : a .terms .limits .rest ≡ Unbroken = search needs in (
+      same-break _ _ (sym (ap restOf e)) (a .terms) (now (a .stretch)) (now (a .legs)) (now (a .time-legs)) (now (a .codes)) (now (a .figures))
           (a .i) (now (a .cost)) (now (a .dist)) (now (a .pred)) _ _ _ _ (c .plain-row .ensures .0),
       c .plain-row .ensures .1,
     )
 
 returns-2 : tie.Need-returns-2
 returns-2 c =
-    let a = c .before .before .before .before .before .before .before .before .before .before .before .before .args in
-    let e : a .limits .rest ≡ Break (c .before .before .before .before .before .rest .given .0 .0) = search needs in (
-      same-break _ _ (sym (ap restOf e)) (a .capacity) (a .fixed) (a .limits) (now (a .stretch)) (now (a .legs)) (now (a .time-legs)) (now (a .codes)) (now (a .figures))
+    let a = c .before .before .before .before .before .before .before .before .before .before .before .before .before .args in
+    let e : a .terms .limits .rest ≡ Break (c .before .before .before .before .before .rest .given .0 .0) = search needs in (
+      same-break _ _ (sym (ap restOf e)) (a .terms) (now (a .stretch)) (now (a .legs)) (now (a .time-legs)) (now (a .codes)) (now (a .figures))
           (a .i) (now (a .cost)) (now (a .dist)) (now (a .pred)) _ _ _ _ (c .rest-row .ensures .0),
       c .rest-row .ensures .1,
     )

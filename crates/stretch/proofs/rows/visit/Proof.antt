@@ -1,4 +1,4 @@
--- `split_tw::visit` meets its contract. Assumes nothing.
+-- `rows::visit` meets its contract. Assumes nothing.
 use mathlib.Core.Path.{_≡_}
 use Rattle.stretch.specs.declared.rows.Visited.the-variants.{Shut, Open}
 use Rattle.stretch.specs.Runs.{visitF}

@@ -1,47 +1,12 @@
 -- `stops::put_stop` meets its contract. Assumes nothing.
 use Prim.Native.Nat.{_*_}
+use mathlib.Core.Path.{_∙_}
 use denote.Ref.{now}
 use Rattle.stretch.specs.Stops.{stopOf}
-use Rattle.stretch.proofs.Places.{codes-stored, figures-stored}
+use Rattle.stretch.proofs.Places.{legs-stored}
 use borrow.Author.Needs.{needs}
 use Rattle.stretch.proofs.stops.put_stop.Statement.{statement}
 use Rattle.stretch.proofs.stops.put_stop.Tie as tie
-
-opening-times-requires : tie.Need-opening-times-requires
-opening-times-requires c κs = search needs
-
-mul-k : tie.Need-mul-k
-mul-k c = search needs
-
-mul-codes : tie.Need-mul-codes
-mul-codes c = search needs
-
-element-write-codes : tie.Need-element-write-codes
-element-write-codes c = search needs
-
-opening-code-requires : tie.Need-opening-code-requires
-opening-code-requires c κs = search needs
-
-add-codes : tie.Need-add-codes
-add-codes c = search needs
-
-mul-codes-2 : tie.Need-mul-codes-2
-mul-codes-2 c = search needs
-
-element-write-codes-2 : tie.Need-element-write-codes-2
-element-write-codes-2 c = search needs
-
-penalty-code-requires : tie.Need-penalty-code-requires
-penalty-code-requires c κs = search needs
-
-add-codes-2 : tie.Need-add-codes-2
-add-codes-2 c = search needs
-
-mul-codes-3 : tie.Need-mul-codes-3
-mul-codes-3 c = search needs
-
-element-write-codes-3 : tie.Need-element-write-codes-3
-element-write-codes-3 c = search needs
 
 mul-f : tie.Need-mul-f
 mul-f c = search needs
@@ -79,68 +44,18 @@ mul-figures-4 c = search needs
 element-write-figures-4 : tie.Need-element-write-figures-4
 element-write-figures-4 c = search needs
 
-add-figures-4 : tie.Need-add-figures-4
-add-figures-4 c = search needs
-
-mul-figures-5 : tie.Need-mul-figures-5
-mul-figures-5 c = search needs
-
-element-write-figures-5 : tie.Need-element-write-figures-5
-element-write-figures-5 c = search needs
-
-add-figures-5 : tie.Need-add-figures-5
-add-figures-5 c = search needs
-
-mul-figures-6 : tie.Need-mul-figures-6
-mul-figures-6 c = search needs
-
-element-write-figures-6 : tie.Need-element-write-figures-6
-element-write-figures-6 c = search needs
-
-add-figures-6 : tie.Need-add-figures-6
-add-figures-6 c = search needs
-
-mul-figures-7 : tie.Need-mul-figures-7
-mul-figures-7 c = search needs
-
-element-write-figures-7 : tie.Need-element-write-figures-7
-element-write-figures-7 c = search needs
-
-penalty-price-requires : tie.Need-penalty-price-requires
-penalty-price-requires c κs = search needs
-
-add-figures-7 : tie.Need-add-figures-7
-add-figures-7 c = search needs
-
-mul-figures-8 : tie.Need-mul-figures-8
-mul-figures-8 c = search needs
-
-element-write-figures-8 : tie.Need-element-write-figures-8
-element-write-figures-8 c = search needs
+put-customer-requires : tie.Need-put-customer-requires
+put-customer-requires c κs = search needs
 
 returns : tie.Need-returns
 returns c =
-    let a = c .before .before .before .before .before .args in (
-      codes-stored (stopOf (a .stop)) (3 * a .c) (now (a .codes)) _ _ (c .before .before .opening-code .ensures) (c .before .penalty-code .ensures),
-      figures-stored (stopOf (a .stop)) (8 * a .c) (now (a .figures)) _ _ (c .before .before .before .opening-times .ensures) (c .penalty-price .ensures),
-    )
+    let a = c .before .before .before .args in
+    (c .put-customer .ensures .0, c .put-customer .ensures .1 ∙ legs-stored (stopOf (a .stop)) (8 * a .c) (now (a .figures)))
 
 pub put-stop-spec : {M : Type 1} → statement M
 put-stop-spec =
     tie.close
     (tie.spec
-    opening-times-requires
-    mul-k
-    mul-codes
-    element-write-codes
-    opening-code-requires
-    add-codes
-    mul-codes-2
-    element-write-codes-2
-    penalty-code-requires
-    add-codes-2
-    mul-codes-3
-    element-write-codes-3
     mul-f
     mul-figures
     element-write-figures
@@ -153,17 +68,5 @@ put-stop-spec =
     add-figures-3
     mul-figures-4
     element-write-figures-4
-    add-figures-4
-    mul-figures-5
-    element-write-figures-5
-    add-figures-5
-    mul-figures-6
-    element-write-figures-6
-    add-figures-6
-    mul-figures-7
-    element-write-figures-7
-    penalty-price-requires
-    add-figures-7
-    mul-figures-8
-    element-write-figures-8
+    put-customer-requires
     returns)
