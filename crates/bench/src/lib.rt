@@ -1,3 +1,5 @@
-// The sheets of the test programs.
+// What the test programs share: their sheets, lists of small numbers, and what is printed of them.
+pub mod digits;
 pub mod full;
+pub mod printing;
 pub mod sheets;

@@ -1,32 +1,22 @@
 // The bench cases a to q, each cut by the planner: a line says the runs as customers, with the break and the time at home where the sheet has a break, then the dropped positions, cost and distance.
+// A tour is written as the digits of a number.
+use bench::digits::begin;
+use bench::digits::digits;
+use bench::printing::amount;
+use bench::printing::numbered;
+use bench::printing::text;
 use bench::sheets::Sheet;
 use bench::sheets::base;
 use checked::cutting::Cut;
 use checked::evaluating::Evaluation;
 use evaluation::route::RouteEval;
 use evaluation::route::Start;
-use io::print_decimal;
-use io::write_all;
+use ga::split::SplitResult;
 use models::customer::Penalty;
 use models::vehicle::Rest;
-use report::number::whole_part;
-
-fn text(bytes: &[u8]) {
-    write_all(1, bytes);
-}
-
-fn number(n: usize) {
-    print_decimal(1, n as u64);
-}
-
-// A whole number that a float holds.
-fn amount(x: f64) {
-    print_decimal(1, whole_part(x));
-}
 
 fn after_blank(n: usize) {
-    text(b" ");
-    number(n);
+    numbered(b" ", n as u64);
 }
 
 fn numbers(list: &[usize]) {
@@ -59,13 +49,10 @@ fn evaluate(sheet: Sheet, run: &[usize]) -> Evaluation {
 fn show_times(eval: RouteEval) {
     let start = eval.start;
     if let Start::At(time) = start {
-        text(b" rest ");
-        number(eval.place);
-        text(b" at ");
-        amount(time);
+        numbered(b" rest ", eval.place as u64);
+        amount(b" at ", time);
     }
-    text(b" home ");
-    amount(eval.duration);
+    amount(b" home ", eval.duration);
 }
 
 // A run as customers, with its break where the sheet has one.
@@ -142,67 +129,78 @@ fn cut(
     )
 }
 
-// A case: its name, its runs, its drops, and what they come to.
-fn show(name: &[u8], sheet: Sheet, tour: &[usize]) {
+fn show_totals(counts: SplitResult) {
+    amount(b" cost ", counts.cost);
+    amount(b" distance ", counts.distance);
+}
+
+// The runs of a tour, its drops, and what they come to.
+fn show_cut(sheet: Sheet, tour: &[usize]) {
     let mut served = [0; 2];
     let mut ends = [0; 2];
     let mut dropped = [0; 2];
-    let cut = cut(sheet, tour, &mut served, &mut ends, &mut dropped);
-    text(name);
-    text(b":");
-    let Cut::Cut(counts) = cut else {
-        text(b" refused\n");
+    let Cut::Cut(counts) = cut(sheet, tour, &mut served, &mut ends, &mut dropped) else {
+        text(b" refused");
         return;
     };
     show_runs(sheet, &served, &ends, counts.runs);
     show_dropped(&dropped, counts.dropped);
-    text(b" cost ");
-    amount(counts.cost);
-    text(b" distance ");
-    amount(counts.distance);
+    show_totals(counts);
+}
+
+// A case, with its name.
+fn show(name: &[u8], sheet: Sheet, tour: usize) {
+    let calls = digits(tour);
+    text(name);
+    text(b":");
+    show_cut(sheet, &calls[begin(tour)..]);
     text(b"\n");
 }
 
-fn loads(both: &[usize]) {
-    let nobody = [0];
-    show(b"a", base(), both);
-    show(b"b", base().capacity(3), both);
-    show(b"c", base().capacity(1), both);
-    show(b"d", base(), &nobody[..0]);
-    show(b"e", base().leg(1, 2, 22.0).leg(2, 1, 22.0), both);
+fn loads() {
+    show(b"a", base(), 12);
+    show(b"b", base().capacity(3), 12);
+    show(b"c", base().capacity(1), 12);
 }
 
-fn windows(both: &[usize]) {
-    show(b"f", base().window(0.0, 10.0, Penalty::Hard), both);
-    show(b"g", base().window(0.0, 9.0, Penalty::Hard), both);
-    show(b"h", base().window(0.0, 9.0, Penalty::Soft(3.0)), both);
+// No calls; then one run that is as far as two.
+fn lengths() {
+    show(b"d", base(), 0);
+    show(b"e", base().leg(1, 2, 22.0).leg(2, 1, 22.0), 12);
 }
 
-fn limits(both: &[usize]) {
-    show(b"i", base().distance_limit(27.0), both);
-    show(b"j", base().distance_limit(26.0), both);
-    show(b"k", base().distance_limit(23.0), both);
-    show(b"l", base().leg(1, 0, 30.0).distance_limit(27.0), both);
+fn windows() {
+    show(b"f", base().window(0.0, 10.0, Penalty::Hard), 12);
+    show(b"g", base().window(0.0, 9.0, Penalty::Hard), 12);
+    show(b"h", base().window(0.0, 9.0, Penalty::Soft(3.0)), 12);
 }
 
-fn breaks(both: &[usize]) {
-    let first = [1];
-    show(b"m", base().rest(20.0, 30.0, 4.0), both);
-    show(b"n", base().rest(20.0, 30.0, 4.0), &first);
-    show(b"o", base().rest(5.0, 9.0, 4.0), both);
-    show(b"p", base().rest(5.0, 10.0, 4.0), both);
+fn limits() {
+    show(b"i", base().distance_limit(27.0), 12);
+    show(b"j", base().distance_limit(26.0), 12);
+    show(b"k", base().distance_limit(23.0), 12);
+    show(b"l", base().leg(1, 0, 30.0).distance_limit(27.0), 12);
+}
+
+fn breaks() {
+    show(b"m", base().rest(20.0, 30.0, 4.0), 12);
+    show(b"n", base().rest(20.0, 30.0, 4.0), 1);
+    show(b"o", base().rest(5.0, 9.0, 4.0), 12);
+    show(b"p", base().rest(5.0, 10.0, 4.0), 12);
+}
+
+// A break before a window that is missed at a price.
+fn late_break() {
     let late = Penalty::Soft(5.0);
-    show(
-        b"q",
-        base().rest(0.0, 30.0, 4.0).window(12.0, 13.0, late),
-        both,
-    );
+    let q = base().rest(0.0, 30.0, 4.0).window(12.0, 13.0, late);
+    show(b"q", q, 12);
 }
 
 fn main() {
-    let tour = [1, 2];
-    loads(&tour);
-    windows(&tour);
-    limits(&tour);
-    breaks(&tour);
+    loads();
+    lengths();
+    windows();
+    limits();
+    breaks();
+    late_break();
 }
