@@ -1,18 +1,17 @@
 // The marker's verdicts on the worked sheets: a line says the name of a mark, and its verdict with the values that it carries.
 // Tours, calls, run ends and break places are written as the digits of a number.
+use bench::changes::Change;
+use bench::changes::changed;
 use bench::digits::begin;
 use bench::digits::digits;
 use bench::full::full;
 use bench::printing::amount;
 use bench::printing::numbered;
 use bench::printing::text;
-use bench::sheets::Sheet;
-use bench::sheets::base;
 use checked::marking::Marking;
 use checked::marking::mark;
 use marker::verdict::Verdict;
 use models::customer::Customer;
-use models::customer::Penalty;
 use models::head::Head;
 use models::load::wide;
 
@@ -186,7 +185,8 @@ fn judge(
 }
 
 // The mark of a cutting on a bench sheet.
-fn cut(name: &[u8], sheet: Sheet, tour: usize, marked: Marked) {
+fn cut(name: &[u8], change: Change, tour: usize, marked: Marked) {
+    let sheet = changed(change);
     let head = sheet.head;
     let customers = sheet.customers;
     let distances = sheet.distances;
@@ -208,8 +208,8 @@ fn whole(tour: usize, place: usize) -> Marked {
 }
 
 // The mark of the tour as one run on a bench sheet.
-fn run(name: &[u8], sheet: Sheet, tour: usize, place: usize) {
-    cut(name, sheet, tour, whole(tour, place));
+fn run(name: &[u8], change: Change, tour: usize, place: usize) {
+    cut(name, change, tour, whole(tour, place));
 }
 
 // The mark of the tour as one run on the full sheet.
@@ -218,38 +218,32 @@ fn full_run(name: &[u8], tour: usize, place: usize) {
 }
 
 fn costs() {
-    let late = Penalty::Soft(5.0);
-    let q = base().rest(0.0, 30.0, 4.0).window(12.0, 13.0, late);
-    run(b"q", q, 12, 2);
-    run(b"best", base(), 12, 0);
-    cut(b"dearer", base(), 12, cutting(12, 12, 0));
+    run(b"q", Change::BreakAtPrice, 12, 2);
+    run(b"best", Change::Nothing, 12, 0);
+    cut(b"dearer", Change::Nothing, 12, cutting(12, 12, 0));
 }
 
 // A call changed, one left out, none at all, one too many.
 fn calls() {
-    cut(b"changed", base(), 12, cutting(11, 2, 0));
-    cut(b"left out", base(), 12, cutting(1, 1, 0));
-    cut(b"none", base(), 12, cutting(0, 0, 0));
-    cut(b"too many", base(), 12, cutting(121, 23, 0));
+    cut(b"changed", Change::Nothing, 12, cutting(11, 2, 0));
+    cut(b"left out", Change::Nothing, 12, cutting(1, 1, 0));
+    cut(b"none", Change::Nothing, 12, cutting(0, 0, 0));
+    cut(b"too many", Change::Nothing, 12, cutting(121, 23, 0));
 }
 
 // Sheets on which calls are dropped.
 fn drops() {
-    let due = base().window(0.0, 9.0, Penalty::Hard);
-    cut(b"nothing", base().capacity(1), 12, cutting(0, 0, 0));
-    cut(b"served", due, 12, cutting(2, 1, 0));
-    run(b"dropped", due, 12, 0);
+    cut(b"nothing", Change::Capacity(1), 12, cutting(0, 0, 0));
+    cut(b"served", Change::Due(9.0), 12, cutting(2, 1, 0));
+    run(b"dropped", Change::Due(9.0), 12, 0);
 }
 
 fn faults() {
-    run(b"load", base().capacity(3), 12, 0);
-    run(b"window", base().window(0.0, 14.0, Penalty::Hard), 21, 0);
-}
-
-fn limit_faults() {
-    run(b"break", base().rest(5.0, 10.0, 4.0), 12, 2);
-    run(b"missing", base().rest(20.0, 30.0, 4.0), 12, 0);
-    run(b"far", base().distance_limit(26.0), 12, 0);
+    run(b"load", Change::Capacity(3), 12, 0);
+    run(b"window", Change::Due(14.0), 21, 0);
+    run(b"break", Change::Break(5.0, 10.0), 12, 2);
+    run(b"missing", Change::Break(20.0, 30.0), 12, 0);
+    run(b"far", Change::DistanceLimit(26.0), 12, 0);
 }
 
 fn full_costs() {
@@ -292,7 +286,6 @@ fn main() {
     calls();
     drops();
     faults();
-    limit_faults();
     full_costs();
     full_faults();
     order();
