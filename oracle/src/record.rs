@@ -1,8 +1,11 @@
-//! Recorded answers: for each question, as a sheet, the length of its bytes, the bytes, the length of its answer, as its listing, and the answer; lengths are 32 bits, little-endian.
+//! Recorded answers: for each question the length of its bytes, the bytes, the length of its answer, and the answer; lengths are 32 bits, little-endian. The first byte of a question says its kind.
 use crate::compare::{from_file, generated};
 use crate::random::Source;
 use crate::{answer, word};
 use std::io::Write;
+
+/// A question of this kind is a sheet, and its answer the listing.
+const SHEET: u8 = b's';
 
 /// `count` generated sheets and those of Solomon's files, to standard output.
 pub fn write(count: usize, instances: &[String]) {
@@ -15,14 +18,14 @@ pub fn write(count: usize, instances: &[String]) {
             .map(|words| word::bytes(&words)),
     );
     for file in &sheets {
-        put(file, answer(file).as_bytes());
+        put(SHEET, file, answer(file).as_bytes());
     }
 }
 
-/// A question and its answer, each behind its length.
-pub fn put(question: &[u8], answer: &[u8]) {
+/// A question behind its kind and its answer, each behind its length.
+pub fn put(kind: u8, question: &[u8], answer: &[u8]) {
     let mut out = std::io::stdout().lock();
-    for part in [question, answer] {
+    for part in [&[&[kind], question].concat(), answer] {
         let length = u32::try_from(part.len()).expect("a short part");
         out.write_all(&length.to_le_bytes())
             .expect("standard output");

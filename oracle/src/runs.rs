@@ -1,6 +1,6 @@
 //! Run lists with what the Rust makes of them: the visits of each run and, on sheets without lateness pay, each run reversed and the runs left by elimination.
 //!
-//! A question is a sheet with its tour as the calls of all runs, and behind it a byte for the number of runs and one for each run end. The answer is text.
+//! A question is a byte for the number of runs, one for each run end, and a sheet with its tour as the calls of all runs. The answer is text.
 use crate::edges::on_edge;
 use crate::evaluation::{has_soft_windows, RouteEvaluator};
 use crate::local_search::{eliminate_routes, two_opt_improve};
@@ -11,6 +11,9 @@ use crate::word::{bytes, kind, word};
 use crate::{reader, record};
 use std::fmt::Write;
 
+/// A question of this kind is a run list.
+const RUNS: u8 = b'r';
+
 /// `count` generated run lists with their answers, as records to standard output.
 pub fn write(count: usize) {
     let mut source = Source::new();
@@ -18,10 +21,10 @@ pub fn write(count: usize) {
         let words = sheet(&mut source, number);
         let sheet = Sheet::from_words(&words);
         let ends = ends(&mut source, sheet.tour.len());
-        let mut question = bytes(&words);
-        question.push(u8::try_from(ends.len()).expect("few runs"));
+        let mut question = vec![u8::try_from(ends.len()).expect("few runs")];
         question.extend(ends.iter().map(|&e| u8::try_from(e).expect("few calls")));
-        record::put(&question, answer(&sheet, &ends).as_bytes());
+        question.extend(bytes(&words));
+        record::put(RUNS, &question, answer(&sheet, &ends).as_bytes());
     }
 }
 

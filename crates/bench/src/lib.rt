@@ -1,3 +1,6 @@
-// The sheets of the test programs.
+// What the test programs share: their sheets, lists of small numbers, and what is printed of them.
+pub mod changes;
+pub mod digits;
 pub mod full;
+pub mod printing;
 pub mod sheets;

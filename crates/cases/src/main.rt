@@ -1,32 +1,21 @@
 // The bench cases a to q, each cut by the planner: a line says the runs as customers, with the break and the time at home where the sheet has a break, then the dropped positions, cost and distance.
-use bench::sheets::Sheet;
-use bench::sheets::base;
+// A tour is written as the digits of a number.
+use bench::changes::Change;
+use bench::changes::changed;
+use bench::changes::has_break;
+use bench::digits::begin;
+use bench::digits::digits;
+use bench::printing::amount;
+use bench::printing::numbered;
+use bench::printing::text;
 use checked_cuts::cutting::Cut;
 use checked_runs::evaluating::Evaluation;
 use evaluation::route::RouteEval;
 use evaluation::route::Start;
-use io::print_decimal;
-use io::write_all;
-use models::customer::Penalty;
-use models::vehicle::Rest;
-use report::number::whole_part;
-
-fn text(bytes: &[u8]) {
-    write_all(1, bytes);
-}
-
-fn number(n: usize) {
-    print_decimal(1, n as u64);
-}
-
-// A whole number that a float holds.
-fn amount(x: f64) {
-    print_decimal(1, whole_part(x));
-}
+use ga::split::SplitResult;
 
 fn after_blank(n: usize) {
-    text(b" ");
-    number(n);
+    numbered(b" ", n as u64);
 }
 
 fn numbers(list: &[usize]) {
@@ -37,17 +26,8 @@ fn numbers(list: &[usize]) {
     }
 }
 
-fn has_break(sheet: Sheet) -> bool {
-    let head = sheet.head;
-    let limits = head.limits;
-    let rest = limits.rest;
-    match rest {
-        Rest::Unbroken => false,
-        Rest::Break(_) => true,
-    }
-}
-
-fn evaluate(sheet: Sheet, run: &[usize]) -> Evaluation {
+fn evaluate(change: Change, run: &[usize]) -> Evaluation {
+    let sheet = changed(change);
     let head = sheet.head;
     let customers = sheet.customers;
     let distances = sheet.distances;
@@ -59,31 +39,28 @@ fn evaluate(sheet: Sheet, run: &[usize]) -> Evaluation {
 fn show_times(eval: RouteEval) {
     let start = eval.start;
     if let Start::At(time) = start {
-        text(b" rest ");
-        number(eval.place);
-        text(b" at ");
-        amount(time);
+        numbered(b" rest ", eval.place as u64);
+        amount(b" at ", time);
     }
-    text(b" home ");
-    amount(eval.duration);
+    amount(b" home ", eval.duration);
 }
 
 // A run as customers, with its break where the sheet has one.
-fn show_run(sheet: Sheet, run: &[usize]) {
+fn show_run(change: Change, run: &[usize]) {
     text(b" run");
     numbers(run);
-    if has_break(sheet) {
-        if let Evaluation::Allowed(eval) = evaluate(sheet, run) {
+    if has_break(change) {
+        if let Evaluation::Allowed(eval) = evaluate(change, run) {
             show_times(eval);
         }
     }
     text(b";");
 }
 
-fn show_stretch(sheet: Sheet, served: &[usize], from: usize, to: usize) {
+fn show_stretch(change: Change, served: &[usize], from: usize, to: usize) {
     if from <= to {
         if to <= served.len() {
-            show_run(sheet, &served[from..to]);
+            show_run(change, &served[from..to]);
         }
     }
 }
@@ -93,12 +70,12 @@ fn item(list: &[usize], i: usize) -> usize {
 }
 
 // The runs that end at the first n of the ends.
-fn show_runs(sheet: Sheet, served: &[usize], ends: &[usize], n: usize) {
+fn show_runs(change: Change, served: &[usize], ends: &[usize], n: usize) {
     let mut from = 0;
     let mut i = 0;
     while i < n {
         let to = item(ends, i);
-        show_stretch(sheet, served, from, to);
+        show_stretch(change, served, from, to);
         from = to;
         i += 1;
     }
@@ -120,12 +97,13 @@ fn show_dropped(dropped: &[usize], n: usize) {
 }
 
 fn cut(
-    sheet: Sheet,
+    change: Change,
     tour: &[usize],
     served: &mut [usize],
     ends: &mut [usize],
     dropped: &mut [usize],
 ) -> Cut {
+    let sheet = changed(change);
     let head = sheet.head;
     let customers = sheet.customers;
     let distances = sheet.distances;
@@ -142,67 +120,67 @@ fn cut(
     )
 }
 
-// A case: its name, its runs, its drops, and what they come to.
-fn show(name: &[u8], sheet: Sheet, tour: &[usize]) {
+fn show_totals(counts: SplitResult) {
+    amount(b" cost ", counts.cost);
+    amount(b" distance ", counts.distance);
+}
+
+// The runs of a tour, its drops, and what they come to.
+fn show_cut(change: Change, tour: &[usize]) {
     let mut served = [0; 2];
     let mut ends = [0; 2];
     let mut dropped = [0; 2];
-    let cut = cut(sheet, tour, &mut served, &mut ends, &mut dropped);
-    text(name);
-    text(b":");
-    let Cut::Cut(counts) = cut else {
-        text(b" refused\n");
+    let Cut::Cut(counts) = cut(change, tour, &mut served, &mut ends, &mut dropped) else {
+        text(b" refused");
         return;
     };
-    show_runs(sheet, &served, &ends, counts.runs);
+    show_runs(change, &served, &ends, counts.runs);
     show_dropped(&dropped, counts.dropped);
-    text(b" cost ");
-    amount(counts.cost);
-    text(b" distance ");
-    amount(counts.distance);
+    show_totals(counts);
+}
+
+// A case, with its letter.
+fn show(letter: u8, change: Change, tour: usize) {
+    let calls = digits(tour);
+    text(&[letter]);
+    text(b":");
+    show_cut(change, &calls[begin(tour)..]);
     text(b"\n");
 }
 
-fn loads(both: &[usize]) {
-    let nobody = [0];
-    show(b"a", base(), both);
-    show(b"b", base().capacity(3), both);
-    show(b"c", base().capacity(1), both);
-    show(b"d", base(), &nobody[..0]);
-    show(b"e", base().leg(1, 2, 22.0).leg(2, 1, 22.0), both);
+// In the fourth case there are no calls, and in the fifth one run is as far as two.
+fn loads() {
+    show(b'a', Change::Nothing, 12);
+    show(b'b', Change::Capacity(3), 12);
+    show(b'c', Change::Capacity(1), 12);
+    show(b'd', Change::Nothing, 0);
+    show(b'e', Change::Between(22.0), 12);
 }
 
-fn windows(both: &[usize]) {
-    show(b"f", base().window(0.0, 10.0, Penalty::Hard), both);
-    show(b"g", base().window(0.0, 9.0, Penalty::Hard), both);
-    show(b"h", base().window(0.0, 9.0, Penalty::Soft(3.0)), both);
+fn windows() {
+    show(b'f', Change::Due(10.0), 12);
+    show(b'g', Change::Due(9.0), 12);
+    show(b'h', Change::DueAtPrice(9.0, 3.0), 12);
 }
 
-fn limits(both: &[usize]) {
-    show(b"i", base().distance_limit(27.0), both);
-    show(b"j", base().distance_limit(26.0), both);
-    show(b"k", base().distance_limit(23.0), both);
-    show(b"l", base().leg(1, 0, 30.0).distance_limit(27.0), both);
+fn limits() {
+    show(b'i', Change::DistanceLimit(27.0), 12);
+    show(b'j', Change::DistanceLimit(26.0), 12);
+    show(b'k', Change::DistanceLimit(23.0), 12);
+    show(b'l', Change::FarHome(30.0, 27.0), 12);
 }
 
-fn breaks(both: &[usize]) {
-    let first = [1];
-    show(b"m", base().rest(20.0, 30.0, 4.0), both);
-    show(b"n", base().rest(20.0, 30.0, 4.0), &first);
-    show(b"o", base().rest(5.0, 9.0, 4.0), both);
-    show(b"p", base().rest(5.0, 10.0, 4.0), both);
-    let late = Penalty::Soft(5.0);
-    show(
-        b"q",
-        base().rest(0.0, 30.0, 4.0).window(12.0, 13.0, late),
-        both,
-    );
+fn breaks() {
+    show(b'm', Change::Break(20.0, 30.0), 12);
+    show(b'n', Change::Break(20.0, 30.0), 1);
+    show(b'o', Change::Break(5.0, 9.0), 12);
+    show(b'p', Change::Break(5.0, 10.0), 12);
+    show(b'q', Change::BreakAtPrice, 12);
 }
 
 fn main() {
-    let tour = [1, 2];
-    loads(&tour);
-    windows(&tour);
-    limits(&tour);
-    breaks(&tour);
+    loads();
+    windows();
+    limits();
+    breaks();
 }

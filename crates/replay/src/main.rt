@@ -1,7 +1,7 @@
 // Replays recorded answers of the Rust planner: reads records on standard input, computes each answer anew, and says whether all are alike.
 mod alike;
 
-use crate::alike::listing_alike;
+use crate::alike::alike;
 use records::closing::print_closing;
 use records::record::Record;
 use records::record::read;
@@ -12,13 +12,13 @@ use records::tally::MOST;
 use records::tally::counted;
 use records::tally::start;
 
-// Reads a sheet and its recorded listing, and compares. A sheet has at most 34,577 bytes, and a listing at most 16,384.
+// Reads a question and its recorded answer, and compares. A question has a byte for its kind, a sheet of at most 34,576 bytes and at most 129 bytes for run ends; an answer has fewer than 65,536.
 // No contract can say what is read.
 fn next() -> Seen {
-    let mut sheet = [0u8; 34577];
-    let mut recorded = [0u8; 16384];
-    match read(&mut sheet, &mut recorded) {
-        Record::Whole(n, m) => seen_of(listing_alike(&sheet[..n], &recorded[..m])),
+    let mut question = [0u8; 34706];
+    let mut recorded = [0u8; 65535];
+    match read(&mut question, &mut recorded) {
+        Record::Whole(n, m) => seen_of(alike(&question[..n], &recorded[..m])),
         Record::End => Seen::End,
         Record::CutShort => Seen::CutShort,
         Record::TooLong => Seen::TooLong,

@@ -12,7 +12,7 @@ use Rattle.models.specs.Image.{flCustomer}
 use Rattle.evaluation.specs.Image.{flLimits}
 use Rattle.sheet.specs.Parts.{depots}
 use Rattle.stretch.specs.Stops.{Below64}
-use Rattle.stretch.specs.Runs.{Instance}
+use Rattle.stretch.specs.Runs.{Instance, lent}
 use Rattle.ga.specs.SplitTw.{splitTwF}
 use Rattle.ga.specs.Split as Split
 use Rattle.ga.specs.Split.{splitF}
@@ -20,6 +20,7 @@ use Rattle.local_search.specs.Search.{SearchF, searchF}
 use Rattle.local_search.specs.TwoOpt.{improvedDistanceF}
 use Rattle.elimination.specs.Insertion.{TermsF}
 use Rattle.elimination.specs.Elimination.{eliminatedF}
+use Rattle.plan_listing.specs.declared.held.Loaded.{Loaded}
 use Rattle.timing.specs.declared.work.Work.{Work}
 use Rattle.timing.specs.declared.work.Work.the-variants.{SplitTw, Split, TwoOpt, Eliminate}
 use Rattle.timing.specs.Every.{everyEnds}
@@ -28,6 +29,10 @@ use Rattle.timing.specs.Every.{everyEnds}
 pub record Callable (tour : List ℕ) : Type 0 where
   pub few : length tour ≤ 128
   pub below : Below64 tour
+
+-- what is held of a sheet, with its tables
+abbrev pub instanceIn : Loaded → List Float → List Float → Instance
+instanceIn held distances times = lent (held .customers) distances times (held .head .places) (held .head .capacity) (held .head .«fixed_cost») (held .head .limits)
 
 -- ---- one round
 

@@ -2,18 +2,16 @@
 ghost use mathlib.Core.Path.{_≡_};
 ghost use Rattle.ga.specs.Split as Split;
 ghost use Rattle.ga.specs.Split.{splitF};
-ghost use Rattle.stretch.specs.Runs.{lent};
 ghost use Rattle.definitions.specs.Reader as Reader;
 ghost use Rattle.plan_listing.specs.Held.{Accepted};
-ghost use Rattle.timing.specs.Work.{Callable, splitTwCost, reversedDistance, runsLeft, workF, lastOf, timed};
+ghost use Rattle.timing.specs.Work.{Callable, instanceIn, splitTwCost, reversedDistance, runsLeft, workF, lastOf, timed};
 use crate::every::write_every;
 use elimination::route_elimination::eliminate_routes;
 use ga::split::split;
 use ga::split_tw::split_tw;
 use local_search::search::search_of;
 use local_search::two_opt::two_opt_improve;
-use models::customer::Customer;
-use models::head::Head;
+use plan_listing::held::Loaded;
 use plan_listing::held::load;
 use sheet::read::Reading;
 use sheet::read::read;
@@ -30,8 +28,7 @@ pub enum Work {
 // The cost of the cut by capacity, windows, limits and break.
 fn split_tw_cost(
     tour: &[usize],
-    head: Head,
-    customers: [Customer; 64],
+    held: Loaded,
     distances: &[f64],
     times: &[f64],
     served: &mut [usize; 128],
@@ -39,8 +36,10 @@ fn split_tw_cost(
     dropped: &mut [usize; 128],
 ) -> f64
     requires { ⌜ Callable (now tour) ⌝ }
-    ensures { λ r. ⌜ r ≡ splitTwCost (lent customers (now (distances .entry)) (now (times .entry)) (head .places) (head .capacity) (head .«fixed_cost») (head .limits)) (now (tour .entry)) ⌝ }
+    ensures { λ r. ⌜ r ≡ splitTwCost (instanceIn held (now (distances .entry)) (now (times .entry))) (now (tour .entry)) ⌝ }
 {
+    let head = held.head;
+    let customers = held.customers;
     let cut = split_tw(
         tour,
         customers,
@@ -60,16 +59,17 @@ fn split_tw_cost(
 // The cost of the cut by capacity alone.
 fn split_cost(
     tour: &[usize],
-    head: Head,
-    customers: [Customer; 64],
+    held: Loaded,
     distances: &[f64],
     served: &mut [usize; 128],
     ends: &mut [usize; 128],
     dropped: &mut [usize; 128],
 ) -> f64
     requires { ⌜ Callable (now tour) ⌝ }
-    ensures { λ r. ⌜ r ≡ splitF (Split.lent customers (now (distances .entry)) (head .places) (head .capacity) (head .«fixed_cost»)) (now (tour .entry)) .cost ⌝ }
+    ensures { λ r. ⌜ r ≡ splitF (Split.lent (held .customers) (now (distances .entry)) (held .head .places) (held .head .capacity) (held .head .«fixed_cost»)) (now (tour .entry)) .cost ⌝ }
 {
+    let head = held.head;
+    let customers = held.customers;
     let cut = split(
         tour,
         customers,
@@ -87,15 +87,16 @@ fn split_cost(
 // The distance of the tour after the reversals.
 fn reversed_distance(
     tour: &[usize],
-    head: Head,
-    customers: [Customer; 64],
+    held: Loaded,
     distances: &[f64],
     times: &[f64],
     current: &mut [usize; 128],
 ) -> f64
     requires { ⌜ Callable (now tour) ⌝ }
-    ensures { λ r. ⌜ r ≡ reversedDistance (lent customers (now (distances .entry)) (now (times .entry)) (head .places) (head .capacity) (head .«fixed_cost») (head .limits)) (now (tour .entry)) ⌝ }
+    ensures { λ r. ⌜ r ≡ reversedDistance (instanceIn held (now (distances .entry)) (now (times .entry))) (now (tour .entry)) ⌝ }
 {
+    let head = held.head;
+    let customers = held.customers;
     let search = search_of(customers, distances, head.places, head.limits);
     two_opt_improve(
         tour,
@@ -112,16 +113,17 @@ fn reversed_distance(
 fn runs_left(
     run: usize,
     tour: &[usize],
-    head: Head,
-    customers: [Customer; 64],
+    held: Loaded,
     distances: &[f64],
     times: &[f64],
     calls: &mut [usize; 128],
     ends: &mut [usize; 128],
 ) -> f64
     requires { ⌜ Callable (now tour) ⌝ }
-    ensures { λ r. ⌜ r ≡ runsLeft run (lent customers (now (distances .entry)) (now (times .entry)) (head .places) (head .capacity) (head .«fixed_cost») (head .limits)) (now (tour .entry)) ⌝ }
+    ensures { λ r. ⌜ r ≡ runsLeft run (instanceIn held (now (distances .entry)) (now (times .entry))) (now (tour .entry)) ⌝ }
 {
+    let head = held.head;
+    let customers = held.customers;
     let mut given = [0usize; 128];
     let many = write_every(tour.len(), run, &mut given);
     let search = search_of(customers, distances, head.places, head.limits);
@@ -147,8 +149,7 @@ fn runs_left(
 fn once(
     work: Work,
     tour: &[usize],
-    head: Head,
-    customers: [Customer; 64],
+    held: Loaded,
     distances: &[f64],
     times: &[f64],
     first: &mut [usize; 128],
@@ -156,13 +157,12 @@ fn once(
     third: &mut [usize; 128],
 ) -> f64
     requires { ⌜ Callable (now tour) ⌝ }
-    ensures { λ r. ⌜ r ≡ workF work (lent customers (now (distances .entry)) (now (times .entry)) (head .places) (head .capacity) (head .«fixed_cost») (head .limits)) (now (tour .entry)) ⌝ }
+    ensures { λ r. ⌜ r ≡ workF work (instanceIn held (now (distances .entry)) (now (times .entry))) (now (tour .entry)) ⌝ }
 {
     match work {
         Work::SplitTw => split_tw_cost(
             tour,
-            head,
-            customers,
+            held,
             distances,
             times,
             &mut *first,
@@ -171,19 +171,17 @@ fn once(
         ),
         Work::Split => split_cost(
             tour,
-            head,
-            customers,
+            held,
             distances,
             &mut *first,
             &mut *second,
             &mut *third,
         ),
-        Work::TwoOpt => reversed_distance(tour, head, customers, distances, times, &mut *first),
+        Work::TwoOpt => reversed_distance(tour, held, distances, times, &mut *first),
         Work::Eliminate(run) => runs_left(
             run,
             tour,
-            head,
-            customers,
+            held,
             distances,
             times,
             &mut *first,
@@ -197,13 +195,12 @@ fn repeated(
     n: u32,
     work: Work,
     tour: &[usize],
-    head: Head,
-    customers: [Customer; 64],
+    held: Loaded,
     distances: &[f64],
     times: &[f64],
 ) -> f64
     requires { ⌜ Callable (now tour) ⌝ }
-    ensures { λ r. ⌜ r ≡ lastOf n (workF work (lent customers (now (distances .entry)) (now (times .entry)) (head .places) (head .capacity) (head .«fixed_cost») (head .limits)) (now (tour .entry))) ⌝ }
+    ensures { λ r. ⌜ r ≡ lastOf n (workF work (instanceIn held (now (distances .entry)) (now (times .entry))) (now (tour .entry))) ⌝ }
 {
     let mut first = [0usize; 128];
     let mut second = [0usize; 128];
@@ -214,8 +211,7 @@ fn repeated(
         given = once(
             work,
             tour,
-            head,
-            customers,
+            held,
             distances,
             times,
             &mut first,
@@ -235,20 +231,14 @@ fn on_sheet(bytes: &[u8], work: Work, n: u32) -> f64
     let mut distances = [0.0; 4096];
     let mut times = [0.0; 4096];
     let mut tour = [0usize; 128];
-    let l = load(bytes, &mut distances, &mut times, &mut tour);
-    let far = l.far;
-    let long = l.long;
-    let calls = l.calls;
-    let head = l.head;
-    let customers = l.customers;
+    let held = load(bytes, &mut distances, &mut times, &mut tour);
     repeated(
         n,
         work,
-        &tour[..calls],
-        head,
-        customers,
-        &distances[..far],
-        &times[..long],
+        &tour[..held.calls],
+        held,
+        &distances[..held.far],
+        &times[..held.long],
     )
 }
 

@@ -3,15 +3,11 @@ mod common;
 use common::{kind, records, tour, words};
 use lizsomdur::{eliminate, reverse, Refusal};
 
-/// A recorded question: a sheet, and the ends of runs of its calls.
+/// A recorded question: how many runs there are, their ends, and a sheet with the calls of all runs.
 fn question(bytes: &[u8]) -> (&[u8], Vec<Vec<usize>>) {
-    let end = words(bytes)
-        .iter()
-        .position(|&w| kind(w) == 0xF)
-        .expect("a sheet");
-    let (sheet, ends) = bytes.split_at(4 * (end + 1));
+    let (ends, sheet) = bytes[1..].split_at(bytes[0].into());
     let calls = tour(sheet);
-    let ends: Vec<usize> = ends[1..].iter().map(|&e| e.into()).collect();
+    let ends: Vec<usize> = ends.iter().map(|&e| e.into()).collect();
     let starts = std::iter::once(0).chain(ends.iter().copied());
     let runs = starts.zip(&ends).map(|(a, &b)| calls[a..b].to_vec());
     (sheet, runs.collect())
@@ -39,7 +35,7 @@ fn pays(sheet: &[u8]) -> bool {
 
 #[test]
 fn improved_runs_are_the_recorded_ones() {
-    let records = records("replay_runs/stdin", "LIZSOMDUR_RUNS");
+    let records = records(b'r');
     assert!(records.len() >= 300);
     let mut improved = 0;
     for (number, (bytes, answer)) in records.iter().enumerate() {

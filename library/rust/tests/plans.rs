@@ -5,7 +5,7 @@ use lizsomdur::{mark, plan, Plan, Refusal, Verdict};
 use std::fmt::Write;
 
 fn sheets() -> Vec<(Vec<u8>, String)> {
-    records("replay/stdin", "LIZSOMDUR_SHEETS")
+    records(b's')
 }
 
 /// The plan as the listing program prints it.

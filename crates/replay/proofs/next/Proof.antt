@@ -18,15 +18,15 @@ read-requires c κs = search needs
 enum-known-n : tie.Need-enum-known-n
 enum-known-n c = search needs
 
-array-share-prefix-sheet : tie.Need-array-share-prefix-sheet
-array-share-prefix-sheet c =
+array-share-prefix-question : tie.Need-array-share-prefix-question
+array-share-prefix-question c =
     let n = c .before .n .given .0 in
     let x = c .before .before .before .before .before .read in
     let e : x .result ≡ Whole (n .0) (n .1 .0) = search needs in
     (rw e at (x .ensures)) .0
 
-slice-aggregate-listing-alike : tie.Need-slice-aggregate-listing-alike
-slice-aggregate-listing-alike c = sym (length-take-le (c .before .before .n .given .0 .0) (c .before .before .before .before .before .before .read .last .0) (array-share-prefix-sheet (c .before)))
+slice-aggregate-alike : tie.Need-slice-aggregate-alike
+slice-aggregate-alike c = sym (length-take-le (c .before .before .n .given .0 .0) (c .before .before .before .before .before .before .read .last .0) (array-share-prefix-question (c .before)))
 
 array-share-prefix-recorded : tie.Need-array-share-prefix-recorded
 array-share-prefix-recorded c =
@@ -35,11 +35,11 @@ array-share-prefix-recorded c =
     let e : x .result ≡ Whole (n .0) (n .1 .0) = search needs in
     (rw e at (x .ensures)) .1
 
-slice-aggregate-listing-alike-2 : tie.Need-slice-aggregate-listing-alike-2
-slice-aggregate-listing-alike-2 c = sym (length-take-le (c .before .before .before .n .given .0 .1 .0) (c .before .before .before .before .before .before .before .read .last .1 .0) (array-share-prefix-recorded (c .before)))
+slice-aggregate-alike-2 : tie.Need-slice-aggregate-alike-2
+slice-aggregate-alike-2 c = sym (length-take-le (c .before .before .before .n .given .0 .1 .0) (c .before .before .before .before .before .before .before .read .last .1 .0) (array-share-prefix-recorded (c .before)))
 
-listing-alike-requires : tie.Need-listing-alike-requires
-listing-alike-requires c κs = search needs
+alike-requires : tie.Need-alike-requires
+alike-requires c κs = search needs
 
 seen-of-requires : tie.Need-seen-of-requires
 seen-of-requires c κs = search needs
@@ -73,11 +73,11 @@ next-spec =
     slice-aggregate-read-2
     read-requires
     enum-known-n
-    array-share-prefix-sheet
-    slice-aggregate-listing-alike
+    array-share-prefix-question
+    slice-aggregate-alike
     array-share-prefix-recorded
-    slice-aggregate-listing-alike-2
-    listing-alike-requires
+    slice-aggregate-alike-2
+    alike-requires
     seen-of-requires
     enum-told
     enum-told-2

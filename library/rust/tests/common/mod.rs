@@ -2,21 +2,21 @@
 #![allow(dead_code)]
 use std::path::Path;
 
-/// Each question with its answer: those in the repository and, where the variable names a file, those in it.
-pub fn records(kept: &str, variable: &str) -> Vec<(Vec<u8>, String)> {
-    let kept = Path::new(env!("CARGO_MANIFEST_DIR"))
-        .join("../../crates")
-        .join(kept);
+/// Each question of this kind with its answer: those in the repository and, where LIZSOMDUR_RECORDS names a file, those in it.
+pub fn records(kind: u8) -> Vec<(Vec<u8>, String)> {
+    let kept = Path::new(env!("CARGO_MANIFEST_DIR")).join("../../crates/replay/stdin");
     let mut bytes = std::fs::read(kept).expect("recorded answers");
-    if let Some(more) = std::env::var_os(variable) {
+    if let Some(more) = std::env::var_os("LIZSOMDUR_RECORDS") {
         bytes.extend(std::fs::read(more).expect("more recorded answers"));
     }
     let mut rest = &bytes[..];
     let mut records = Vec::new();
     while !rest.is_empty() {
-        let question = part(&mut rest).to_vec();
+        let question = part(&mut rest);
         let answer = String::from_utf8(part(&mut rest).to_vec()).expect("text");
-        records.push((question, answer));
+        if question[0] == kind {
+            records.push((question[1..].to_vec(), answer));
+        }
     }
     records
 }

@@ -11,56 +11,56 @@ load-requires c κs = search needs
 
 array-share-prefix-tour : tie.Need-array-share-prefix-tour
 array-share-prefix-tour c =
-    let x = c .before .before in
+    let x = c in
     let q = x .before .before .before .before .before .pre in
     let H = x .load .ensures (q .0) (q .1) (q .2) in
     calls-inside H
 
 slice-aggregate-repeated : tie.Need-slice-aggregate-repeated
 slice-aggregate-repeated c =
-    let x = c .before .before .before in
+    let x = c .before in
     let q = x .before .before .before .before .before .pre in
     let H = x .load .ensures (q .0) (q .1) (q .2) in
     calls-counted H
 
 array-share-prefix-distances : tie.Need-array-share-prefix-distances
 array-share-prefix-distances c =
-    let x = c .before .before .before in
+    let x = c .before in
     let q = x .before .before .before .before .before .pre in
     let H = x .load .ensures (q .0) (q .1) (q .2) in
     far-inside H
 
 slice-aggregate-repeated-2 : tie.Need-slice-aggregate-repeated-2
 slice-aggregate-repeated-2 c =
-    let x = c .before .before .before .before in
+    let x = c .before .before in
     let q = x .before .before .before .before .before .pre in
     let H = x .load .ensures (q .0) (q .1) (q .2) in
     far-counted H
 
 array-share-prefix-times : tie.Need-array-share-prefix-times
 array-share-prefix-times c =
-    let x = c .before .before .before .before in
+    let x = c .before .before in
     let q = x .before .before .before .before .before .pre in
     let H = x .load .ensures (q .0) (q .1) (q .2) in
     long-inside H
 
 slice-aggregate-repeated-3 : tie.Need-slice-aggregate-repeated-3
 slice-aggregate-repeated-3 c =
-    let x = c .before .before .before .before .before in
+    let x = c .before .before .before in
     let q = x .before .before .before .before .before .pre in
     let H = x .load .ensures (q .0) (q .1) (q .2) in
     long-counted H
 
 repeated-requires : tie.Need-repeated-requires
 repeated-requires c κs =
-    let x = c .before .before .before .before .before in
+    let x = c .before .before .before in
     let q = x .before .before .before .before .before .pre in
     let H = x .load .ensures (q .0) (q .1) (q .2) in
     callable H
 
 returns : tie.Need-returns
 returns c =
-    let x = c .before .before .before .before .before .before in
+    let x = c .before .before .before .before in
     let q = x .before .before .before .before .before .pre in
     let H = x .load .ensures (q .0) (q .1) (q .2) in
     let a = x .before .before .before .before .before .args in

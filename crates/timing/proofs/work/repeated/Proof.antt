@@ -3,17 +3,16 @@ use Prim.Native.Nat.{_-_, _≤_}
 use native.Mathlib.Omega.{arith}
 use mathlib.Core.Path.{_≡_, sym, _∙_}
 use Rattle.whole.specs.Bits.{fl-zero}
-use Rattle.stretch.specs.Runs.{lent}
-use Rattle.timing.specs.Work.{workF, lastOf}
+use Rattle.timing.specs.Work.{instanceIn, workF, lastOf}
 use Rattle.timing.proofs.Sheets.{last-more}
 use Rattle.timing.proofs.work.repeated.Statement.{statement}
 use Rattle.timing.proofs.work.repeated.Tie as tie
 
 abbrev Inv-loop : tie.InvT-loop
-Inv-loop n work tour head customers distances times first₀ second₀ third₀ given₀ k₀ first second third given k = (k ≤ n) × (given ≡ lastOf k (workF work (lent customers distances times (head .places) (head .capacity) (head .«fixed_cost») (head .limits)) tour))
+Inv-loop n work tour held distances times first₀ second₀ third₀ given₀ k₀ first second third given k = (k ≤ n) × (given ≡ lastOf k (workF work (instanceIn held distances times) tour))
 
 abbrev μ-loop : tie.MeasureT-loop
-μ-loop n work tour head customers distances times first₀ second₀ third₀ given₀ k₀ first second third given k = n - k
+μ-loop n work tour held distances times first₀ second₀ third₀ given₀ k₀ first second third given k = n - k
 
 loop-holds : tie.Need-loop-holds Inv-loop μ-loop
 loop-holds c = (omega arith, sym fl-zero)

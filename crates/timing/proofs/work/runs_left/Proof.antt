@@ -22,24 +22,24 @@ search-of-requires c κs = search needs
 array-share-prefix-given : tie.Need-array-share-prefix-given
 array-share-prefix-given c =
     let x = c .before .before in
-    let a = x .before .before .before .before .before .args in
+    let a = x .before .before .before .before .before .before .before .args in
     let w = x .write-every in
     inside (w .result) (everyEnds (a .run) (length (now (a .tour)))) (replicate 128 0) (w .last .1 .1 .0) (w .ensures .1) (w .ensures .0)
 
 slice-aggregate-eliminate-routes : tie.Need-slice-aggregate-eliminate-routes
 slice-aggregate-eliminate-routes c =
     let x = c .before .before .before in
-    let a = x .before .before .before .before .before .args in
+    let a = x .before .before .before .before .before .before .before .args in
     let w = x .write-every in
     counted (w .result) (everyEnds (a .run) (length (now (a .tour)))) (replicate 128 0) (w .last .1 .1 .0) (w .ensures .1) (w .ensures .0)
 
 eliminate-routes-requires : tie.Need-eliminate-routes-requires
 eliminate-routes-requires c κs =
     let x = c .before .before .before .before .before in
-    let a = x .before .before .before .before .before .args in
+    let a = x .before .before .before .before .before .before .before .args in
     let w = x .write-every in
     let given = front (w .result) (everyEnds (a .run) (length (now (a .tour)))) (replicate 128 0) (w .last .1 .1 .0) (w .ensures .1) (w .ensures .0) in
-    let f = x .before .before .before .before .before .pre .few in
+    let f = x .before .before .before .before .before .before .before .pre .few in
     let many = ends-room (a .run) (now (a .tour)) _ f given in
     ((f, many, rw given (ends-rise (a .run) (length (now (a .tour))))), (omega (arith, f, c .before .eliminate-routes-arg .given .0 .1), omega (arith, many, c .eliminate-routes-arg2 .given .0 .1)))
 
@@ -49,10 +49,10 @@ nearest-u64-to-f64-requires c κs = search needs
 returns : tie.Need-returns
 returns c =
     let x = c .before .before .before .before .before .before .before in
-    let a = x .before .before .before .before .before .args in
+    let a = x .before .before .before .before .before .before .before .args in
     let w = x .write-every in
     let t = c .before .before .before .before .before .search-of in
-    left-is (a .head) (a .customers) (now (a .distances)) (now (a .times)) (t .result) (t .ensures) (a .run) (now (a .tour)) _ (front (w .result) (everyEnds (a .run) (length (now (a .tour)))) (replicate 128 0) (w .last .1 .1 .0) (w .ensures .1) (w .ensures .0)) (c .before .eliminate-routes .ensures .0) (c .nearest-u64-to-f64 .result) (c .nearest-u64-to-f64 .ensures)
+    left-is (a .held .head) (a .held .customers) (now (a .distances)) (now (a .times)) (t .result) (t .ensures) (a .run) (now (a .tour)) _ (front (w .result) (everyEnds (a .run) (length (now (a .tour)))) (replicate 128 0) (w .last .1 .1 .0) (w .ensures .1) (w .ensures .0)) (c .before .eliminate-routes .ensures .0) (c .nearest-u64-to-f64 .result) (c .nearest-u64-to-f64 .ensures)
 
 pub runs-left-spec : {M : Type 1} → statement M
 runs-left-spec =

@@ -1,0 +1,64 @@
+// Whether a recorded answer is what is made of the run list.
+ghost use Rattle.plan_listing.specs.Held.{Accepted};
+use crate::given::number_of;
+use crate::given::write_ends;
+use crate::recorded::UNLIKE;
+use crate::runs::runs_text;
+use plan_listing::held::Loaded;
+use plan_listing::held::load;
+use sheet::read::Reading;
+use sheet::read::read;
+
+// Whether the recorded text, from its start to its end, is that of a sheet that is held and these run ends.
+fn ends_alike(
+    ends_bytes: &[u8],
+    recorded: &[u8],
+    tour: &[usize],
+    held: Loaded,
+    distances: &[f64],
+    times: &[f64],
+) -> bool {
+    let mut ends = [0usize; 128];
+    let runs = write_ends(ends_bytes, &mut ends);
+    let end = runs_text(recorded, tour, &ends[..runs], held, distances, times);
+    end != UNLIKE && end == recorded.len()
+}
+
+// The same of an accepted sheet.
+fn accepted_alike(sheet: &[u8], ends: &[u8], recorded: &[u8]) -> bool
+    requires { ⌜ Accepted (now sheet) ⌝ }
+{
+    let mut distances = [0.0; 4096];
+    let mut times = [0.0; 4096];
+    let mut tour = [0usize; 128];
+    let held = load(sheet, &mut distances, &mut times, &mut tour);
+    ends_alike(
+        ends,
+        recorded,
+        &tour[..held.calls],
+        held,
+        &distances[..held.far],
+        &times[..held.long],
+    )
+}
+
+// The same of any sheet: a refused one has no answer.
+fn sheet_alike(sheet: &[u8], ends: &[u8], recorded: &[u8]) -> bool {
+    match read(sheet) {
+        Reading::Refused(_, _) => false,
+        Reading::Sheet(_) => accepted_alike(sheet, ends, recorded),
+    }
+}
+
+// A question that ends before its sheet has no answer.
+pub fn runs_alike(question: &[u8], recorded: &[u8]) -> bool {
+    if question.len() == 0 {
+        return false;
+    }
+    let runs = number_of(question[0]);
+    if question.len() - 1 < runs {
+        return false;
+    }
+    let from = runs + 1;
+    sheet_alike(&question[from..], &question[1..from], recorded)
+}
