@@ -1,4 +1,5 @@
 // The sheets of the bench cases, by what a case changes of the base.
+ghost use mathlib.Core.Path.{_≡_};
 use crate::sheets::Sheet;
 use crate::sheets::base;
 use models::customer::Penalty;
@@ -21,7 +22,9 @@ pub enum Change {
     BreakAtPrice,
 }
 
-pub fn changed(change: Change) -> Sheet {
+pub fn changed(change: Change) -> Sheet
+    ensures { λ r. ⌜ r .head .places ≡ 3 ⌝ }
+{
     let sheet = base();
     match change {
         Change::Nothing => sheet,
@@ -35,14 +38,5 @@ pub fn changed(change: Change) -> Sheet {
         Change::BreakAtPrice => sheet
             .rest(0.0, 30.0, 4.0)
             .window(12.0, 13.0, Penalty::Soft(5.0)),
-    }
-}
-
-// Whether the sheet has a break.
-pub fn has_break(change: Change) -> bool {
-    match change {
-        Change::Break(_, _) => true,
-        Change::BreakAtPrice => true,
-        _ => false,
     }
 }

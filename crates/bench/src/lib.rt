@@ -1,6 +1,5 @@
-// What the test programs share: their sheets, lists of small numbers, and what is printed of them.
+// What the test programs share: their sheets, and lists of small numbers.
 pub mod changes;
 pub mod digits;
 pub mod full;
-pub mod printing;
 pub mod sheets;

@@ -59,7 +59,7 @@ pub fn base() -> Sheet
 
 impl Sheet {
     pub fn capacity(mut self, capacity: u32) -> Sheet
-        ensures { λ r. ⌜ (r .head .capacity ≡ capacity) × (r .customers ≡ self .customers) × (r .distances ≡ self .distances) ⌝ }
+        ensures { λ r. ⌜ (r .head .capacity ≡ capacity) × (r .head .places ≡ self .head .places) × (r .customers ≡ self .customers) × (r .distances ≡ self .distances) ⌝ }
     {
         self.head.capacity = capacity;
         self
@@ -86,7 +86,7 @@ impl Sheet {
 
     // No case has both a distance limit and a break.
     fn limits(mut self, limits: RouteLimits) -> Sheet
-        ensures { λ r. ⌜ (r .head .limits ≡ limits) × (r .customers ≡ self .customers) × (r .distances ≡ self .distances) ⌝ }
+        ensures { λ r. ⌜ (r .head .limits ≡ limits) × (r .head .places ≡ self .head .places) × (r .customers ≡ self .customers) × (r .distances ≡ self .distances) ⌝ }
     {
         let mut head = self.head;
         head.limits = limits;
@@ -95,13 +95,13 @@ impl Sheet {
     }
 
     pub fn distance_limit(self, limit: f64) -> Sheet
-        ensures { λ r. ⌜ (r .customers ≡ self .customers) × (r .distances ≡ self .distances) ⌝ }
+        ensures { λ r. ⌜ (r .head .places ≡ self .head .places) × (r .customers ≡ self .customers) × (r .distances ≡ self .distances) ⌝ }
     {
         self.limits(limits(Limit::At(limit), Rest::Unbroken))
     }
 
     pub fn rest(self, earliest: f64, latest: f64, duration: f64) -> Sheet
-        ensures { λ r. ⌜ (r .customers ≡ self .customers) × (r .distances ≡ self .distances) ⌝ }
+        ensures { λ r. ⌜ (r .head .places ≡ self .head .places) × (r .customers ≡ self .customers) × (r .distances ≡ self .distances) ⌝ }
     {
         let rest = VehicleBreak {
             earliest,

@@ -2,17 +2,31 @@
 // A tour is written as the digits of a number.
 use bench::changes::Change;
 use bench::changes::changed;
-use bench::changes::has_break;
 use bench::digits::begin;
 use bench::digits::digits;
-use bench::printing::amount;
-use bench::printing::numbered;
-use bench::printing::text;
 use checked_cuts::cutting::Cut;
 use checked_runs::evaluating::Evaluation;
 use evaluation::route::RouteEval;
 use evaluation::route::Start;
 use ga::split::SplitResult;
+use io::print_decimal;
+use io::write_all;
+use report::number::whole_part;
+
+fn text(bytes: &[u8]) {
+    write_all(1, bytes);
+}
+
+// A word, and a number behind it.
+fn numbered(word: &[u8], n: u64) {
+    text(word);
+    print_decimal(1, n);
+}
+
+// The same of a float that holds a whole number.
+fn amount(word: &[u8], x: f64) {
+    numbered(word, whole_part(x));
+}
 
 fn after_blank(n: usize) {
     numbered(b" ", n as u64);
@@ -43,6 +57,15 @@ fn show_times(eval: RouteEval) {
         amount(b" at ", time);
     }
     amount(b" home ", eval.duration);
+}
+
+// Whether the sheet has a break.
+fn has_break(change: Change) -> bool {
+    match change {
+        Change::Break(_, _) => true,
+        Change::BreakAtPrice => true,
+        _ => false,
+    }
 }
 
 // A run as customers, with its break where the sheet has one.

@@ -5,15 +5,30 @@ use bench::changes::changed;
 use bench::digits::begin;
 use bench::digits::digits;
 use bench::full::full;
-use bench::printing::amount;
-use bench::printing::numbered;
-use bench::printing::text;
 use checked_cuts::marking::Marking;
 use checked_cuts::marking::mark;
+use io::print_decimal;
+use io::write_all;
 use marker::verdict::Verdict;
 use models::customer::Customer;
 use models::head::Head;
 use models::load::wide;
+use report::number::whole_part;
+
+fn text(bytes: &[u8]) {
+    write_all(1, bytes);
+}
+
+// A word, and a number behind it.
+fn numbered(word: &[u8], n: u64) {
+    text(word);
+    print_decimal(1, n);
+}
+
+// The same of a float that holds a whole number.
+fn amount(word: &[u8], x: f64) {
+    numbered(word, whole_part(x));
+}
 
 fn run_fault(fault: &[u8], run: usize) {
     text(fault);

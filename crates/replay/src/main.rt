@@ -1,7 +1,8 @@
 // Replays recorded answers of the Rust planner: reads records on standard input, computes each answer anew, and says whether all are alike.
-mod alike;
-
-use crate::alike::alike;
+ghost use mathlib.Core.Path.{_≡_};
+ghost use Rattle.definitions.specs.Listing.{listing};
+ghost use Rattle.replay.specs.Alike.{sameList};
+use plan_listing::text::text;
 use records::closing::print_closing;
 use records::record::Record;
 use records::record::read;
@@ -11,6 +12,31 @@ use records::seen::seen_of;
 use records::tally::MOST;
 use records::tally::counted;
 use records::tally::start;
+use run_answers::alike::runs_alike;
+
+// Whether the recorded text is the listing of the sheet.
+fn listing_alike(sheet: &[u8], recorded: &[u8]) -> bool
+    ensures { λ r. ⌜ r ≡ sameList (listing (now (sheet .entry))) (now (recorded .entry)) ⌝ }
+{
+    let mut out = [0u8; 16384];
+    let end = text(&mut out, sheet);
+    check::same(&out[..end], recorded)
+}
+
+// The first byte of a question says its kind: `s` stands before a sheet, whose answer is its listing, and `r` before a run list, whose answer is what is made of the runs. No other question has an answer.
+fn alike(question: &[u8], recorded: &[u8]) -> bool {
+    if question.len() == 0 {
+        return false;
+    }
+    let kind = question[0];
+    if kind == b's' {
+        return listing_alike(&question[1..], recorded);
+    }
+    if kind == b'r' {
+        return runs_alike(&question[1..], recorded);
+    }
+    false
+}
 
 // Reads a question and its recorded answer, and compares. A question has a byte for its kind, a sheet of at most 34,576 bytes and at most 129 bytes for run ends; an answer has fewer than 65,536.
 // No contract can say what is read.

@@ -1,4 +1,4 @@
--- `alike::listing_alike` meets its contract. Assumes nothing.
+-- `listing_alike` meets its contract. Assumes nothing.
 use native.Mathlib.Omega.{arith}
 use mathlib.Core.Path.{sym}
 use lib.Seq.{length-take-le}
@@ -7,8 +7,8 @@ use Rattle.definitions.specs.Listing.{listing}
 use Rattle.replay.proofs.Same.{decided}
 use Rattle.replay.proofs.Front.{front}
 use borrow.Author.Needs.{needs}
-use Rattle.replay.proofs.alike.listing_alike.Statement.{statement}
-use Rattle.replay.proofs.alike.listing_alike.Tie as tie
+use Rattle.replay.proofs.listing_alike.Statement.{statement}
+use Rattle.replay.proofs.listing_alike.Tie as tie
 
 slice-aggregate-text : tie.Need-slice-aggregate-text
 slice-aggregate-text c = search needs
