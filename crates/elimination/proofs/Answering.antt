@@ -9,11 +9,11 @@ use lib.ListN.{length, take, drop}
 use Rattle.definitions.specs.Refusals.{endsFall}
 use Rattle.definitions.specs.RunList.{runsFrom, runsOf, callsOf, endsOf}
 use Rattle.definitions.proofs.RunListLaws.{RiseTo, calls-back}
-use Rattle.elimination.specs.declared.runs.Runs.{Runs}
-use Rattle.elimination.specs.RunLists.{runsIn, Sound}
+use Rattle.run_lists.specs.declared.runs.Runs.{Runs}
+use Rattle.run_lists.specs.RunLists.{runsIn, Sound}
+use Rattle.run_lists.proofs.Holding.{rises-to, held, calls-are, ends-are}
 use Rattle.elimination.specs.Insertion.{TermsF}
 use Rattle.elimination.specs.Elimination.{eliminatedF, Counts}
-use Rattle.elimination.proofs.Holding.{rises-to, held, calls-are, ends-are}
 use Rattle.elimination.proofs.Fewer.{eliminated-fewer}
 
 runs-many : (p : ℕ) (calls ends : List ℕ) → length (runsFrom p calls ends) ≡ length ends

@@ -18,12 +18,12 @@ use Rattle.definitions.specs.Improver.{givenOf, total, load}
 use Rattle.definitions.specs.Elimination.{Put, beyond, inserts, candidates}
 use Rattle.whole.specs.Difference.{diff, diff-same, diff-le}
 use Rattle.local_search.specs.Delta.{placeBefore}
-use Rattle.elimination.specs.RunLists.{runAt, insertAt, putIn}
 use Rattle.evaluation.specs.Tables.{demandsOf}
+use Rattle.run_lists.specs.RunLists.{runAt, insertAt, putIn}
+use Rattle.run_lists.proofs.Sorting.{sort-map, map-twice, count-next}
 use Rattle.elimination.specs.Loads.{roomF}
 use Rattle.elimination.specs.Insertion.{TermsF, Candidate, addsF, cheaper, candidateF, placesIn, placesOf, candidatesFrom, legF, candidatesF}
 use Rattle.elimination.specs.Image.{Image}
-use Rattle.elimination.proofs.Ordering.{sort-map, map-twice, count-next}
 use Rattle.elimination.proofs.Placing.{Within, candidates-within}
 use Rattle.elimination.proofs.CostExact.{room-exact, adds-exact, total-put, total-most}
 use Rattle.elimination.proofs.GoodRuns.{Good, good-put, good-run}

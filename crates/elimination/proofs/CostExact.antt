@@ -30,7 +30,7 @@ use Rattle.evaluation.proofs.ClockExact as Clock
 use Rattle.evaluation.proofs.ClockExact.{distance-exact}
 use Rattle.local_search.specs.Delta.{placeBefore, routeDistanceF}
 use Rattle.local_search.proofs.DeltaExact.{route-distance-exact}
-use Rattle.elimination.specs.RunLists.{runAt, insertAt, putIn}
+use Rattle.run_lists.specs.RunLists.{runAt, insertAt, putIn}
 use Rattle.elimination.specs.Loads.{roomF}
 use Rattle.elimination.specs.Insertion.{TermsF, addsF, legF, demandF}
 use Rattle.elimination.specs.Elimination.{finiteF, savedF}

@@ -28,11 +28,11 @@ use Rattle.whole.specs.Whole.{fl}
 use Rattle.whole.specs.Half.{halves}
 use Rattle.whole.specs.Gain.{elimination-test}
 use Rattle.whole.specs.Difference.{diff-none}
+use Rattle.run_lists.proofs.Holding.{rises-to}
+use Rattle.run_lists.proofs.Sorting.{sort-map, map-itself, sort-length}
 use Rattle.elimination.specs.Insertion.{TermsF, PlacedF, demandF, placeAllF}
 use Rattle.elimination.specs.Elimination.{finiteF, emptiedF, firstEmptiedF, searchF, searchesF, eliminatedF}
 use Rattle.elimination.specs.Image.{Image}
-use Rattle.elimination.proofs.Holding.{rises-to}
-use Rattle.elimination.proofs.Ordering.{sort-map, map-itself, sort-length}
 use Rattle.elimination.proofs.Fewer.{calls}
 use Rattle.elimination.proofs.GoodRuns.{Good, GoodPart, parted-good, non-empty-good}
 use Rattle.elimination.proofs.CostExact.{finite-exact, demand-exact, total-most, saved-exact}

@@ -16,11 +16,11 @@ use Rattle.definitions.specs.Sort.{rising, falling, sort}
 use Rattle.definitions.specs.Elimination.{maybe, nonEmpty, Parted, past, parted}
 use Rattle.definitions.proofs.SortLaws.{sort-all}
 use Rattle.whole.specs.Whole.{fl}
-use Rattle.elimination.specs.RunLists.{insertAt, putIn, runAt}
+use Rattle.run_lists.specs.RunLists.{insertAt, putIn, runAt}
+use Rattle.run_lists.proofs.RunParts.{length-put}
+use Rattle.run_lists.proofs.Sorting.{sort-length}
 use Rattle.elimination.specs.Insertion.{TermsF, Candidate, PlacedF, demandF, cheaper, candidatesF, allowedF, firstPayingF, placeF, placeAllF}
 use Rattle.elimination.specs.Elimination.{finiteF, savedF, emptiedF, firstEmptiedF, searchF, searchesF, eliminatedF}
-use Rattle.elimination.proofs.RunParts.{length-put}
-use Rattle.elimination.proofs.Ordering.{sort-length}
 
 -- the calls of all runs
 abbrev pub calls : List (List ℕ) → ℕ

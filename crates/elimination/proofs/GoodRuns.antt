@@ -11,7 +11,7 @@ use Rattle.definitions.specs.Sheet.{Sheet}
 use Rattle.definitions.specs.RunList.{callsOf}
 use Rattle.definitions.specs.Elimination.{nonEmpty, Parted, past, parted}
 use Rattle.definitions.proofs.EliminationLaws.{Calls}
-use Rattle.elimination.specs.RunLists.{runAt, insertAt, putIn}
+use Rattle.run_lists.specs.RunLists.{runAt, insertAt, putIn}
 use Rattle.elimination.proofs.Fewer.{calls, put-grows, non-empty-fewer}
 
 pub record Good (s : Sheet) (n : ℕ) (rs : List (List ℕ)) : Type 0 where

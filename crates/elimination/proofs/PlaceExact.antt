@@ -24,7 +24,7 @@ use Rattle.definitions.proofs.EliminationLaws.{first-stops}
 use Rattle.whole.specs.Whole.{fl, limit}
 use Rattle.whole.specs.Difference.{diff, diff-same, diff-add, fl-le-diff}
 use Rattle.evaluation.proofs.RouteExact.{feasible-exact}
-use Rattle.elimination.specs.RunLists.{runAt}
+use Rattle.run_lists.specs.RunLists.{runAt}
 use Rattle.elimination.specs.Insertion.{TermsF, Candidate, PlacedF, cheaper, candidatesF, allowedF, firstPayingF, placeF, placeAllF}
 use Rattle.elimination.specs.Image.{Image}
 use Rattle.elimination.proofs.GoodRuns.{Good, good-run, good-few}

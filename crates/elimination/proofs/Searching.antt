@@ -12,16 +12,17 @@ use Rattle.definitions.specs.Room.{written}
 use Rattle.definitions.specs.Sort.{sort}
 use Rattle.definitions.specs.Elimination.{nonEmpty, Parted}
 use Rattle.table.proofs.Writing.{length-written, front-written}
-use Rattle.elimination.specs.declared.runs.Runs.{Runs}
+use Rattle.run_lists.specs.declared.runs.Runs.{Runs}
+use Rattle.run_lists.specs.RunLists.{room, Front, runsIn, Sound, runAt}
+use Rattle.run_lists.specs.Least.{leastAt, byLength}
+use Rattle.run_lists.proofs.Fronts.{front-at}
+use Rattle.run_lists.proofs.Holding.{held}
+use Rattle.run_lists.proofs.Least.{none-left, picked-inside, picked, picked-all}
+use Rattle.run_lists.proofs.Sorting.{count-below}
 use Rattle.elimination.specs.declared.route_elimination.Tried.{Tried}
-use Rattle.elimination.specs.RunLists.{room, Front, runsIn, Sound, runAt}
-use Rattle.elimination.specs.Least.{leastAt, byLength}
 use Rattle.elimination.specs.Insertion.{TermsF}
 use Rattle.elimination.specs.Elimination.{partAt, emptiedF, firstEmptiedF, searchF, searchesF, eliminatedF, triedOf, Tries}
-use Rattle.elimination.proofs.Fronts.{front-at}
-use Rattle.elimination.proofs.Holding.{held}
-use Rattle.elimination.proofs.Least.{none-left, picked-inside, picked, picked-all}
-use Rattle.elimination.proofs.Ordering.{count-below, order-is}
+use Rattle.elimination.proofs.Ordering.{order-is}
 use Rattle.elimination.proofs.Fewer.{Fewer, search-fewer, non-empty-fewer}
 
 -- ---- one search

@@ -16,9 +16,9 @@ use Rattle.evaluation.specs.Records.{Tables, LimitsF, limitsOf, lent}
 use Rattle.evaluation.specs.Tables.{demandsOf, askedF, distanceF}
 use Rattle.evaluation.specs.Route.{feasibleF}
 use Rattle.local_search.specs.Delta.{placeBefore}
+use Rattle.run_lists.specs.RunLists.{Sound, runsIn, runAt, putIn}
 use Rattle.elimination.specs.declared.insertion.Terms.{Terms}
 use Rattle.elimination.specs.declared.insertion.Placed.{Placed}
-use Rattle.elimination.specs.RunLists.{Sound, runsIn, runAt, putIn}
 use Rattle.elimination.specs.Loads.{roomF}
 
 -- ---- what is lent

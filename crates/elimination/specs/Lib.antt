@@ -1,9 +1,5 @@
--- Run lists by value.
-pub mod RunLists
 -- Whether a run has room for one more.
 pub mod Loads
--- The first of the least.
-pub mod Least
 -- Where a customer may go, and what it adds there.
 pub mod Insertion
 -- Elimination on floats.

@@ -5,10 +5,10 @@ use mathlib.Core.Path.{_≡_, refl, sym, ap, _∙_}
 use lib.ListN.{replicate}
 use lib.Seq.{length-take-le}
 use denote.Ref.{now}
-use Rattle.elimination.specs.declared.runs.Runs.{Runs}
-use Rattle.elimination.specs.RunLists.{runsIn}
+use Rattle.run_lists.specs.declared.runs.Runs.{Runs}
+use Rattle.run_lists.specs.RunLists.{runsIn}
+use Rattle.run_lists.proofs.Holding.{held}
 use Rattle.elimination.specs.Insertion.{termsOf}
-use Rattle.elimination.proofs.Holding.{held}
 use Rattle.elimination.proofs.Searching.{Trying, trying-first, trying-all, trying-picks, trying-inside, tried-all, tried-found, tried-more, Searching, searching-first, searching-over, searching-less, searching-again}
 use borrow.Author.Needs.{needs}
 use Rattle.elimination.proofs.route_elimination.eliminate.Statement.{statement}

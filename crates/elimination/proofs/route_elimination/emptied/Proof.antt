@@ -5,10 +5,10 @@ use mathlib.Core.Path.{sym, ap, _∙_}
 use lib.ListN.{length}
 use denote.Ref.{now}
 use Rattle.basics.specs.Tests.{not-true, not-false}
-use Rattle.elimination.specs.RunLists.{runsIn}
+use Rattle.run_lists.specs.RunLists.{runsIn}
+use Rattle.run_lists.proofs.Changing.{run-bound, run-lent}
 use Rattle.elimination.specs.Insertion.{termsOf}
 use Rattle.elimination.specs.Elimination.{partAt}
-use Rattle.elimination.proofs.Changing.{run-bound, run-lent}
 use Rattle.elimination.proofs.Emptying.{saved-is, moved-is, not-finite, not-placed, goes, stays}
 use borrow.Author.Needs.{needs}
 use Rattle.elimination.proofs.route_elimination.emptied.Statement.{statement}

@@ -1,0 +1,10 @@
+-- Lists at the front of arrays and of lent lists.
+pub mod Fronts
+-- Run lists by value: what they hold, and what a changed one holds.
+pub mod Holding
+pub mod RunParts
+pub mod Changing
+pub mod Keeping
+-- The first of the least, taken out, and what is sorted so.
+pub mod Least
+pub mod Sorting

@@ -1,0 +1,4 @@
+-- Run lists by value.
+pub mod RunLists
+-- The first of the least.
+pub mod Least
