@@ -2,3 +2,7 @@
 pub mod Same
 -- A text at the front of a buffer.
 pub mod Front
+-- Reading along a recorded text.
+pub mod Along
+-- A question that has an answer.
+pub mod Answering
