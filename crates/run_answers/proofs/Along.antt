@@ -4,27 +4,27 @@ use native.Mathlib.Omega.{arith}
 use native.Mathlib.Nat.{min-le-right}
 use mathlib.Core.Path.{_≡_, refl, sym, ap, _∙_}
 use mathlib.Core.Bool.{Bool, true, false, false≢true}
-use mathlib.Core.List.{List, [], _∷_}
+use mathlib.Core.List.{List}
 use lib.ListN.{length, take, drop, getD, length-take, length-drop, drop-of-length-le}
-use lib.Dec.{leb}
-use borrow.Author.Tests.{leb-true, le-leb, lt-leb}
-use Rattle.basics.specs.Tests.{by-test, both, and-true}
+use borrow.Author.Tests.{leb-true, le-leb}
+use Rattle.basics.specs.Tests.{by-test, both}
 use Rattle.definitions.specs.Listing.{spaced}
 use Rattle.report.proofs.Pieces.{next-left}
-use Rattle.run_answers.specs.Alike.{sameList}
 use Rattle.run_answers.specs.Along.{unlike, says, follow, followNumbers, Inside}
 use Rattle.run_answers.proofs.Same.{same-itself, same-is}
 
--- the numbers from number k on, of which one is left
+-- where a number is left, it comes next
 pub numbers-more : (recorded : List ℕ) (at : ℕ) (run : List ℕ) (k : ℕ) → k < length run → followNumbers recorded at (drop k run) ≡ followNumbers recorded (follow recorded at (spaced (getD run k 0))) (drop (k + 1) run)
 unfolding followNumbers
 numbers-more recorded at run k h = rw (next-left run k 0 h) refl
 
+-- where none is left, the place stays
 pub numbers-done : (recorded : List ℕ) (at : ℕ) (run : List ℕ) (k : ℕ) → length run ≤ k → followNumbers recorded at (drop k run) ≡ at
 unfolding followNumbers
 numbers-done recorded at run k h = rw (drop-of-length-le run {i = k} h) refl
 
 module _ (recorded : List ℕ) (at : ℕ) (text : List ℕ) where
+  -- what stands there
   abbrev there : List ℕ
   there = take (length text) (drop at recorded)
 

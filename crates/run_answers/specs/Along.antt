@@ -15,7 +15,7 @@ unlike = 65536
 unfoldable pub says : List ℕ → ℕ → List ℕ → Bool
 says recorded at text = leb at (length recorded) && sameList (take (length text) (drop at recorded)) text
 
--- the place after a text, where that stands at the place
+-- the place after a text that stands at the place; beyond every text where another stands there
 unfoldable pub follow : List ℕ → ℕ → List ℕ → ℕ
 follow recorded at text = cond (says recorded at text) (at + length text) unlike
 
