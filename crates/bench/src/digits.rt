@@ -1,8 +1,12 @@
 // A short list of small numbers, as the calls of a tour, written as the digits of one number.
-ghost use Prim.Native.Nat.{_≤_};
+ghost use mathlib.Core.Path.{_≡_};
+ghost use mathlib.Core.List.{[], _∷_};
+ghost use Prim.Native.Nat.{_/_, _%_, _≤_};
 
 // The last five digits.
-pub fn digits(n: usize) -> [usize; 5] {
+pub fn digits(n: usize) -> [usize; 5]
+    ensures { λ r. ⌜ r ≡ n / 10000 % 10 ∷ n / 1000 % 10 ∷ n / 100 % 10 ∷ n / 10 % 10 ∷ n % 10 ∷ [] ⌝ }
+{
     [
         n / 10000 % 10,
         n / 1000 % 10,

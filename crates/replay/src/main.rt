@@ -1,7 +1,7 @@
 // Replays recorded answers of the Rust planner: reads records on standard input, computes each answer anew, and says whether all are alike.
 ghost use mathlib.Core.Path.{_≡_};
 ghost use Rattle.definitions.specs.Listing.{listing};
-ghost use Rattle.replay.specs.Alike.{sameList};
+ghost use Rattle.run_answers.specs.Alike.{sameList};
 use plan_listing::text::text;
 use records::closing::print_closing;
 use records::record::Record;

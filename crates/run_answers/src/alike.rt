@@ -1,5 +1,8 @@
 // Whether a recorded answer is what is made of the run list.
+ghost use mathlib.Core.Path.{_≡_};
+ghost use mathlib.Core.Bool.{true};
 ghost use Rattle.plan_listing.specs.Held.{Accepted};
+ghost use Rattle.run_answers.specs.Answered.{Answered};
 use crate::given::number_of;
 use crate::given::write_ends;
 use crate::recorded::UNLIKE;
@@ -43,7 +46,9 @@ fn accepted_alike(sheet: &[u8], ends: &[u8], recorded: &[u8]) -> bool
 }
 
 // The same of any sheet: a refused one has no answer.
-fn sheet_alike(sheet: &[u8], ends: &[u8], recorded: &[u8]) -> bool {
+fn sheet_alike(sheet: &[u8], ends: &[u8], recorded: &[u8]) -> bool
+    ensures { λ r. ⌜ (r ≡ true → Accepted (now (sheet .entry))) ⌝ }
+{
     match read(sheet) {
         Reading::Refused(_, _) => false,
         Reading::Sheet(_) => accepted_alike(sheet, ends, recorded),
@@ -51,7 +56,9 @@ fn sheet_alike(sheet: &[u8], ends: &[u8], recorded: &[u8]) -> bool {
 }
 
 // A question that ends before its sheet has no answer.
-pub fn runs_alike(question: &[u8], recorded: &[u8]) -> bool {
+pub fn runs_alike(question: &[u8], recorded: &[u8]) -> bool
+    ensures { λ r. ⌜ (r ≡ true → Answered (now (question .entry))) ⌝ }
+{
     if question.len() == 0 {
         return false;
     }

@@ -1,4 +1,5 @@
 // The lines of a run that is built: its visits, its violations and its totals.
+ghost use Rattle.run_answers.specs.Along.{Inside};
 use crate::recorded::UNLIKE;
 use crate::recorded::figure;
 use crate::recorded::number;
@@ -138,7 +139,9 @@ fn total_figures(recorded: &[u8], at: usize, built: Built) -> usize {
 }
 
 // The totals, and the break.
-fn route_line(recorded: &[u8], at: usize, built: Built) -> usize {
+fn route_line(recorded: &[u8], at: usize, built: Built) -> usize
+    ensures { λ r. ⌜ Inside (now (recorded .entry)) r ⌝ }
+{
     let start = built.start;
     let mut end = word(recorded, at, b"route");
     end = total_figures(recorded, end, built);
@@ -147,7 +150,9 @@ fn route_line(recorded: &[u8], at: usize, built: Built) -> usize {
 }
 
 // All lines of the run.
-pub fn built_lines(recorded: &[u8], at: usize, built: Built) -> usize {
+pub fn built_lines(recorded: &[u8], at: usize, built: Built) -> usize
+    ensures { λ r. ⌜ Inside (now (recorded .entry)) r ⌝ }
+{
     let end = visits_and_violations(recorded, at, built);
     route_line(recorded, end, built)
 }

@@ -5,6 +5,7 @@ ghost use mathlib.Core.Bool.{false};
 ghost use Prim.Native.Nat.{_≤_};
 ghost use lib.ListN.{length};
 ghost use Rattle.definitions.specs.Refusals.{endsFall};
+ghost use Rattle.run_answers.specs.Along.{Inside};
 use crate::lines::built_lines;
 use crate::recorded::UNLIKE;
 use crate::recorded::calls;
@@ -29,7 +30,9 @@ fn visited(
     held: Loaded,
     distances: &[f64],
     times: &[f64],
-) -> usize {
+) -> usize
+    ensures { λ r. ⌜ Inside (now (recorded .entry)) r ⌝ }
+{
     if 128 < run.len() {
         return UNLIKE;
     }
@@ -80,7 +83,9 @@ fn reversed(
     held: Loaded,
     distances: &[f64],
     times: &[f64],
-) -> usize {
+) -> usize
+    ensures { λ r. ⌜ Inside (now (recorded .entry)) r ⌝ }
+{
     let n = run.len();
     if 128 < n {
         return UNLIKE;
@@ -108,7 +113,9 @@ fn run_text(
     held: Loaded,
     distances: &[f64],
     times: &[f64],
-) -> usize {
+) -> usize
+    ensures { λ r. ⌜ Inside (now (recorded .entry)) r ⌝ }
+{
     match part {
         Part::Visits => visited(recorded, at, run, held, distances, times),
         Part::Reversal => reversed(recorded, at, run, held, distances, times),
@@ -130,7 +137,9 @@ fn between(
     held: Loaded,
     distances: &[f64],
     times: &[f64],
-) -> usize {
+) -> usize
+    ensures { λ r. ⌜ Inside (now (recorded .entry)) r ⌝ }
+{
     if to < from {
         return UNLIKE;
     }
@@ -150,7 +159,10 @@ fn each_run(
     held: Loaded,
     distances: &[f64],
     times: &[f64],
-) -> usize {
+) -> usize
+    requires { ⌜ Inside (now recorded) at ⌝ }
+    ensures { λ r. ⌜ Inside (now (recorded .entry)) r ⌝ }
+{
     let mut end = at;
     let mut from = 0;
     let mut k = 0;
@@ -207,6 +219,8 @@ fn left_lines(
     times: &[f64],
 ) -> usize
     requires { ⌜ (length (now all) ≤ 128) × (length (now ends) ≤ 128) × (endsFall 0 (now ends) (length (now all)) ≡ false) ⌝ }
+    requires { ⌜ Inside (now recorded) at ⌝ }
+    ensures { λ r. ⌜ Inside (now (recorded .entry)) r ⌝ }
 {
     let mut left_calls = [0usize; 128];
     let mut left_ends = [0usize; 128];
@@ -242,7 +256,10 @@ fn left_over(
     held: Loaded,
     distances: &[f64],
     times: &[f64],
-) -> usize {
+) -> usize
+    requires { ⌜ Inside (now recorded) at ⌝ }
+    ensures { λ r. ⌜ Inside (now (recorded .entry)) r ⌝ }
+{
     if 128 < all.len() {
         return UNLIKE;
     }
@@ -263,7 +280,9 @@ pub fn runs_text(
     held: Loaded,
     distances: &[f64],
     times: &[f64],
-) -> usize {
+) -> usize
+    ensures { λ r. ⌜ Inside (now (recorded .entry)) r ⌝ }
+{
     let mut end = each_run(recorded, 0, Part::Visits, all, ends, held, distances, times);
     let head = held.head;
     let customers = held.customers;

@@ -4,8 +4,8 @@ use mathlib.Core.Path.{sym}
 use lib.Seq.{length-take-le}
 use denote.Ref.{now}
 use Rattle.definitions.specs.Listing.{listing}
-use Rattle.replay.proofs.Same.{decided}
-use Rattle.replay.proofs.Front.{front}
+use Rattle.run_answers.proofs.Same.{decided}
+use Rattle.run_answers.proofs.Front.{front}
 use borrow.Author.Needs.{needs}
 use Rattle.replay.proofs.listing_alike.Statement.{statement}
 use Rattle.replay.proofs.listing_alike.Tie as tie

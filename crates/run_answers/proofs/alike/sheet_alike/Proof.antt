@@ -1,5 +1,6 @@
--- `alike::sheet_alike` is safe. Assumes nothing.
+-- `alike::sheet_alike` meets its contract. Assumes nothing.
 use mathlib.Core.Path.{sym, ap, _∙_}
+use mathlib.Core.Bool.{false≢true}
 use denote.Ref.{now}
 use Rattle.sheet.specs.Summary.{heldCounts, heldSummary}
 use Rattle.plan_listing.proofs.Reading.{is-accepted}
@@ -23,10 +24,10 @@ accepted-alike-requires c κs =
     is-accepted (now (r .before .before .before .before .args .sheet)) (heldCounts (k .0 .0)) (sym (ap heldSummary (k .1)) ∙ r .read .ensures)
 
 returns : tie.Need-returns
-returns c = search needs
+returns c h = absurd (false≢true h)
 
 returns-2 : tie.Need-returns-2
-returns-2 c = search needs
+returns-2 c h = accepted-alike-requires (c .before) (c .accepted-alike .lifetimes)
 
 pub sheet-alike-spec : {M : Type 1} → statement M
 sheet-alike-spec =

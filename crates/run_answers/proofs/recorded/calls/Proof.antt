@@ -1,12 +1,18 @@
--- `recorded::calls` is safe and ends: the measure is how many calls are left. Assumes nothing.
-use Prim.Native.Nat.{_-_}
-use lib.ListN.{length}
+-- `recorded::calls` meets its contract. The loop's invariant: from here on the numbers that are left lead where all of them lead from the start. Assumes nothing.
+use Prim.Native.Nat.{ℕ, _-_, _≤_}
+use native.Mathlib.Omega.{arith}
+use mathlib.Core.Path.{_≡_, sym, ap, _∙_}
+use lib.ListN.{length, drop}
+use denote.Ref.{now}
 use borrow.Author.Needs.{needs}
+use Rattle.definitions.specs.Listing.{endOfLine}
+use Rattle.run_answers.specs.Along.{follow, followNumbers}
+use Rattle.run_answers.proofs.Along.{numbers-more, numbers-done}
 use Rattle.run_answers.proofs.recorded.calls.Statement.{statement}
 use Rattle.run_answers.proofs.recorded.calls.Tie as tie
 
 abbrev Inv-loop : tie.InvT-loop
-Inv-loop recorded at run end₀ k₀ t6 end k = Unit
+Inv-loop recorded at run end₀ k₀ t6 end k = (k ≤ length run) × (followNumbers recorded end (drop k run) ≡ followNumbers recorded at run)
 
 abbrev μ-loop : tie.MeasureT-loop
 μ-loop recorded at run end₀ k₀ t6 end k = length run - k
@@ -30,7 +36,10 @@ loop-less : tie.Need-loop-less Inv-loop μ-loop
 loop-less c = search needs
 
 loop-again : tie.Need-loop-again Inv-loop μ-loop
-loop-again c = search needs
+loop-again c =
+    let l = c .before .before .before .loop in
+    let a = c .before .before .before .before .before .before .args in
+    (omega arith, rw (c .number .ensures .0) (sym (numbers-more (now (a .recorded)) (l .end) (now (a .run)) (l .k) (omega arith)) ∙ l .inv .1))
 
 slice-aggregate-word : tie.Need-slice-aggregate-word Inv-loop μ-loop
 slice-aggregate-word c = search needs
@@ -39,7 +48,11 @@ word-requires : tie.Need-word-requires Inv-loop μ-loop
 word-requires c κs = search needs
 
 returns : tie.Need-returns Inv-loop μ-loop
-returns c = search needs
+returns c =
+    let l = c .before .before .before .loop in
+    let a = c .before .before .before .before .before .before .args in
+    let e = sym (numbers-done (now (a .recorded)) (l .end) (now (a .run)) (l .k) (omega arith)) ∙ l .inv .1 in
+    (c .word .ensures .0 ∙ ap (λ (n : ℕ). follow (now (a .recorded)) n endOfLine) e, c .word .ensures .1)
 
 pub calls-spec : {M : Type 1} → statement M
 calls-spec =

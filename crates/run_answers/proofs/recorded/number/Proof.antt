@@ -1,7 +1,8 @@
--- `recorded::number` is safe. Assumes nothing.
+-- `recorded::number` meets its contract. Assumes nothing.
 use mathlib.Core.Path.{sym}
 use lib.Seq.{length-take-le}
 use borrow.Author.Needs.{needs}
+use Rattle.run_answers.proofs.Front.{front}
 use Rattle.run_answers.proofs.recorded.number.Statement.{statement}
 use Rattle.run_answers.proofs.recorded.number.Tie as tie
 
@@ -21,7 +22,7 @@ word-requires : tie.Need-word-requires
 word-requires c κs = search needs
 
 returns : tie.Need-returns
-returns c = search needs
+returns c = rw (front (c .before .before .before .spaced .ensures .0)) at (c .word .ensures)
 
 pub number-spec : {M : Type 1} → statement M
 number-spec =

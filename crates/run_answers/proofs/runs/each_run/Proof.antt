@@ -1,12 +1,13 @@
--- `runs::each_run` is safe and ends: the measure is how many runs are left. Assumes nothing.
+-- `runs::each_run` meets its contract. The loop's invariant: the place is inside the text or beyond every text. The measure is how many runs are left. Assumes nothing.
 use Prim.Native.Nat.{_-_}
 use lib.ListN.{length}
 use borrow.Author.Needs.{needs}
+use Rattle.run_answers.specs.Along.{Inside}
 use Rattle.run_answers.proofs.runs.each_run.Statement.{statement}
 use Rattle.run_answers.proofs.runs.each_run.Tie as tie
 
 abbrev Inv-loop : tie.InvT-loop
-Inv-loop recorded at part all ends held distances times end₀ from₀ k₀ end from k = Unit
+Inv-loop recorded at part all ends held distances times end₀ from₀ k₀ end from k = Inside recorded end
 
 abbrev μ-loop : tie.MeasureT-loop
 μ-loop recorded at part all ends held distances times end₀ from₀ k₀ end from k = length ends - k

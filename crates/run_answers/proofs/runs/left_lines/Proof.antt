@@ -1,4 +1,4 @@
--- `runs::left_lines` is safe. Assumes nothing.
+-- `runs::left_lines` meets its contract. Assumes nothing.
 use mathlib.Core.Path.{sym}
 use lib.Seq.{length-take-le}
 use borrow.Author.Needs.{needs}

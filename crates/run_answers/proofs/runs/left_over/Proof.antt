@@ -1,4 +1,4 @@
--- `runs::left_over` is safe. Assumes nothing.
+-- `runs::left_over` meets its contract. Assumes nothing.
 use native.Mathlib.Omega.{arith}
 use mathlib.Core.Path.{sym, _∙_}
 use borrow.Author.Needs.{needs}
@@ -20,7 +20,7 @@ returns-3 c = search needs
 left-lines-requires : tie.Need-left-lines-requires
 left-lines-requires c κs =
     let e = c .before in
-    (omega arith, omega arith, sym (e .ends-fall .ensures) ∙ c .if3 .left)
+    ((omega arith, omega arith, sym (e .ends-fall .ensures) ∙ c .if3 .left), search needs)
 
 returns-4 : tie.Need-returns-4
 returns-4 c = search needs

@@ -1,4 +1,4 @@
--- `runs::reversed` is safe. Assumes nothing.
+-- `runs::reversed` meets its contract. Assumes nothing.
 use mathlib.Core.Path.{sym}
 use lib.Seq.{length-take-le}
 use borrow.Author.Needs.{needs}

@@ -1,4 +1,4 @@
--- When a recorded answer is the computed one. Definitions only.
+-- When two texts are one. Definitions only.
 use Prim.Native.Nat.{ℕ}
 use mathlib.Core.Bool.{Bool, true, false, _&&_}
 use mathlib.Core.List.{List, [], _∷_}

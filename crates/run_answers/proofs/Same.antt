@@ -5,14 +5,14 @@ use mathlib.Core.Bool.{Bool, true, false≢true}
 use mathlib.Core.List.{List, [], _∷_}
 use borrow.Author.Tests.{eqb-true, eq-eqb}
 use Rattle.basics.specs.Tests.{same-test, both, and-true}
-use Rattle.replay.specs.Alike.{sameList}
+use Rattle.run_answers.specs.Alike.{sameList}
 
-same-itself : (l : List ℕ) → sameList l l ≡ true
+pub same-itself : (l : List ℕ) → sameList l l ≡ true
 unfolding sameList
 same-itself [] = refl
 same-itself (x ∷ l) = and-true _ _ (eq-eqb x x refl) (same-itself l)
 
-same-is : (l m : List ℕ) → sameList l m ≡ true → l ≡ m
+pub same-is : (l m : List ℕ) → sameList l m ≡ true → l ≡ m
 unfolding sameList
 same-is [] [] h = refl
 same-is [] (y ∷ m) h = absurd (false≢true h)

@@ -1,4 +1,0 @@
--- Lists that are the same.
-pub mod Same
--- A text at the front of a buffer.
-pub mod Front
