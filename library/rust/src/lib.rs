@@ -42,6 +42,13 @@ pub struct Plan {
     pub distance: u64,
 }
 
+impl Plan {
+    /// How many calls are served.
+    pub fn served(&self) -> usize {
+        self.runs.iter().map(|run| run.calls.len()).sum()
+    }
+}
+
 /// No word: what stands there until a bad word is named.
 const NO_WORD: usize = usize::MAX;
 
