@@ -1,7 +1,5 @@
 //! What each function of the library is lent, as it stands before and after a call.
-#[path = "../../src/raw.rs"]
-mod raw;
-
+use crate::slices;
 use std::fmt;
 
 /// What stands in lent memory before a call; no answer has these numbers.
@@ -31,6 +29,10 @@ impl<T: Copy> Lent<T> {
     pub fn new(old: T, length: usize) -> Lent<T> {
         let memory = vec![old; length + 8];
         Lent { memory, length }
+    }
+
+    fn lent(&mut self) -> &mut [T] {
+        &mut self.memory[..self.length]
     }
 
     /// The same memory with these numbers at its front.
@@ -71,26 +73,17 @@ impl Planned {
 
     /// What `lizsomdur_plan` returns, and what it leaves.
     pub fn after(mut self, sheet: &[u8]) -> (u32, Planned) {
-        // SAFETY: no list is longer than said, and none overlaps another.
-        let number = unsafe {
-            raw::lizsomdur_plan(
-                sheet.as_ptr(),
-                sheet.len(),
-                self.served.memory.as_mut_ptr(),
-                self.served.length,
-                self.run_ends.memory.as_mut_ptr(),
-                self.run_ends.length,
-                self.break_places.memory.as_mut_ptr(),
-                self.break_places.length,
-                self.break_starts.memory.as_mut_ptr(),
-                self.break_starts.length,
-                self.dropped.memory.as_mut_ptr(),
-                self.dropped.length,
-                &mut self.counts,
-                &mut self.totals,
-                &mut self.word,
-            )
-        };
+        let number = slices::plan(
+            sheet,
+            self.served.lent(),
+            self.run_ends.lent(),
+            self.break_places.lent(),
+            self.break_starts.lent(),
+            self.dropped.lent(),
+            &mut self.counts,
+            &mut self.totals,
+            &mut self.word,
+        );
         (number, self)
     }
 }
@@ -119,22 +112,15 @@ impl Judged {
         ends: &[usize],
         places: &[usize],
     ) -> (u32, Judged) {
-        // SAFETY: no list is longer than said, and none overlaps another.
-        let number = unsafe {
-            raw::lizsomdur_mark(
-                sheet.as_ptr(),
-                sheet.len(),
-                calls.as_ptr(),
-                calls.len(),
-                ends.as_ptr(),
-                ends.len(),
-                places.as_ptr(),
-                places.len(),
-                &mut self.word,
-                &mut self.verdict,
-                &mut self.values,
-            )
-        };
+        let number = slices::mark(
+            sheet,
+            calls,
+            ends,
+            places,
+            &mut self.word,
+            &mut self.verdict,
+            &mut self.values,
+        );
         (number, self)
     }
 }
@@ -157,19 +143,8 @@ impl Reversed {
 
     /// What `lizsomdur_reverse` returns, and what it leaves.
     pub fn after(mut self, sheet: &[u8], run: &[usize]) -> (u32, Reversed) {
-        // SAFETY: no list is longer than said, and none overlaps another.
-        let number = unsafe {
-            raw::lizsomdur_reverse(
-                sheet.as_ptr(),
-                sheet.len(),
-                run.as_ptr(),
-                run.len(),
-                self.improved.memory.as_mut_ptr(),
-                self.improved.length,
-                &mut self.word,
-                &mut self.distance,
-            )
-        };
+        let improved = self.improved.lent();
+        let number = slices::reverse(sheet, run, improved, &mut self.word, &mut self.distance);
         (number, self)
     }
 }
@@ -194,23 +169,15 @@ impl Left {
 
     /// What `lizsomdur_eliminate` returns, and what it leaves.
     pub fn after(mut self, sheet: &[u8], calls: &[usize], ends: &[usize]) -> (u32, Left) {
-        // SAFETY: no list is longer than said, and none overlaps another.
-        let number = unsafe {
-            raw::lizsomdur_eliminate(
-                sheet.as_ptr(),
-                sheet.len(),
-                calls.as_ptr(),
-                calls.len(),
-                ends.as_ptr(),
-                ends.len(),
-                self.calls.memory.as_mut_ptr(),
-                self.calls.length,
-                self.ends.memory.as_mut_ptr(),
-                self.ends.length,
-                &mut self.word,
-                &mut self.counts,
-            )
-        };
+        let number = slices::eliminate(
+            sheet,
+            calls,
+            ends,
+            self.calls.lent(),
+            self.ends.lent(),
+            &mut self.word,
+            &mut self.counts,
+        );
         (number, self)
     }
 }

@@ -2,6 +2,10 @@
 #[path = "../common/mod.rs"]
 mod common;
 mod lists;
+#[path = "../../src/raw.rs"]
+mod raw;
+#[path = "../../src/slices.rs"]
+mod slices;
 
 use common::faulty::faulty;
 use common::sample;
@@ -10,6 +14,8 @@ use common::worked::{base, full, marked, with_window};
 use lists::{Judged, Left, Planned, Reversed, OLD_FLOAT};
 
 const ROOM: usize = lizsomdur::CALLS;
+
+type List<'a> = &'a [usize];
 
 /// Three customers on one road out of the depot, and a bus for all.
 fn road() -> Vec<u8> {
@@ -105,15 +111,23 @@ fn a_refused_sheet_sets_the_word_alone() {
 /// How many values the verdicts have, by number.
 const VALUES: [usize; 11] = [0, 1, 3, 5, 5, 3, 3, 3, 0, 1, 1];
 
+/// The end and the break place of each run.
+fn ends_and_places(runs: &[(Vec<usize>, usize)]) -> (Vec<usize>, Vec<usize>) {
+    let mut end = 0;
+    runs.iter()
+        .map(|(calls, place)| {
+            end += calls.len();
+            (end, *place)
+        })
+        .unzip()
+}
+
 #[test]
 fn a_verdict_sets_its_own_values() {
     let mut seen = [false; 11];
     for cut in marked() {
-        let calls = cut.runs.iter().flat_map(|run| run.0.clone());
-        let calls: Vec<usize> = calls.collect();
-        let ends = (1..=cut.runs.len()).map(|n| cut.runs[..n].iter().map(|run| run.0.len()).sum());
-        let ends: Vec<usize> = ends.collect();
-        let places: Vec<usize> = cut.runs.iter().map(|run| run.1).collect();
+        let calls: Vec<usize> = cut.runs.iter().flat_map(|run| run.0.clone()).collect();
+        let (ends, places) = ends_and_places(&cut.runs);
         let (number, left) = Judged::new().after(&cut.sheet, &calls, &ends, &places);
         let count = VALUES[left.verdict as usize];
         seen[left.verdict as usize] = true;
@@ -127,17 +141,14 @@ fn a_verdict_sets_its_own_values() {
         assert!(!values[..count].contains(&OLD_FLOAT), "{}", cut.name);
         assert_eq!((number, left), (0, expected), "{}", cut.name);
     }
-    assert_eq!(
-        seen,
-        [false, true, true, true, true, true, true, true, true, true, true]
-    );
+    assert!(seen[1..].iter().all(|&verdict| verdict));
 }
 
-/// In the order in which they are tested: a list that stands further up in this table has the faults below it too, where it can.
+/// Rows with several faults show which is told: 13 before 1 before 5.
 #[test]
 fn refused_runs_of_a_mark_leave_everything() {
     let (broken, whole) = (full().with(&[1, 2]), base().with(&[1, 2]));
-    let table: [(&[u8], &[usize], &[usize], &[usize], u32); 11] = [
+    let table: [(&[u8], List, List, List, u32); 12] = [
         (&broken, &[9, 2], &[2, 1], &[3], 13),
         (&broken, &[1, 2], &[1, 2], &[0], 13),
         (&broken, &[1, 6], &[2, 1], &[3, 3], 1),
@@ -147,6 +158,7 @@ fn refused_runs_of_a_mark_leave_everything() {
         (&broken, &[1, 2], &[1], &[0], 5),
         (&broken, &[1, 2], &[], &[], 5),
         (&broken, &[1, 2], &[2, 2], &[0, 0], 5),
+        (&broken, &[1; 128], &[128; 129], &[0; 129], 5),
         (&broken, &[1, 2], &[2], &[3], 5),
         (&whole, &[1, 2], &[2], &[1], 5),
     ];
@@ -184,9 +196,10 @@ fn a_reversed_run_is_written_at_the_front() {
     assert_eq!(Reversed::new(4).after(&road(), &[]), (0, left));
 }
 
+/// Rows with several faults show which is told: 13 before 1 before 4.
 #[test]
 fn a_refused_run_leaves_everything() {
-    let table: [(&[u8], &[usize], usize, u32); 6] = [
+    let table: [(&[u8], List, usize, u32); 6] = [
         (&paying(), &[9, 2], 1, 13),
         (&road(), &[1; 129], 128, 13),
         (&paying(), &[9, 2], 2, 1),
@@ -214,9 +227,10 @@ fn runs_left_are_written_at_the_fronts() {
     }
 }
 
+/// Rows with several faults show which is told: 13 before 1 before 5 before 4.
 #[test]
 fn refused_runs_of_an_elimination_leave_everything() {
-    let table: [(&[u8], &[usize], &[usize], [usize; 2], u32); 9] = [
+    let table: [(&[u8], List, List, [usize; 2], u32); 9] = [
         (&paying(), &[9, 2], &[2, 1], [1, 2], 13),
         (&paying(), &[9, 2], &[2, 1], [2, 1], 13),
         (&paying(), &[9, 2], &[2, 1], [2, 2], 1),
