@@ -11,26 +11,18 @@ fn planned(sheet: Sheet, calls: &[usize], text: &str) {
     assert_eq!(listing(&sheet, &plan(&sheet)), text);
 }
 
-/// The base with legs that are all different, and a bus for three calls.
-fn uneven() -> Sheet {
-    Sheet {
-        capacity: 6,
-        distances: vec![1, 2, 4, 8, 16, 32, 64, 128, 256],
-        ..base()
-    }
-}
-
+/// With the table read by columns the distance would be 140.
 #[test]
 fn legs_stand_in_the_row_of_the_place_that_they_start_from() {
+    let uneven = Sheet {
+        fixed: 100,
+        distances: vec![1, 2, 4, 8, 16, 32, 64, 128, 256],
+        ..base()
+    };
     planned(
-        uneven(),
+        uneven,
         &[1, 2],
-        "run 1\nrun 2\ntotal 78 cost 78 served 2 dropped 0\n",
-    );
-    planned(
-        uneven(),
-        &[1],
-        "run 1\ntotal 10 cost 10 served 1 dropped 0\n",
+        "run 1 2\ntotal 98 cost 198 served 2 dropped 0\n",
     );
 }
 
