@@ -1,33 +1,80 @@
-/* Lizsomdur, the route planner whose every answer is proved, as a static library.
+/* Lizsomdur, a route planner whose every answer is proved, as a static library for x86-64 Linux. From a sheet, which is a row of bytes,
  *
- * A sheet is a file of 32-bit words, little-endian: the top four bits of a word are its kind, the rest its value. Kinds, in the order in which they
+ *   lizsomdur_plan        cuts the calls into runs at least cost
+ *   lizsomdur_mark        says what somebody's own cutting is worth beside that plan
+ *   lizsomdur_reverse     shortens a run by another order of its calls
+ *   lizsomdur_eliminate   does the same work with fewer runs
+ *
+ * ---- The sheet
+ *
+ * It is made of 32-bit words, little-endian. The top four bits of a word are its kind, the rest is its value. The kinds, in the order in which they
  * stand:
  *
- *   1 places, the depot among them (1 to 64)         2 capacity (to 1,000,000)          3 cost added for every run
+ *   1 places, the depot among them (1 to 64)         2 capacity (to 1,000,000)          3 fixed cost of every run
  *   4 distance limit (may be left out)               5 duration limit (may be left out)
- *   6 break: earliest, latest, duration (three words, may be left out)
- *   for each place but the depot: 7 demand (to 32,767), 8 service; then, where it has a window, 9 ready and A due; then, where lateness is paid, B penalty (to 1,000)
- *   C distances, by rows, places times places        D times, the same (may be left out: then a time is the distance)
- *   E calls: the customers to serve, in order (0 to 128, each from 1 to places - 1)
+ *   6 break: earliest start, latest start, duration (three words, may be left out)
+ *   for each customer, that is each place but the depot, from 1 on:
+ *     7 demand (to 32,767)                           8 service, the time that it takes
+ *     9 ready and A due, the window (both may be left out)
+ *     B penalty (to 1,000, may be left out)
+ *   C distances, places times places                 D times, the same (may be left out: then a time is the distance)
+ *   E calls: the customers to serve, in order (0 to 128 words, each from 1 to places - 1; a customer may come again)
  *   F the end; its value is the number of words before it
  *
- * Every other number is at most 10,000,000. Runs are given, and come back, as the calls of all runs one after the other, and for each run its end: how
- * many calls stand up to there.
+ * A number for which no range is given here goes from 0 to 10,000,000.
  *
- * Each function returns 0, or the number of a refusal:
+ * Distances and times are tables by rows: the row is the place that a leg starts from, the column the one that it goes to, so that the leg stands at
+ * entry from * places + to. Place 0 is the depot. There and back may differ. The diagonal is read only where a run goes from a place to itself, with
+ * two calls in a row at one customer.
  *
- *    1 a number out of range, more than 128 calls     2 ready above due, or earliest above latest     3 a wrong value in F, or words behind it
- *    4 lateness is paid, and an improver is asked     5 run ends that fall or miss the number of calls; for the marker also an empty run, or a break
- *                                                       place beyond its run or on a sheet without a break
- *   11 a kind of word that may not stand here        12 the words end before F
- *   13 a list too short: each that lizsomdur_plan writes needs room for 128; those that the improvers write, as much as the given list of its kind; and
- *      the marker needs a break place for each run
+ * ---- Runs
  *
- * Where the sheet itself is at fault, `word` gets the index of the bad word, from 0; else it stays as it was. Nothing else is written on a refusal, and
- * nothing beyond what the counts say is written into a list.
+ * A run leaves the depot at time 0, serves one or more calls in order and comes home. Its distance is that of all its legs, the depot's too; its
+ * duration is the time at which it is home. It is legal when it keeps to all of these; each bound itself is still allowed:
  *
- * No pointer may be NULL, not even with a length of 0, and what is written may not overlap what is read. The functions keep no state and may be called
- * from any number of threads; they take no memory but the stack, of which 512 kB is enough.
+ *   load      the demands of its calls together are at most the capacity
+ *   limits    its distance and its duration are at most their limits, where the sheet has them
+ *   windows   before ready the bus waits. Service may begin until due. After that it is late: where the customer has no penalty, the run is illegal;
+ *             where there is one, each unit of time above due costs that much. A penalty without a window does nothing.
+ *   break     where the sheet has one, it is taken at one of the calls, on arrival or at earliest, whichever is later, and not after latest. Only when
+ *             it has ended can the call be served. A run that is home at earliest or before needs no break.
+ *
+ * A sheet has lateness pay when some customer has both a window and a penalty, even a penalty of 0. What a run pays for being late is its lateness
+ * pay. A run costs the fixed cost, its distance and its lateness pay, and a cutting as much as all its runs.
+ *
+ * Runs are given, and come back, in two lists: the calls of all runs one after the other, as numbers of customers, and for each run its end, which is
+ * how many calls stand up to there. Calls 4 2 7 with ends 1 3 are the runs 4 and 2 7. A break place is the number of a call in its own run, from 1,
+ * or 0 for no break.
+ *
+ * ---- Refusals
+ *
+ * Each function returns 0, or the number of a refusal. These are faults of the sheet:
+ *
+ *   11 a kind of word that may not stand here
+ *    1 a number out of its range, or a 129th call
+ *    2 ready above due, or earliest above latest; the second of the two words is the bad one
+ *    3 a wrong value in F, or something behind it, even one to three bytes, which make no whole word
+ *   12 the words end before F; one to three bytes at the end are not looked at
+ *
+ * The first bad word is told, and of its faults the first in this list. `word` gets its index, from 0; for something behind F that is the index after
+ * F's, and for 12 the number of whole words. These are faults of the lists:
+ *
+ *   13 a list too short: each that lizsomdur_plan writes needs room for 128; each that the other functions write, as much as the given list of its
+ *      kind; and lizsomdur_mark needs a break place for each run (what it is given beyond that is not read)
+ *    1 more than 128 calls, or a call that is not from 1 to places - 1
+ *    5 more than 128 run ends, one below the one before it, or a last one (without any: 0) that is not the number of calls; in lizsomdur_mark also a
+ *      run without calls, a break place beyond its run, or one that is not 0 on a sheet without a break
+ *    4 lateness pay on a sheet for lizsomdur_reverse or lizsomdur_eliminate
+ *
+ * lizsomdur_plan tests its lists first: with 13 it sets `word` to 0, whatever the sheet is. The other three test the sheet first, then their lists in
+ * the order above; a fault of the lists leaves `word` as it was. On a refusal nothing but `word` is written. When 0 is returned, `word` stays as it
+ * was, and nothing is written into a list beyond what the answer has.
+ *
+ * ---- Memory
+ *
+ * No pointer may be NULL, not even with a length of 0. Whatever a function writes, lists and single numbers, may overlap neither what it reads nor
+ * anything else that it writes. All doubles hold whole numbers, exactly. The functions keep no state and may be called from any number of threads;
+ * they take no memory but the stack, of which 512 kB is enough.
  */
 #ifndef LIZSOMDUR_H
 #define LIZSOMDUR_H
@@ -42,13 +89,21 @@ extern "C" {
 /* The most calls that a sheet has, and so the most runs. */
 #define LIZSOMDUR_CALLS 128
 
-/* Cuts the sheet's calls into runs at least cost.
+/* Cuts the sheet's calls into legal runs, in their order, at least cost.
+ *
+ * Not all calls can always be served. While some beginning of the calls that are left (the first, the first two, and so on) can't be cut into legal
+ * runs, the last call of the shortest such beginning is dropped. So a call may be dropped that could be served together with later ones.
+ *
+ * The planner settles a run's break call by call: of a break taken before and one taken here it keeps that with which the bus is done with this call
+ * sooner, at a tie that with less lateness pay, and else the one before. Where the sheet has both a break and lateness pay, other break places may
+ * cost less: there the cost is the least with breaks so taken. Of cuttings that cost the same, it gives the one whose last run begins the earliest,
+ * then the run before that, and so on.
  *
  * served        the customers served, in order
  * run_ends      the end of each run
- * break_places  for each run the number, from 1, of the call before whose service the break is taken, or 0
- * break_starts  when it starts, or 0
- * dropped       the positions, from 1, of the calls that no cutting serves, in the order in which they are dropped
+ * break_places  the break place of each run
+ * break_starts  when that break starts, or 0
+ * dropped       the positions, from 1, of the dropped calls among those of the sheet, in the order in which they are dropped
  * counts        how many calls are served, runs made and calls dropped
  * totals        cost and distance
  */
@@ -60,22 +115,28 @@ uint32_t lizsomdur_plan(const uint8_t *sheet, size_t sheet_length,
                         size_t *dropped, size_t dropped_length,
                         size_t counts[3], double totals[2], size_t *word);
 
-/* Verdicts, and the values that each has. */
+/* Verdicts, and the values that each has. Runs, places and positions are numbered from 1. */
 enum {
-    LIZSOMDUR_OTHER_CALLS = 1,    /* position: the calls differ from the planner's, first there (from 1) */
+    LIZSOMDUR_OTHER_CALLS = 1,    /* position: there the calls first differ from those that the planner serves, or one list ends before the other */
     LIZSOMDUR_OVERLOAD = 2,       /* run, load, capacity */
-    LIZSOMDUR_BREAK_TOO_LATE = 3, /* run, place, customer, start, latest */
-    LIZSOMDUR_WINDOW_MISSED = 4,  /* run, place, customer, readiness, due */
+    LIZSOMDUR_BREAK_TOO_LATE = 3, /* run, place in it, customer, start, latest */
+    LIZSOMDUR_WINDOW_MISSED = 4,  /* run, place in it, customer, when the bus is ready to serve, due */
     LIZSOMDUR_BREAK_MISSING = 5,  /* run, duration, earliest */
     LIZSOMDUR_TOO_FAR = 6,        /* run, distance, limit */
     LIZSOMDUR_TOO_LONG = 7,       /* run, duration, limit */
     LIZSOMDUR_BEST = 8,           /* none: as cheap as the planner's */
     LIZSOMDUR_DEARER = 9,         /* by how much */
-    LIZSOMDUR_CHEAPER = 10        /* by how much: only where lateness is paid and there is a break */
+    LIZSOMDUR_CHEAPER = 10        /* by how much: only where the sheet has both lateness pay and a break */
 };
 
-/* Marks a cutting of the sheet's calls against the planner's own. `places` has for each run the number of the call, from 1, at which its break is
- * taken, or 0. Runs and places in the values are numbered from 1.
+/* Marks a cutting of the sheet's calls against the planner's own. `places` has the break place of each run; a break may also be taken where none is
+ * needed.
+ *
+ * The calls come first: they have to be those that the planner serves. Then the first run with a fault is told, and of its faults the first of load,
+ * break and window of one call after the other, missing break, distance, duration. Where there is none, the costs are compared.
+ *
+ * verdict       its number
+ * values        its values; those behind them stay as they were
  */
 uint32_t lizsomdur_mark(const uint8_t *sheet, size_t sheet_length,
                         const size_t *calls, size_t calls_length,
@@ -83,13 +144,24 @@ uint32_t lizsomdur_mark(const uint8_t *sheet, size_t sheet_length,
                         const size_t *places, size_t places_length,
                         size_t *word, uint32_t *verdict, double values[5]);
 
-/* Shortens one run by turning stretches of its calls around, as long as it stays allowed. `improved` gets as many calls as the run has. */
+/* Shortens one run: turns stretches of its calls around, as long as one is found that lowers the distance and makes a run that keeps windows, limits
+ * and break. The load is not looked at, nor are the sheet's own calls. A run that is not legal is taken too.
+ *
+ * improved      the calls, as many as the run has
+ * distance      that of the run so made; 0 for a run without calls
+ */
 uint32_t lizsomdur_reverse(const uint8_t *sheet, size_t sheet_length,
                            const size_t *run, size_t run_length,
                            size_t *improved, size_t improved_length,
                            size_t *word, double *distance);
 
-/* Empties runs into the others where that lowers the cost. `counts` gets how many calls and runs are left in the two lists. */
+/* Empties runs: puts all calls of a run into the others, as long as one is found for which that lowers the cost and where each run that takes a call
+ * keeps load, windows, limits and break. The sheet's own calls are not looked at. Runs without calls are taken, and left out of the answer.
+ *
+ * left_calls    the calls of the runs that are left, as many as were given
+ * left_ends     the end of each
+ * counts        how many calls and runs these are
+ */
 uint32_t lizsomdur_eliminate(const uint8_t *sheet, size_t sheet_length,
                              const size_t *calls, size_t calls_length,
                              const size_t *ends, size_t ends_length,

@@ -1,29 +1,30 @@
-//! Prints the plan of a sheet: `cargo run --example plan -- SHEET`.
+//! Prints the plan of the sheet on standard input: `cargo run --example plan < SHEET`.
+use lizsomdur::{plan, Plan};
+use std::io::{stdin, Read};
 use std::process::exit;
 
+fn print(plan: &Plan) {
+    for run in &plan.runs {
+        let calls: Vec<String> = run.calls.iter().map(usize::to_string).collect();
+        let rest = run.rest.map_or(String::new(), |rest| {
+            format!(", break at call {} from {}", rest.place, rest.start)
+        });
+        println!("run {}{rest}", calls.join(" "));
+    }
+    println!("dropped positions {:?}", plan.dropped);
+    println!("cost {} distance {}", plan.cost, plan.distance);
+}
+
 fn main() {
-    let Some(file) = std::env::args().nth(1) else {
-        eprintln!("usage: plan SHEET");
+    let mut sheet = Vec::new();
+    if let Err(error) = stdin().read_to_end(&mut sheet) {
+        eprintln!("standard input: {error}");
         exit(2);
-    };
-    let sheet = std::fs::read(&file).unwrap_or_else(|error| {
-        eprintln!("{file}: {error}");
-        exit(2);
-    });
-    match lizsomdur::plan(&sheet) {
-        Ok(plan) => {
-            for run in &plan.runs {
-                let calls: Vec<String> = run.calls.iter().map(usize::to_string).collect();
-                let rest = run.rest.map_or(String::new(), |rest| {
-                    format!(", break at call {} from {}", rest.place, rest.start)
-                });
-                println!("run {}{rest}", calls.join(" "));
-            }
-            println!("dropped positions {:?}", plan.dropped);
-            println!("cost {} distance {}", plan.cost, plan.distance);
-        }
+    }
+    match plan(&sheet) {
+        Ok(plan) => print(&plan),
         Err(refusal) => {
-            eprintln!("{file}: refused, {refusal:?}");
+            eprintln!("refused, {refusal:?}");
             exit(1);
         }
     }

@@ -2,6 +2,7 @@
 //!
 //! What the functions mean, and how a sheet is written, is told in `lizsomdur.h` beside this package.
 mod raw;
+mod slices;
 mod verdict;
 
 pub use verdict::Verdict;
@@ -40,6 +41,13 @@ pub struct Plan {
     pub dropped: Vec<usize>,
     pub cost: u64,
     pub distance: u64,
+}
+
+impl Plan {
+    /// How many calls are served.
+    pub fn served(&self) -> usize {
+        self.runs.iter().map(|run| run.calls.len()).sum()
+    }
 }
 
 /// No word: what stands there until a bad word is named.
@@ -85,26 +93,17 @@ pub fn plan(sheet: &[u8]) -> Result<Plan, Refusal> {
     let mut dropped = [0; CALLS];
     let (mut counts, mut totals) = ([0; 3], [0.0; 2]);
     let mut word = NO_WORD;
-    // SAFETY: each list goes with its length, and none overlaps another.
-    let number = unsafe {
-        raw::lizsomdur_plan(
-            sheet.as_ptr(),
-            sheet.len(),
-            served.as_mut_ptr(),
-            CALLS,
-            ends.as_mut_ptr(),
-            CALLS,
-            places.as_mut_ptr(),
-            CALLS,
-            starts.as_mut_ptr(),
-            CALLS,
-            dropped.as_mut_ptr(),
-            CALLS,
-            &mut counts,
-            &mut totals,
-            &mut word,
-        )
-    };
+    let number = slices::plan(
+        sheet,
+        &mut served,
+        &mut ends,
+        &mut places,
+        &mut starts,
+        &mut dropped,
+        &mut counts,
+        &mut totals,
+        &mut word,
+    );
     unless_refused(number, word)?;
     let breaks = places.iter().zip(&starts).map(|(&place, &start)| {
         (place > 0).then_some(Rest {
@@ -131,22 +130,15 @@ pub fn mark(sheet: &[u8], runs: &[Run]) -> Result<Verdict, Refusal> {
         .map(|run| run.rest.map_or(0, |rest| rest.place))
         .collect();
     let (mut word, mut verdict, mut values) = (NO_WORD, 0, [0.0; 5]);
-    // SAFETY: each list goes with its length, and none overlaps another.
-    let number = unsafe {
-        raw::lizsomdur_mark(
-            sheet.as_ptr(),
-            sheet.len(),
-            calls.as_ptr(),
-            calls.len(),
-            ends.as_ptr(),
-            ends.len(),
-            places.as_ptr(),
-            places.len(),
-            &mut word,
-            &mut verdict,
-            &mut values,
-        )
-    };
+    let number = slices::mark(
+        sheet,
+        &calls,
+        &ends,
+        &places,
+        &mut word,
+        &mut verdict,
+        &mut values,
+    );
     unless_refused(number, word)?;
     Ok(Verdict::from_number(verdict, values.map(whole)))
 }
@@ -155,19 +147,7 @@ pub fn mark(sheet: &[u8], runs: &[Run]) -> Result<Verdict, Refusal> {
 pub fn reverse(sheet: &[u8], run: &[usize]) -> Result<(Vec<usize>, u64), Refusal> {
     let mut improved = vec![0; run.len()];
     let (mut word, mut distance) = (NO_WORD, 0.0);
-    // SAFETY: each list goes with its length, and none overlaps another.
-    let number = unsafe {
-        raw::lizsomdur_reverse(
-            sheet.as_ptr(),
-            sheet.len(),
-            run.as_ptr(),
-            run.len(),
-            improved.as_mut_ptr(),
-            improved.len(),
-            &mut word,
-            &mut distance,
-        )
-    };
+    let number = slices::reverse(sheet, run, &mut improved, &mut word, &mut distance);
     unless_refused(number, word)?;
     Ok((improved, whole(distance)))
 }
@@ -177,23 +157,15 @@ pub fn eliminate(sheet: &[u8], runs: &[Vec<usize>]) -> Result<Vec<Vec<usize>>, R
     let (calls, ends) = joined(runs.iter().map(|run| &run[..]));
     let (mut left_calls, mut left_ends) = (vec![0; calls.len()], vec![0; ends.len()]);
     let (mut word, mut counts) = (NO_WORD, [0; 2]);
-    // SAFETY: each list goes with its length, and none overlaps another.
-    let number = unsafe {
-        raw::lizsomdur_eliminate(
-            sheet.as_ptr(),
-            sheet.len(),
-            calls.as_ptr(),
-            calls.len(),
-            ends.as_ptr(),
-            ends.len(),
-            left_calls.as_mut_ptr(),
-            left_calls.len(),
-            left_ends.as_mut_ptr(),
-            left_ends.len(),
-            &mut word,
-            &mut counts,
-        )
-    };
+    let number = slices::eliminate(
+        sheet,
+        &calls,
+        &ends,
+        &mut left_calls,
+        &mut left_ends,
+        &mut word,
+        &mut counts,
+    );
     unless_refused(number, word)?;
     Ok(stretches(&left_calls, &left_ends[..counts[1]]).collect())
 }

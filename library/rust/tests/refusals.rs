@@ -1,22 +1,10 @@
-//! What is refused, by number, and marks of single sheets.
+//! What is refused, by number.
 mod common;
-use common::bytes;
-use lizsomdur::{eliminate, mark, plan, reverse, Refusal, Rest, Run, Verdict};
-
-/// The scope document's base sheet with break 20, 30, 4: plans as one run with its break at the second call.
-const CASE_M: [u32; 22] = [
-    0x10000003, 0x20000004, 0x30000000, 0x60000014, 0x6000001E, 0x60000004, 0x70000002, 0x80000000,
-    0x70000002, 0x80000000, 0xC0000000, 0xC000000A, 0xC000000C, 0xC000000A, 0xC0000000, 0xC0000005,
-    0xC000000C, 0xC0000005, 0xC0000000, 0xE0000001, 0xE0000002, 0xF0000015,
-];
-
-fn run(calls: &[usize], place: usize) -> Run {
-    let rest = (place > 0).then_some(Rest { place, start: 0 });
-    Run {
-        calls: calls.to_vec(),
-        rest,
-    }
-}
+use common::faulty::faulty;
+use common::sheets::Sheet;
+use common::worked::{base, with_break, with_window};
+use common::{runs, sample};
+use lizsomdur::{eliminate, mark, plan, reverse, Refusal};
 
 fn refused<T>(number: u32, word: impl Into<Option<usize>>) -> Result<T, Refusal> {
     Err(Refusal {
@@ -27,55 +15,48 @@ fn refused<T>(number: u32, word: impl Into<Option<usize>>) -> Result<T, Refusal>
 
 #[test]
 fn bad_words_are_named() {
-    assert_eq!(plan(&[]), refused(12, 0));
-    let sheet = bytes(&CASE_M);
-    assert_eq!(plan(&sheet[..sheet.len() - 4]), refused(12, 21));
-    assert_eq!(plan(&[&sheet[..], &[0]].concat()), refused(3, 22));
-    for (index, word, number) in [
-        (0, 0x1000_0041, 1),
-        (3, 0x6000_001F, 2),
-        (6, 0xC000_0000, 11),
-        (21, 0xF000_0014, 3),
-    ] {
-        let mut words = CASE_M;
-        words[index] = word;
-        let sheet = bytes(&words);
-        let at = if number == 2 { index + 1 } else { index };
-        assert_eq!(plan(&sheet), refused(number, at));
-        assert_eq!(mark(&sheet, &[]), refused(number, at));
-        assert_eq!(reverse(&sheet, &[]), refused(number, at));
-        assert_eq!(eliminate(&sheet, &[]), refused(number, at));
+    for (sheet, number, word) in faulty() {
+        assert_eq!(plan(&sheet), refused(number, word));
+        assert_eq!(mark(&sheet, &[]), refused(number, word));
+        assert_eq!(reverse(&sheet, &[]), refused(number, word));
+        assert_eq!(eliminate(&sheet, &[]), refused(number, word));
     }
 }
 
 #[test]
 fn bad_runs_are_refused_without_a_word() {
-    let sheet = bytes(&CASE_M);
-    assert_eq!(mark(&sheet, &[run(&[1, 3], 0)]), refused(1, None));
-    assert_eq!(mark(&sheet, &[run(&[1, 2], 3)]), refused(5, None));
-    assert_eq!(mark(&sheet, &[run(&[], 0)]), refused(5, None));
+    let sheet = sample("m");
+    assert_eq!(mark(&sheet, &runs(&[([1, 3], 0)])), refused(1, None));
+    assert_eq!(mark(&sheet, &runs(&[([1, 2], 3)])), refused(5, None));
+    assert_eq!(mark(&sheet, &runs(&[([], 0)])), refused(5, None));
     assert_eq!(reverse(&sheet, &[1; 129]), refused(1, None));
     assert_eq!(eliminate(&sheet, &[vec![0]]), refused(1, None));
+    assert_eq!(eliminate(&sheet, &vec![vec![]; 129]), refused(5, None));
+    assert_eq!(eliminate(&sheet, &vec![vec![]; 128]), Ok(vec![]));
 }
 
+/// Whether the improvers refuse the sheet for lateness pay.
+fn pays(sheet: &Sheet) -> bool {
+    let sheet = sheet.with(&[]);
+    let answers = (reverse(&sheet, &[1, 2]), eliminate(&sheet, &[vec![1, 2]]));
+    match answers {
+        (Err(r), Err(e)) => {
+            assert_eq!((r.number, e.number), (4, 4));
+            true
+        }
+        (Ok(_), Ok(_)) => false,
+        other => panic!("{other:?}"),
+    }
+}
+
+/// It takes a window and a penalty of one customer, and the penalty may be 0.
 #[test]
-fn marks_say_which_rule_breaks() {
-    let sheet = bytes(&CASE_M);
-    assert_eq!(mark(&sheet, &[run(&[1, 2], 2)]), Ok(Verdict::Best));
-    assert_eq!(
-        mark(&sheet, &[run(&[1], 0), run(&[2], 1)]),
-        Ok(Verdict::Dearer { by: 17 })
-    );
-    assert_eq!(
-        mark(&sheet, &[run(&[1, 2], 0)]),
-        Ok(Verdict::BreakMissing {
-            run: 1,
-            duration: 27,
-            earliest: 20
-        })
-    );
-    assert_eq!(
-        mark(&sheet, &[run(&[2, 1], 0)]),
-        Ok(Verdict::OtherCalls { position: 1 })
-    );
+fn lateness_pay_is_refused_by_the_improvers() {
+    let mut without_window = base();
+    without_window.customers[0].penalty = Some(5);
+    let mut apart = with_window(base(), [0, 9], None);
+    apart.customers[1].penalty = Some(5);
+    assert!(!pays(&base()) && !pays(&without_window) && !pays(&apart));
+    assert!(pays(&with_window(base(), [0, 9], Some(0))));
+    assert!(pays(&with_window(with_break(0, 30), [0, 9], Some(5))));
 }

@@ -1,11 +1,28 @@
 //! Recorded questions with the original Rust planner's answers, and sheets in words.
 #![allow(dead_code)]
-use std::path::Path;
+pub mod faulty;
+pub mod listing;
+pub mod sheets;
+pub mod worked;
+
+use lizsomdur::{Rest, Run};
+use std::path::{Path, PathBuf};
+
+/// A file of the repository.
+pub fn kept(path: &str) -> PathBuf {
+    Path::new(env!("CARGO_MANIFEST_DIR"))
+        .join("../..")
+        .join(path)
+}
+
+/// A sample sheet.
+pub fn sample(name: &str) -> Vec<u8> {
+    std::fs::read(kept("samples").join(name).with_extension("sheet")).expect("a sample")
+}
 
 /// Each question of this kind with its answer: those in the repository and, where LIZSOMDUR_RECORDS names a file, those in it.
 pub fn records(kind: u8) -> Vec<(Vec<u8>, String)> {
-    let kept = Path::new(env!("CARGO_MANIFEST_DIR")).join("../../crates/replay/stdin");
-    let mut bytes = std::fs::read(kept).expect("recorded answers");
+    let mut bytes = std::fs::read(kept("crates/replay/stdin")).expect("recorded answers");
     if let Some(more) = std::env::var_os("LIZSOMDUR_RECORDS") {
         bytes.extend(std::fs::read(more).expect("more recorded answers"));
     }
@@ -55,13 +72,28 @@ pub fn tour(sheet: &[u8]) -> Vec<usize> {
         .collect()
 }
 
+/// The bytes of a sheet whose words end with these calls.
+pub fn ended(mut words: Vec<u32>, calls: &[usize]) -> Vec<u8> {
+    words.extend(calls.iter().map(|&c| 0xE000_0000 | c as u32));
+    words.push(0xF000_0000 | words.len() as u32);
+    bytes(&words)
+}
+
 /// The sheet with other calls.
 pub fn with_tour(sheet: &[u8], calls: &[usize]) -> Vec<u8> {
-    let mut kept: Vec<u32> = words(sheet)
-        .into_iter()
-        .filter(|&w| kind(w) < 0xE)
-        .collect();
-    kept.extend(calls.iter().map(|&c| 0xE000_0000 | c as u32));
-    kept.push(0xF000_0000 | kept.len() as u32);
-    bytes(&kept)
+    let kept = words(sheet).into_iter().filter(|&w| kind(w) < 0xE);
+    ended(kept.collect(), calls)
+}
+
+/// Runs to be marked, by their calls and break places.
+pub fn runs<Calls: AsRef<[usize]>>(runs: &[(Calls, usize)]) -> Vec<Run> {
+    runs.iter()
+        .map(|(calls, place)| Run {
+            calls: calls.as_ref().to_vec(),
+            rest: (*place > 0).then_some(Rest {
+                place: *place,
+                start: 0,
+            }),
+        })
+        .collect()
 }

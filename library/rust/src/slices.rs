@@ -1,0 +1,113 @@
+//! The library's functions on slices, which know their lengths and never overlap what is written.
+use crate::raw;
+
+#[allow(clippy::too_many_arguments)] // as many as the function has
+pub fn plan(
+    sheet: &[u8],
+    served: &mut [usize],
+    run_ends: &mut [usize],
+    break_places: &mut [usize],
+    break_starts: &mut [f64],
+    dropped: &mut [usize],
+    counts: &mut [usize; 3],
+    totals: &mut [f64; 2],
+    word: &mut usize,
+) -> u32 {
+    // SAFETY: a slice is as long as it says, and nothing else refers to one that is lent to be written.
+    unsafe {
+        raw::lizsomdur_plan(
+            sheet.as_ptr(),
+            sheet.len(),
+            served.as_mut_ptr(),
+            served.len(),
+            run_ends.as_mut_ptr(),
+            run_ends.len(),
+            break_places.as_mut_ptr(),
+            break_places.len(),
+            break_starts.as_mut_ptr(),
+            break_starts.len(),
+            dropped.as_mut_ptr(),
+            dropped.len(),
+            counts,
+            totals,
+            word,
+        )
+    }
+}
+
+pub fn mark(
+    sheet: &[u8],
+    calls: &[usize],
+    ends: &[usize],
+    places: &[usize],
+    word: &mut usize,
+    verdict: &mut u32,
+    values: &mut [f64; 5],
+) -> u32 {
+    // SAFETY: as in `plan`.
+    unsafe {
+        raw::lizsomdur_mark(
+            sheet.as_ptr(),
+            sheet.len(),
+            calls.as_ptr(),
+            calls.len(),
+            ends.as_ptr(),
+            ends.len(),
+            places.as_ptr(),
+            places.len(),
+            word,
+            verdict,
+            values,
+        )
+    }
+}
+
+pub fn reverse(
+    sheet: &[u8],
+    run: &[usize],
+    improved: &mut [usize],
+    word: &mut usize,
+    distance: &mut f64,
+) -> u32 {
+    // SAFETY: as in `plan`.
+    unsafe {
+        raw::lizsomdur_reverse(
+            sheet.as_ptr(),
+            sheet.len(),
+            run.as_ptr(),
+            run.len(),
+            improved.as_mut_ptr(),
+            improved.len(),
+            word,
+            distance,
+        )
+    }
+}
+
+pub fn eliminate(
+    sheet: &[u8],
+    calls: &[usize],
+    ends: &[usize],
+    left_calls: &mut [usize],
+    left_ends: &mut [usize],
+    word: &mut usize,
+    counts: &mut [usize; 2],
+) -> u32 {
+    // SAFETY: as in `plan`.
+    unsafe {
+        raw::lizsomdur_eliminate(
+            sheet.as_ptr(),
+            sheet.len(),
+            calls.as_ptr(),
+            calls.len(),
+            ends.as_ptr(),
+            ends.len(),
+            left_calls.as_mut_ptr(),
+            left_calls.len(),
+            left_ends.as_mut_ptr(),
+            left_ends.len(),
+            word,
+            counts,
+        )
+    }
+}

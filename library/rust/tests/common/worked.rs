@@ -1,0 +1,170 @@
+//! The worked sheets and the cuttings of their calls that crates/marks marks.
+use super::sheets::{Customer, Sheet};
+
+/// A cutting to be marked.
+pub struct Marked {
+    /// As in crates/marks/stdout.
+    pub name: &'static str,
+    pub sheet: Vec<u8>,
+    /// The calls and the break place of each run.
+    pub runs: Vec<(Vec<usize>, usize)>,
+}
+
+/// Two customers, 10 and 12 from the depot and 5 from each other; a bus takes both.
+pub fn base() -> Sheet {
+    let customer = Customer {
+        demand: 2,
+        ..Customer::default()
+    };
+    Sheet {
+        capacity: 4,
+        customers: vec![customer.clone(), customer],
+        distances: vec![0, 10, 12, 10, 0, 5, 12, 5, 0],
+        ..Sheet::default()
+    }
+}
+
+/// The base with another capacity.
+pub fn with_capacity(capacity: u32) -> Sheet {
+    Sheet { capacity, ..base() }
+}
+
+/// The base with a break of 4.
+pub fn with_break(earliest: u32, latest: u32) -> Sheet {
+    Sheet {
+        rest: Some([earliest, latest, 4]),
+        ..base()
+    }
+}
+
+/// The sheet with a window for customer 1 and, perhaps, a penalty.
+pub fn with_window(mut sheet: Sheet, window: [u32; 2], penalty: Option<u32>) -> Sheet {
+    sheet.customers[0].window = Some(window);
+    sheet.customers[0].penalty = penalty;
+    sheet
+}
+
+/// The base with a distance limit.
+pub fn with_distance_limit(limit: u32) -> Sheet {
+    Sheet {
+        distance_limit: Some(limit),
+        ..base()
+    }
+}
+
+fn customer(demand: u32, service: u32, window: Option<[u32; 2]>, penalty: Option<u32>) -> Customer {
+    Customer {
+        demand,
+        service,
+        window,
+        penalty,
+    }
+}
+
+/// A sheet with service, windows, a penalty, a fixed cost, both limits and a break, on which each customer can be served alone.
+pub fn full() -> Sheet {
+    Sheet {
+        capacity: 4,
+        fixed: 3,
+        distance_limit: Some(60),
+        duration_limit: Some(80),
+        rest: Some([24, 30, 4]),
+        customers: vec![
+            customer(1, 1, Some([0, 14]), None),
+            customer(2, 0, None, None),
+            customer(1, 20, Some([0, 31]), None),
+            customer(1, 3, None, None),
+            customer(1, 1, Some([26, 27]), Some(5)),
+        ],
+        distances: [
+            [0, 10, 12, 25, 20, 6],
+            [10, 0, 5, 16, 15, 9],
+            [12, 5, 0, 20, 30, 3],
+            [25, 16, 20, 0, 20, 20],
+            [20, 15, 30, 20, 0, 20],
+            [6, 9, 3, 20, 20, 0],
+        ]
+        .concat(),
+        times: vec![],
+    }
+}
+
+fn cut(name: &'static str, sheet: &Sheet, tour: &[usize], runs: &[(&[usize], usize)]) -> Marked {
+    Marked {
+        name,
+        sheet: sheet.with(tour),
+        runs: runs
+            .iter()
+            .map(|&(calls, place)| (calls.to_vec(), place))
+            .collect(),
+    }
+}
+
+/// The tour as one run.
+fn whole(name: &'static str, sheet: &Sheet, tour: &[usize], place: usize) -> Marked {
+    cut(name, sheet, tour, &[(tour, place)])
+}
+
+fn of_base() -> Vec<Marked> {
+    let (base, due) = (base(), |due| with_window(base(), [0, due], None));
+    let at_price = with_window(with_break(0, 30), [12, 13], Some(5));
+    vec![
+        whole("q", &at_price, &[1, 2], 2),
+        whole("best", &base, &[1, 2], 0),
+        cut("dearer", &base, &[1, 2], &[(&[1], 0), (&[2], 0)]),
+        cut("changed", &base, &[1, 2], &[(&[1, 1], 0)]),
+        cut("left out", &base, &[1, 2], &[(&[1], 0)]),
+        cut("none", &base, &[1, 2], &[]),
+        cut("too many", &base, &[1, 2], &[(&[1, 2], 0), (&[1], 0)]),
+        cut("nothing", &with_capacity(1), &[1, 2], &[]),
+        cut("served", &due(9), &[1, 2], &[(&[2], 0)]),
+        whole("dropped", &due(9), &[1, 2], 0),
+        whole("load", &with_capacity(3), &[1, 2], 0),
+        whole("window", &due(14), &[2, 1], 0),
+        whole("break", &with_break(5, 10), &[1, 2], 2),
+        whole("missing", &with_break(20, 30), &[1, 2], 0),
+        whole("far", &with_distance_limit(26), &[1, 2], 0),
+    ]
+}
+
+fn of_full() -> Vec<Marked> {
+    let full = full();
+    vec![
+        whole("full best", &full, &[1, 2], 2),
+        cut("full dearer", &full, &[1, 2], &[(&[1], 0), (&[2], 0)]),
+        whole("full cheaper", &full, &[5, 2], 2),
+        whole("full break not needed", &full, &[2], 0),
+        whole("full break taken", &full, &[2], 1),
+        whole("full load", &full, &[2, 4, 2], 1),
+        whole("full break", &full, &[2, 4], 2),
+        whole("full window", &full, &[1], 1),
+        whole("full missing", &full, &[4], 0),
+        whole("full far", &full, &[4, 2], 1),
+        whole("full long", &full, &[3, 2], 1),
+        cut("calls before load", &full, &[2, 1, 2], &[(&[2, 2, 2], 0)]),
+        whole("load before walk", &full, &[2, 1, 2], 0),
+        whole("break before window", &full, &[2, 3], 2),
+        whole("earlier call first", &full, &[2, 1, 3], 3),
+        whole("walk before missing", &full, &[2, 1], 0),
+        whole("missing before distance", &full, &[2, 4], 0),
+        whole("distance before duration", &full, &[2, 4], 1),
+        cut(
+            "first run first",
+            &full,
+            &[3, 2, 2, 4, 2],
+            &[(&[3, 2], 1), (&[2, 4, 2], 1)],
+        ),
+        cut(
+            "second run long",
+            &full,
+            &[1, 3, 2],
+            &[(&[1], 0), (&[3, 2], 1)],
+        ),
+        cut("second run window", &full, &[2, 1], &[(&[2], 0), (&[1], 1)]),
+    ]
+}
+
+/// All of them, in the order of crates/marks/stdout.
+pub fn marked() -> Vec<Marked> {
+    [of_base(), of_full()].into_iter().flatten().collect()
+}

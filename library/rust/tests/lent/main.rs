@@ -1,0 +1,252 @@
+//! What the functions leave in lent memory: the answer at the front of each list, and everything else as it was.
+#[path = "../common/mod.rs"]
+mod common;
+mod lists;
+#[path = "../../src/raw.rs"]
+mod raw;
+#[path = "../../src/slices.rs"]
+mod slices;
+
+use common::faulty::faulty;
+use common::sample;
+use common::sheets::{Customer, Sheet};
+use common::worked::{base, full, marked, with_window};
+use lists::{Judged, Left, Planned, Reversed, OLD_FLOAT};
+
+const ROOM: usize = lizsomdur::CALLS;
+
+type List<'a> = &'a [usize];
+
+/// Three customers on one road out of the depot, and a bus for all.
+fn road() -> Vec<u8> {
+    let customer = Customer {
+        demand: 1,
+        ..Customer::default()
+    };
+    let sheet = Sheet {
+        capacity: 3,
+        customers: vec![customer; 3],
+        distances: [
+            [0, 10, 20, 30],
+            [10, 0, 10, 20],
+            [20, 10, 0, 10],
+            [30, 20, 10, 0],
+        ]
+        .concat(),
+        ..Sheet::default()
+    };
+    sheet.with(&[])
+}
+
+/// A sheet with lateness pay: it costs nothing to be late.
+fn paying() -> Vec<u8> {
+    with_window(base(), [0, 9], Some(0)).with(&[1, 2])
+}
+
+#[test]
+fn a_plan_is_written_at_the_fronts() {
+    for room in [ROOM, 200] {
+        let lent = Planned::new([room; 5]);
+        let left = Planned {
+            served: lent.served.fronted(&[6, 6, 7, 3, 6, 3, 6, 6]),
+            run_ends: lent.run_ends.fronted(&[2, 4, 6, 8]),
+            break_places: lent.break_places.fronted(&[0, 2, 2, 0]),
+            break_starts: lent.break_starts.fronted(&[0.0, 1000.0, 1000.0, 0.0]),
+            dropped: lent.dropped.fronted(&[1, 2, 7, 12]),
+            counts: [8, 4, 4],
+            totals: [2725.0, 2325.0],
+            ..lent.clone()
+        };
+        assert_eq!(lent.after(&sample("drops")), (0, left));
+    }
+}
+
+#[test]
+fn a_plan_without_room_is_refused_before_the_sheet_is_read() {
+    for list in 0..5 {
+        for sheet in [sample("m"), sample("refused")] {
+            let mut room = [ROOM; 5];
+            room[list] -= 1;
+            let lent = Planned::new(room);
+            let left = Planned {
+                word: 0,
+                ..lent.clone()
+            };
+            assert_eq!(lent.after(&sheet), (13, left), "list {list}");
+        }
+    }
+}
+
+/// A bad sheet comes before bad lists, but for the plan, whose lists are good here.
+#[test]
+fn a_refused_sheet_sets_the_word_alone() {
+    for (sheet, number, word) in faulty() {
+        let planned = Planned::new([ROOM; 5]);
+        let left = Planned {
+            word,
+            ..planned.clone()
+        };
+        assert_eq!(planned.after(&sheet), (number, left));
+        let left = Judged {
+            word,
+            ..Judged::new()
+        };
+        assert_eq!(
+            Judged::new().after(&sheet, &[99], &[7], &[]),
+            (number, left)
+        );
+        let left = Reversed {
+            word,
+            ..Reversed::new(0)
+        };
+        assert_eq!(Reversed::new(0).after(&sheet, &[99]), (number, left));
+        let left = Left {
+            word,
+            ..Left::new(0, 0)
+        };
+        assert_eq!(Left::new(0, 0).after(&sheet, &[99], &[7]), (number, left));
+    }
+}
+
+/// How many values the verdicts have, by number.
+const VALUES: [usize; 11] = [0, 1, 3, 5, 5, 3, 3, 3, 0, 1, 1];
+
+/// The end and the break place of each run.
+fn ends_and_places(runs: &[(Vec<usize>, usize)]) -> (Vec<usize>, Vec<usize>) {
+    let mut end = 0;
+    runs.iter()
+        .map(|(calls, place)| {
+            end += calls.len();
+            (end, *place)
+        })
+        .unzip()
+}
+
+#[test]
+fn a_verdict_sets_its_own_values() {
+    let mut seen = [false; 11];
+    for cut in marked() {
+        let calls: Vec<usize> = cut.runs.iter().flat_map(|run| run.0.clone()).collect();
+        let (ends, places) = ends_and_places(&cut.runs);
+        let (number, left) = Judged::new().after(&cut.sheet, &calls, &ends, &places);
+        let count = VALUES[left.verdict as usize];
+        seen[left.verdict as usize] = true;
+        let mut values = left.values;
+        values[count..].fill(OLD_FLOAT);
+        let expected = Judged {
+            verdict: left.verdict,
+            values,
+            ..Judged::new()
+        };
+        assert!(!values[..count].contains(&OLD_FLOAT), "{}", cut.name);
+        assert_eq!((number, left), (0, expected), "{}", cut.name);
+    }
+    assert!(seen[1..].iter().all(|&verdict| verdict));
+}
+
+/// Rows with several faults show which is told: 13 before 1 before 5.
+#[test]
+fn refused_runs_of_a_mark_leave_everything() {
+    let (broken, whole) = (full().with(&[1, 2]), base().with(&[1, 2]));
+    let table: [(&[u8], List, List, List, u32); 12] = [
+        (&broken, &[9, 2], &[2, 1], &[3], 13),
+        (&broken, &[1, 2], &[1, 2], &[0], 13),
+        (&broken, &[1, 6], &[2, 1], &[3, 3], 1),
+        (&broken, &[0, 2], &[2], &[0], 1),
+        (&broken, &[1; 129], &[129], &[0], 1),
+        (&broken, &[1, 2], &[2, 1], &[0, 0], 5),
+        (&broken, &[1, 2], &[1], &[0], 5),
+        (&broken, &[1, 2], &[], &[], 5),
+        (&broken, &[1, 2], &[2, 2], &[0, 0], 5),
+        (&broken, &[1; 128], &[128; 129], &[0; 129], 5),
+        (&broken, &[1, 2], &[2], &[3], 5),
+        (&whole, &[1, 2], &[2], &[1], 5),
+    ];
+    for (row, (sheet, calls, ends, places, number)) in table.into_iter().enumerate() {
+        let refused = (number, Judged::new());
+        assert_eq!(
+            Judged::new().after(sheet, calls, ends, places),
+            refused,
+            "row {row}"
+        );
+    }
+}
+
+#[test]
+fn break_places_beyond_the_runs_are_not_read() {
+    let (number, left) = Judged::new().after(&base().with(&[1, 2]), &[1, 2], &[2], &[0, 99]);
+    assert_eq!((number, left.verdict), (0, 8));
+}
+
+#[test]
+fn a_reversed_run_is_written_at_the_front() {
+    for room in [3, 10] {
+        let lent = Reversed::new(room);
+        let left = Reversed {
+            improved: lent.improved.fronted(&[1, 2, 3]),
+            distance: 60.0,
+            ..lent.clone()
+        };
+        assert_eq!(lent.after(&road(), &[2, 1, 3]), (0, left));
+    }
+    let left = Reversed {
+        distance: 0.0,
+        ..Reversed::new(4)
+    };
+    assert_eq!(Reversed::new(4).after(&road(), &[]), (0, left));
+}
+
+/// Rows with several faults show which is told: 13 before 1 before 4.
+#[test]
+fn a_refused_run_leaves_everything() {
+    let table: [(&[u8], List, usize, u32); 6] = [
+        (&paying(), &[9, 2], 1, 13),
+        (&road(), &[1; 129], 128, 13),
+        (&paying(), &[9, 2], 2, 1),
+        (&road(), &[0], 1, 1),
+        (&road(), &[1; 129], 129, 1),
+        (&paying(), &[1, 2], 2, 4),
+    ];
+    for (row, (sheet, run, room, number)) in table.into_iter().enumerate() {
+        let lent = Reversed::new(room);
+        assert_eq!(lent.clone().after(sheet, run), (number, lent), "row {row}");
+    }
+}
+
+#[test]
+fn runs_left_are_written_at_the_fronts() {
+    for room in [4, 10] {
+        let lent = Left::new(room, room);
+        let left = Left {
+            calls: lent.calls.fronted(&[1, 3, 2]),
+            ends: lent.ends.fronted(&[3]),
+            counts: [3, 1],
+            ..lent.clone()
+        };
+        assert_eq!(lent.after(&road(), &[1, 2, 3], &[1, 1, 2, 3]), (0, left));
+    }
+}
+
+/// Rows with several faults show which is told: 13 before 1 before 5 before 4.
+#[test]
+fn refused_runs_of_an_elimination_leave_everything() {
+    let table: [(&[u8], List, List, [usize; 2], u32); 9] = [
+        (&paying(), &[9, 2], &[2, 1], [1, 2], 13),
+        (&paying(), &[9, 2], &[2, 1], [2, 1], 13),
+        (&paying(), &[9, 2], &[2, 1], [2, 2], 1),
+        (&road(), &[1; 129], &[129], [129, 1], 1),
+        (&paying(), &[1, 2], &[2, 1], [2, 2], 5),
+        (&road(), &[1, 2], &[1], [2, 1], 5),
+        (&road(), &[1, 2], &[], [2, 0], 5),
+        (&road(), &[], &[0; 129], [0, 129], 5),
+        (&paying(), &[1, 2], &[1, 2], [2, 2], 4),
+    ];
+    for (row, (sheet, calls, ends, room, number)) in table.into_iter().enumerate() {
+        let lent = Left::new(room[0], room[1]);
+        assert_eq!(
+            lent.clone().after(sheet, calls, ends),
+            (number, lent),
+            "row {row}"
+        );
+    }
+}

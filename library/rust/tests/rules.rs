@@ -1,0 +1,126 @@
+//! What lizsomdur.h says of tables, bounds, lateness, breaks and drops, on sheets of two customers.
+mod common;
+use common::listing::listing;
+use common::sheets::Sheet;
+use common::worked::{base, with_break, with_distance_limit, with_window};
+use lizsomdur::plan;
+
+/// Asserts that the sheet with these calls is planned so.
+fn planned(sheet: Sheet, calls: &[usize], text: &str) {
+    let sheet = sheet.with(calls);
+    assert_eq!(listing(&sheet, &plan(&sheet)), text);
+}
+
+/// With the table read by columns the distance would be 140.
+#[test]
+fn legs_stand_in_the_row_of_the_place_that_they_start_from() {
+    let uneven = Sheet {
+        fixed: 100,
+        distances: vec![1, 2, 4, 8, 16, 32, 64, 128, 256],
+        ..base()
+    };
+    planned(
+        uneven,
+        &[1, 2],
+        "run 1 2\ntotal 98 cost 198 served 2 dropped 0\n",
+    );
+}
+
+#[test]
+fn the_diagonal_is_a_leg_between_two_calls_at_one_customer() {
+    let near = Sheet {
+        distances: vec![900, 10, 12, 10, 3, 5, 12, 5, 900],
+        ..base()
+    };
+    planned(
+        near,
+        &[1, 1],
+        "run 1 1\ntotal 23 cost 23 served 2 dropped 0\n",
+    );
+}
+
+#[test]
+fn times_are_kept_apart_from_distances() {
+    let timed = Sheet {
+        times: vec![1; 9],
+        duration_limit: Some(3),
+        ..base()
+    };
+    planned(
+        timed.clone(),
+        &[1, 2],
+        "run 1 2\ntotal 27 cost 27 served 2 dropped 0\n",
+    );
+    let shorter = Sheet {
+        duration_limit: Some(2),
+        ..timed
+    };
+    planned(
+        shorter,
+        &[1, 2],
+        "run 1\nrun 2\ntotal 44 cost 44 served 2 dropped 0\n",
+    );
+}
+
+#[test]
+fn bounds_are_still_allowed() {
+    let one = "run 1 2\ntotal 27 cost 27 served 2 dropped 0\n";
+    let two = "run 1\nrun 2\ntotal 44 cost 44 served 2 dropped 0\n";
+    let late = "run 2\ndrop 1\ntotal 24 cost 24 served 1 dropped 1\n";
+    planned(with_window(base(), [0, 10], None), &[1, 2], one);
+    planned(with_window(base(), [0, 9], None), &[1, 2], late);
+    planned(with_distance_limit(27), &[1, 2], one);
+    planned(with_distance_limit(26), &[1, 2], two);
+    planned(base(), &[1, 2], one);
+    planned(
+        Sheet {
+            capacity: 3,
+            ..base()
+        },
+        &[1, 2],
+        two,
+    );
+}
+
+#[test]
+fn a_break_starts_from_earliest_to_latest_where_it_is_needed() {
+    let at_first = "run 1 2 rest 1 10\ntotal 27 cost 27 served 2 dropped 0\n";
+    planned(with_break(5, 10), &[1, 2], at_first);
+    let never = "drop 1\ndrop 2\ntotal 0 cost 0 served 0 dropped 2\n";
+    planned(with_break(5, 9), &[1, 2], never);
+    let home_at_earliest = "run 1\ntotal 20 cost 20 served 1 dropped 0\n";
+    planned(with_break(20, 30), &[1], home_at_earliest);
+    let home_later = "run 1 rest 1 19\ntotal 20 cost 20 served 1 dropped 0\n";
+    planned(with_break(19, 30), &[1], home_later);
+}
+
+#[test]
+fn a_run_costs_its_fixed_cost_its_distance_and_its_lateness_pay() {
+    let priced = Sheet {
+        fixed: 100,
+        ..with_window(base(), [0, 8], Some(3))
+    };
+    planned(
+        priced,
+        &[1, 2],
+        "run 1 2\ntotal 27 cost 133 served 2 dropped 0\n",
+    );
+    let free = with_window(base(), [0, 8], Some(0));
+    planned(
+        free,
+        &[1, 2],
+        "run 1 2\ntotal 27 cost 27 served 2 dropped 0\n",
+    );
+}
+
+/// Customer 1 alone is too far out and back, though not on the way to customer 2.
+#[test]
+fn the_last_call_of_the_shortest_beginning_is_dropped() {
+    let mut far_home = with_distance_limit(27);
+    far_home.distances[3] = 30;
+    planned(
+        far_home,
+        &[1, 2],
+        "run 2\ndrop 1\ntotal 24 cost 24 served 1 dropped 1\n",
+    );
+}

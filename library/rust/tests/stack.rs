@@ -1,0 +1,68 @@
+//! All functions on the largest sheets, with as much stack as lizsomdur.h says is enough.
+mod common;
+use common::sheets::{Customer, Sheet};
+use lizsomdur::{eliminate, mark, plan, reverse, Verdict, CALLS};
+use std::thread;
+
+const STACK: usize = 512_000;
+
+/// A table of 64 rows whose legs differ.
+fn legs(most: u32) -> Vec<u32> {
+    (0..64 * 64).map(|entry| 1 + entry * 7919 % most).collect()
+}
+
+/// Everything that a sheet may have: 8,644 words with the penalties, the most that is accepted.
+fn largest(penalty: Option<u32>) -> Vec<u8> {
+    let customer = Customer {
+        demand: 1,
+        service: 2,
+        window: Some([10, 4_000]),
+        penalty,
+    };
+    let sheet = Sheet {
+        capacity: 40,
+        fixed: 50,
+        distance_limit: Some(9_000),
+        duration_limit: Some(9_000),
+        rest: Some([100, 3_000, 20]),
+        customers: vec![customer; 63],
+        distances: legs(101),
+        times: legs(31),
+    };
+    let calls: Vec<usize> = (0..CALLS).map(|k| 1 + k * 11 % 63).collect();
+    sheet.with(&calls)
+}
+
+/// Plans the sheet and marks the plan.
+fn plan_and_mark(sheet: &[u8]) {
+    let plan = plan(sheet).expect("an accepted sheet");
+    assert!(plan.runs.len() > 1 && plan.served() == CALLS);
+    assert_eq!(mark(sheet, &plan.runs), Ok(Verdict::Best));
+}
+
+/// Improves the calls of the sheet: as one run, and as a run each.
+fn improve(sheet: &[u8]) {
+    let calls = common::tour(sheet);
+    let (run, _) = reverse(sheet, &calls).expect("an accepted run");
+    assert_ne!(run, calls);
+    let singles: Vec<Vec<usize>> = calls.into_iter().map(|call| vec![call]).collect();
+    let left = eliminate(sheet, &singles).expect("accepted runs");
+    assert!(left.len() < singles.len());
+}
+
+fn all_functions() {
+    let (paying, plain) = (largest(Some(1)), largest(None));
+    assert_eq!(paying.len(), 4 * 8_644);
+    for sheet in [&paying, &plain] {
+        plan_and_mark(sheet);
+    }
+    improve(&plain);
+}
+
+#[test]
+fn the_stack_is_enough_for_the_largest_sheets() {
+    let thread = thread::Builder::new()
+        .stack_size(STACK)
+        .spawn(all_functions);
+    thread.expect("a thread").join().expect("all functions end");
+}
