@@ -55,7 +55,7 @@ fn next() -> Seen {
 fn main() {
     let mut tally = start();
     let mut last = next();
-    while tally.sheets < MOST && is_answer(last) {
+    while tally.answers < MOST && is_answer(last) {
         tally = counted(tally, last);
         last = next();
     }
