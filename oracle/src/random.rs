@@ -10,18 +10,26 @@ struct Scale {
     service: u32,
     /// Windows, break and limits lie within a few times this.
     day: u32,
+    /// Capacity, fixed cost and penalty now and then lie anywhere in their range.
+    whole_range: bool,
     /// Every word is there that may stand in a sheet.
     full: bool,
 }
 
-/// Numbers so small that they often meet.
+/// Numbers so small that they often meet, and that the checker can compute with.
 const SMALL: Scale = Scale {
     demand: 5,
     capacity: 12,
     leg: 12,
     service: 3,
     day: 12,
+    whole_range: false,
     full: false,
+};
+
+const MEDIUM: Scale = Scale {
+    whole_range: true,
+    ..SMALL
 };
 
 /// Up to four places and five calls.
@@ -31,11 +39,11 @@ pub fn small(source: &mut Source) -> Vec<u32> {
     sheet(source, &SMALL, places, calls)
 }
 
-/// The same numbers with two to six places and one to nine calls.
+/// Two to six places and one to nine calls.
 pub fn medium(source: &mut Source) -> Vec<u32> {
     let places = 2 + source.below(5);
     let calls = 1 + source.below(9);
-    sheet(source, &SMALL, places, calls)
+    sheet(source, &MEDIUM, places, calls)
 }
 
 /// Two to twelve places and 100 to 128 calls; some such that many calls, or all, fit one run.
@@ -43,7 +51,7 @@ pub fn long(source: &mut Source) -> Vec<u32> {
     let scale = Scale {
         capacity: source.one_of(&[12, 60, 400]),
         day: source.one_of(&[12, 120, 800]),
-        ..SMALL
+        ..MEDIUM
     };
     let places = 2 + source.below(11);
     let calls = 100 + source.below(29);
@@ -73,14 +81,25 @@ fn wide(source: &mut Source, full: bool) -> Scale {
         leg,
         service: source.one_of(&[10, 1_000, leg]),
         day: (leg * source.one_of(&[1, 8, 64])).min(most(5)),
+        whole_range: true,
         full,
     }
 }
 
+/// A number of this kind below `bound`, or now and then of its whole range.
+fn number(source: &mut Source, scale: &Scale, kind: u32, bound: u32) -> u32 {
+    let value = if scale.whole_range {
+        source.mostly_below(bound, most(kind))
+    } else {
+        source.below(bound)
+    };
+    word(kind, value)
+}
+
 fn sheet(source: &mut Source, scale: &Scale, places: u32, calls: u32) -> Vec<u32> {
-    let capacity = source.mostly_below(scale.capacity, most(2));
-    let fixed = source.mostly_below(10, most(3));
-    let mut words = vec![word(1, places), word(2, capacity), word(3, fixed)];
+    let capacity = number(source, scale, 2, scale.capacity);
+    let fixed = number(source, scale, 3, 10);
+    let mut words = vec![word(1, places), capacity, fixed];
     limits(source, scale, &mut words);
     for _ in 1..places {
         customer(source, scale, &mut words);
@@ -121,7 +140,7 @@ fn customer(source: &mut Source, scale: &Scale, words: &mut Vec<u32>) {
         words.push(word(0xA, due.min(most(0xA))));
     }
     if scale.full || source.one_in(3) {
-        words.push(word(0xB, source.mostly_below(4, most(0xB))));
+        words.push(number(source, scale, 0xB, 4));
     }
 }
 
