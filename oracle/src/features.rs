@@ -48,6 +48,8 @@ impl Features {
         self.count("with a run of 100 calls or more", longest >= LONG);
         self.count("with an empty run", routes.iter().any(Vec::is_empty));
         self.count("with violations", answer.contains("violation "));
+        self.count("with a feasible run", answer.contains("\nfeasible "));
+        self.count("with a call too heavy", answer.contains("dropped "));
         let reversed = lines(answer, "reversed ");
         self.count("without lateness pay", !reversed.is_empty());
         let turned = std::iter::zip(&reversed, routes).any(|(new, old)| new[1..] != old[..]);

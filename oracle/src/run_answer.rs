@@ -1,5 +1,6 @@
-//! What the Rust makes of a run list, as text: the visits of each run and, on sheets without lateness pay, each run reversed and the runs left by elimination.
-use crate::evaluation::{has_soft_windows, RouteEvaluator};
+//! What the Rust makes of a run list, as text: the visits of each run, whether it may be made and what it costs, on sheets without lateness pay each run reversed and the runs left by elimination, and the cut of all calls by capacity.
+use crate::evaluation::{effective_cost, has_soft_windows, route_feasible, RouteEvaluator};
+use crate::ga::split;
 use crate::local_search::{eliminate_routes, two_opt_improve};
 use crate::models::{Vehicle, ViolationType};
 use crate::sheet::Sheet;
@@ -11,6 +12,9 @@ pub fn of(sheet: &Sheet, routes: &[Vec<usize>]) -> String {
     for route in routes {
         visits(&mut text, sheet, &vehicle, route);
     }
+    for route in routes {
+        evaluated(&mut text, sheet, route);
+    }
     if !has_soft_windows(&sheet.customers) {
         for route in routes {
             reversed(&mut text, sheet, route);
@@ -20,6 +24,7 @@ pub fn of(sheet: &Sheet, routes: &[Vec<usize>]) -> String {
             line(&mut text, "left", &route);
         }
     }
+    by_capacity(&mut text, sheet);
     text
 }
 
@@ -90,4 +95,44 @@ fn reversed(text: &mut String, sheet: &Sheet, route: &[usize]) {
         two_opt_improve(route, 0, &sheet.distances, &sheet.customers, &sheet.limits);
     let calls: Vec<f64> = calls.iter().map(|&c| c as f64).collect();
     line(text, "reversed", &[&[distance], &calls[..]].concat());
+}
+
+/// Whether the run may be made, and what it costs.
+fn evaluated(text: &mut String, sheet: &Sheet, route: &[usize]) {
+    let Sheet {
+        distances,
+        customers,
+        limits,
+        ..
+    } = sheet;
+    *text += if route_feasible(route, 0, distances, customers, limits) {
+        "feasible"
+    } else {
+        "infeasible"
+    };
+    let cost = effective_cost(route, 0, distances, customers, limits);
+    if cost.is_finite() {
+        line(text, "", &[cost]);
+    } else {
+        *text += " infinite\n";
+    }
+}
+
+/// Served customers, run ends, dropped positions (from 1), cost and distance. The Rust gives runs and distance; the dropped calls are those that no vehicle holds, and the rest follows from the runs.
+fn by_capacity(text: &mut String, sheet: &Sheet) {
+    let (tour, fixed) = (&sheet.tour, sheet.fixed);
+    let (customers, capacity) = (&sheet.customers, sheet.capacity);
+    let cut = split(tour, customers, &sheet.distances, capacity, fixed);
+    let fits = |&position: &usize| customers[tour[position - 1]].demand() <= capacity;
+    let (held, dropped): (Vec<usize>, Vec<usize>) = (1..=tour.len()).partition(fits);
+    let held: Vec<usize> = held.iter().map(|&position| tour[position - 1]).collect();
+    assert_eq!(cut.routes.concat(), held, "the Rust serves the held calls");
+    let ends: Vec<usize> = (1..=cut.routes.len())
+        .map(|runs| cut.routes[..runs].concat().len())
+        .collect();
+    let cost = cut.total_distance + cut.routes.len() as f64 * fixed;
+    line(text, "served", &held);
+    line(text, "ends", &ends);
+    line(text, "dropped", &dropped);
+    line(text, "split", &[cost, cut.total_distance]);
 }
