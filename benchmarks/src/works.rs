@@ -1,4 +1,4 @@
-//! The works that are timed, each on one sheet. That both give the same is asked first.
+//! The works that are timed, each on one sheet. That both give the same is asked first; a sheet on which they don't ends the program.
 use crate::clock::{compare, Times};
 use crate::original;
 use crate::port;
@@ -24,66 +24,57 @@ impl Subject {
         Subject { kind, bytes, sheet }
     }
 
+    /// The time of a work, after the port has given what is expected.
+    fn time<Given>(
+        &self,
+        expected: f64,
+        times: (usize, u32),
+        give: impl FnMut() -> Given,
+        theirs: impl FnMut(&mut Given) -> f64,
+        ours: impl Fn(&[u8], u32) -> f64,
+    ) -> Times {
+        assert_eq!(ours(&self.bytes, 1), expected, "{}", self.kind.name);
+        compare(times, give, theirs, |rounds| ours(&self.bytes, rounds))
+    }
+
     pub fn split_tw(&self, turns: usize) -> Times {
         let cost = original::cost(&self.sheet, &original::split_tw(&self.sheet));
-        assert_eq!(port::split_tw(&self.bytes, 1), cost, "{}", self.kind.name);
         let theirs = |(): &mut ()| original::split_tw(&self.sheet).total_distance;
-        let ours = |rounds| port::split_tw(&self.bytes, rounds);
-        compare((turns, 200), || (), theirs, ours)
+        self.time(cost, (turns, 200), || (), theirs, port::split_tw)
     }
 
     pub fn split(&self, turns: usize) -> Times {
         let cost = original::plain_cost(&self.sheet, &original::split(&self.sheet));
-        assert_eq!(port::split(&self.bytes, 1), cost, "{}", self.kind.name);
         let theirs = |(): &mut ()| original::split(&self.sheet).total_distance;
-        let ours = |rounds| port::split(&self.bytes, rounds);
-        compare((turns, 200), || (), theirs, ours)
+        self.time(cost, (turns, 200), || (), theirs, port::split)
     }
 
     /// The table's notes on itself (its scale, its symmetry) are made anew in each call, as the port makes them.
     pub fn two_opt(&self, turns: usize) -> Times {
         let table = || self.sheet.distances.clone();
-        let distance = original::two_opt(&self.sheet, &table());
-        assert_eq!(
-            port::two_opt(&self.bytes, 1),
-            distance,
-            "{}",
-            self.kind.name
-        );
-        let ours = |rounds| port::two_opt(&self.bytes, rounds);
-        compare(
-            (turns, 4),
-            table,
-            |table| original::two_opt(&self.sheet, table),
-            ours,
-        )
+        let theirs = |table: &mut _| original::two_opt(&self.sheet, table);
+        let distance = theirs(&mut table());
+        self.time(distance, (turns, 4), table, theirs, port::two_opt)
     }
 
     /// Here too the table's notes are made anew.
     pub fn eliminate(&self, turns: usize) -> Times {
         let vehicle = self.sheet.vehicle();
         let given = || {
-            let runs = self.sheet.tour.chunks(RUN).map(<[usize]>::to_vec).collect();
-            (runs, self.sheet.distances.clone())
+            let runs = self.sheet.tour.chunks(RUN).map(<[usize]>::to_vec);
+            (runs.collect(), self.sheet.distances.clone())
         };
         let theirs = |(runs, table): &mut (Vec<_>, _)| {
             original::eliminate(&self.sheet, &vehicle, std::mem::take(runs), table)
         };
         let left = theirs(&mut given());
-        assert_eq!(
-            port::eliminate(&self.bytes, RUN, 1),
-            left,
-            "{}",
-            self.kind.name
-        );
-        let ours = |rounds| port::eliminate(&self.bytes, RUN, rounds);
-        compare((turns, 4), given, theirs, ours)
+        let ours = |sheet: &[u8], rounds| port::eliminate(sheet, RUN, rounds);
+        self.time(left, (turns, 4), given, theirs, ours)
     }
 
     pub fn read(&self, turns: usize) -> Times {
         let theirs = |(): &mut ()| original::read(&self.bytes);
-        assert_eq!(port::read(&self.bytes, 1), theirs(&mut ()));
-        let ours = |rounds| port::read(&self.bytes, rounds);
-        compare((turns, 20), || (), theirs, ours)
+        let calls = original::read(&self.bytes);
+        self.time(calls, (turns, 20), || (), theirs, port::read)
     }
 }
