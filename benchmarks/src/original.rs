@@ -1,4 +1,5 @@
 //! The same work by the original Rust, once.
+use crate::distance::DistanceMatrix;
 use crate::evaluation::route_eval;
 use crate::ga;
 use crate::local_search;
@@ -50,28 +51,17 @@ pub fn plain_cost(sheet: &Sheet, cut: &ga::SplitResult) -> f64 {
     cut.total_distance + cut.routes.len() as f64 * sheet.fixed
 }
 
-/// The table's own notes on itself (its scale, its symmetry) are made anew each time, as the port makes them.
-pub fn two_opt(sheet: &Sheet) -> f64 {
-    let distances = black_box(&sheet.distances).clone();
-    local_search::two_opt_improve(&sheet.tour, 0, &distances, &sheet.customers, &sheet.limits).1
+/// The distance of the tour as one run, after reversals.
+pub fn two_opt(sheet: &Sheet, table: &DistanceMatrix) -> f64 {
+    local_search::two_opt_improve(&sheet.tour, 0, table, &sheet.customers, &sheet.limits).1
 }
 
-pub fn vehicle(sheet: &Sheet) -> Vehicle {
-    let mut vehicle = Vehicle::new(0, sheet.capacity).with_fixed_cost(sheet.fixed);
-    if let Some(most) = sheet.limits.max_distance {
-        vehicle = vehicle.with_max_distance(most);
-    }
-    if let Some(most) = sheet.limits.max_duration {
-        vehicle = vehicle.with_max_duration(most);
-    }
-    match sheet.limits.rest {
-        Some(rest) => vehicle.with_break(rest),
-        None => vehicle,
-    }
-}
-
-pub fn eliminate(sheet: &Sheet, vehicle: &Vehicle, run: usize) -> f64 {
-    let routes: Vec<Vec<usize>> = sheet.tour.chunks(run).map(<[usize]>::to_vec).collect();
-    let distances = black_box(&sheet.distances).clone();
-    local_search::eliminate_routes(routes, &sheet.customers, &distances, vehicle).len() as f64
+/// How many runs are left.
+pub fn eliminate(
+    sheet: &Sheet,
+    vehicle: &Vehicle,
+    runs: Vec<Vec<usize>>,
+    table: &DistanceMatrix,
+) -> f64 {
+    local_search::eliminate_routes(runs, &sheet.customers, table, vehicle).len() as f64
 }

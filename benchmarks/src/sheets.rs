@@ -1,6 +1,6 @@
 //! The sheets that are timed: 64 places in a square with both leg tables, and calls at random, from a fixed seed.
-use crate::random::Source;
-use crate::word::{bytes, word};
+use crate::source::Source;
+use crate::word::{bytes, ended, word};
 
 const PLACES: u32 = 64;
 const DEMAND: u32 = 40;
@@ -77,7 +77,7 @@ impl Kind {
 
     /// The bytes of a sheet with so many calls.
     pub fn sheet(&self, calls: u32) -> Vec<u8> {
-        let mut source = Source::new();
+        let mut source = Source::new(0);
         let mut words = vec![word(1, PLACES), word(2, self.capacity), word(3, 50)];
         if self.limits {
             words.extend([word(4, 1_500), word(5, 2_000)]);
@@ -90,8 +90,7 @@ impl Kind {
         }
         legs(&mut source, &mut words);
         words.extend((0..calls).map(|_| word(0xE, 1 + source.below(PLACES - 1))));
-        words.push(word(0xF, words.len() as u32));
-        bytes(&words)
+        bytes(&ended(words))
     }
 
     fn customer(&self, source: &mut Source, place: u32, words: &mut Vec<u32>) {

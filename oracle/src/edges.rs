@@ -1,6 +1,6 @@
 //! Sheets on an edge, and damaged ones.
-use crate::random::Source;
-use crate::word::{bytes, kind, value, word};
+use crate::source::Source;
+use crate::word::{bytes, ended, kind, most, value, word};
 
 /// The sheet with one of its numbers moved to what a run of its first calls comes to, or to one below or above that: load, distance, duration, arrival.
 pub fn on_edge(source: &mut Source, words: &mut [u32]) {
@@ -17,7 +17,7 @@ pub fn on_edge(source: &mut Source, words: &mut [u32]) {
         5 => run.duration,
         _ => run.arrivals[source.below(run.arrivals.len() as u32) as usize],
     };
-    words[at] = word(kind(words[at]), source.near(number).min(10_000_000));
+    words[at] = word(kind(words[at]), source.near(number).min(most(3)));
 }
 
 /// What a run comes to that waits for nobody.
@@ -68,8 +68,8 @@ pub fn damaged(source: &mut Source, words: &[u32]) -> Vec<u8> {
         if words.is_empty() {
             break;
         }
-        let at = source.below(words.len() as u32) as usize;
-        match source.below(8) {
+        let at = place(source, words.len() as u32) as usize;
+        match source.below(9) {
             0 => words[at] ^= 1 << source.below(32),
             1 => drop(words.remove(at)),
             2 => words.insert(at, word(source.below(16), source.below(20))),
@@ -77,6 +77,7 @@ pub fn damaged(source: &mut Source, words: &[u32]) -> Vec<u8> {
             4 => words[at] = word(source.below(16), value(words[at])),
             5 => words[at] = word(kind(words[at]), beyond(source, kind(words[at]))),
             6 => words.push(word(source.below(16), source.below(3))),
+            7 => words = with_more_calls(source, words),
             _ => words.swap(at, 0),
         }
     }
@@ -90,19 +91,33 @@ pub fn damaged(source: &mut Source, words: &[u32]) -> Vec<u8> {
     file
 }
 
-/// A number at the end of the kind's range, or one past it.
-fn beyond(source: &mut Source, kind: u32) -> u32 {
-    let most = match kind {
-        1 => 64,
-        2 => 1_000_000,
-        7 => 32_767,
-        0xB => 1_000,
-        0xE => 63,
-        _ => 10_000_000,
+/// An index below `length`: near the beginning, near the end, or anywhere, so that long tables don't take all the damage.
+fn place(source: &mut Source, length: u32) -> u32 {
+    match source.below(3) {
+        0 => source.below(length.min(12)),
+        1 => length - 1 - source.below(length.min(6)),
+        _ => source.below(length),
+    }
+}
+
+/// The sheet with its last calls again, up to 127 to 130 calls in all.
+fn with_more_calls(source: &mut Source, mut words: Vec<u32>) -> Vec<u32> {
+    words.pop();
+    let calls = words.iter().filter(|&&w| kind(w) == 0xE).count();
+    let last = match words.last() {
+        Some(&last) if kind(last) == 0xE => last,
+        _ => word(0xE, 1),
     };
+    let wanted = 127 + source.below(4) as usize;
+    words.extend((calls..wanted).map(|_| last));
+    ended(words)
+}
+
+/// A number at an end of the kind's range, or one past it.
+fn beyond(source: &mut Source, kind: u32) -> u32 {
     if source.one_in(2) {
         source.below(2)
     } else {
-        most + source.below(2)
+        most(kind) + source.below(2)
     }
 }

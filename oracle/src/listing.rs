@@ -21,7 +21,8 @@ pub fn of(sheet: &Sheet) -> String {
         }
         text += "\n";
     }
-    let dropped = drops(sheet);
+    let (dropped, held) = drops(sheet);
+    assert_eq!(plan.routes.concat(), held, "the Rust serves the held calls");
     for &position in &dropped {
         writeln!(text, "drop {}", sheet.tour[position]).unwrap();
     }
@@ -46,25 +47,15 @@ fn split(sheet: &Sheet, tour: &[usize]) -> SplitResult {
     )
 }
 
-/// The positions that are dropped, from 0, in drop order.
-fn drops(sheet: &Sheet) -> Vec<usize> {
-    let mut held: Vec<usize> = (0..sheet.tour.len()).collect();
-    let mut dropped = Vec::new();
-    while let Some(last) = shortest_uncuttable(sheet, &held) {
-        dropped.push(held.remove(last));
+/// The positions that are dropped, from 0, in drop order, and the calls that are held at the end. Each beginning of the held calls is asked about once: what is dropped changes no shorter one.
+fn drops(sheet: &Sheet) -> (Vec<usize>, Vec<usize>) {
+    let (mut dropped, mut held) = (Vec::new(), Vec::new());
+    for (position, &call) in sheet.tour.iter().enumerate() {
+        held.push(call);
+        if split(sheet, &held).routes.concat().len() < held.len() {
+            held.pop();
+            dropped.push(position);
+        }
     }
-    dropped
-}
-
-/// The last call of the shortest beginning of the held calls that `split_tw` can't serve whole.
-fn shortest_uncuttable(sheet: &Sheet, held: &[usize]) -> Option<usize> {
-    let calls: Vec<usize> = held.iter().map(|&p| sheet.tour[p]).collect();
-    (0..calls.len()).find(|&last| {
-        let served: usize = split(sheet, &calls[..=last])
-            .routes
-            .iter()
-            .map(Vec::len)
-            .sum();
-        served <= last
-    })
+    (dropped, held)
 }

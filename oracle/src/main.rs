@@ -1,42 +1,56 @@
 //! Answers sheets in words by the Rust planner.
+mod cases;
 mod compare;
 mod distance;
 mod edges;
 mod evaluation;
+mod features;
 mod ga;
 mod listing;
 mod local_search;
 mod models;
+mod questions;
 mod random;
 mod reader;
 mod record;
+mod run_answer;
 mod runs;
 mod sheet;
 mod solomon;
+mod source;
 mod word;
 
 use std::io::Read;
 use std::process::exit;
 
+const USAGE: &str = "usage: oracle [--seed S] list | random N | record N FILE.. | runs N | compare PROGRAM N FILE..";
+
 fn main() {
     let args: Vec<String> = std::env::args().skip(1).collect();
+    let (seed, args) = match &args[..] {
+        [option, seed, rest @ ..] if option == "--seed" => (number(seed), rest),
+        rest => (0, rest),
+    };
     match args.iter().map(String::as_str).collect::<Vec<_>>()[..] {
         ["list"] => list(),
-        ["random", n] => random(number(n)),
-        ["record", n, ..] => record::write(number(n), &args[2..]),
-        ["runs", n] => runs::write(number(n)),
+        ["random", n] => random(seed, number(n)),
+        ["record", n, ..] => record::write(seed, number(n), &args[2..]),
+        ["runs", n] => runs::write(seed, number(n)),
         ["compare", program, n, ..] => {
-            exit(i32::from(!compare::all(program, number(n), &args[3..])))
+            let alike = compare::all(program, seed, number(n), &args[3..]);
+            exit(i32::from(!alike))
         }
-        _ => {
-            eprintln!("usage: oracle list | random N | record N FILE.. | runs N | compare PROGRAM N FILE..");
-            exit(2)
-        }
+        _ => usage(),
     }
 }
 
-fn number(text: &str) -> usize {
-    text.parse().expect("a number of sheets")
+fn usage() -> ! {
+    eprintln!("{USAGE}");
+    exit(2)
+}
+
+fn number<N: std::str::FromStr>(text: &str) -> N {
+    text.parse().unwrap_or_else(|_| usage())
 }
 
 /// What the listing program is to print for these bytes.
@@ -57,10 +71,10 @@ fn list() {
 }
 
 /// Random sheets with their listings: `WORD,WORD,.. LISTING`, its line ends written `\n`.
-fn random(count: usize) {
-    let mut source = random::Source::new();
+fn random(seed: u64, count: usize) {
+    let mut source = source::Source::new(seed);
     for _ in 0..count {
-        let words = source.sheet();
+        let words = random::small(&mut source);
         let text = listing::of(&sheet::Sheet::from_words(&words)).replace('\n', "\\n");
         let words: Vec<String> = words.iter().map(|w| format!("{w:08X}")).collect();
         println!("{} {}", words.join(","), text);

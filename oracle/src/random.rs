@@ -1,132 +1,159 @@
-//! Random sheets in words, of all mixes of features, from a fixed seed.
-use crate::word::word;
+//! Random accepted sheets in words, of all mixes of features.
+use crate::source::Source;
+use crate::word::{ended, most, word};
 
-/// A xorshift generator.
-pub struct Source(u64);
-
-/// How large a sheet's numbers may be.
+/// How large a sheet's numbers may be: each is below the number here, or up to it.
 struct Scale {
-    places: u32,
-    calls: u32,
     demand: u32,
+    capacity: u32,
     leg: u32,
     service: u32,
+    /// Windows, break and limits lie within a few times this.
+    day: u32,
+    /// Capacity, fixed cost and penalty now and then lie anywhere in their range.
+    whole_range: bool,
+    /// Every word is there that may stand in a sheet.
+    full: bool,
 }
 
+/// Numbers so small that they often meet, and that the checker can compute with.
 const SMALL: Scale = Scale {
-    places: 4,
-    calls: 5,
     demand: 5,
+    capacity: 12,
     leg: 12,
     service: 3,
+    day: 12,
+    whole_range: false,
+    full: false,
 };
 
 const MEDIUM: Scale = Scale {
-    places: 6,
-    calls: 9,
+    whole_range: true,
     ..SMALL
 };
 
-const LARGE: Scale = Scale {
-    places: 64,
-    calls: 128,
-    demand: 32_768,
-    leg: 10_000_001,
-    service: 1_000,
-};
+/// Up to four places and five calls.
+pub fn small(source: &mut Source) -> Vec<u32> {
+    let places = 1 + source.below(4);
+    let calls = source.below(6);
+    sheet(source, &SMALL, places, calls)
+}
 
-impl Source {
-    pub fn new() -> Source {
-        Source(0x9E37_79B9_7F4A_7C15)
+/// Two to six places and one to nine calls.
+pub fn medium(source: &mut Source) -> Vec<u32> {
+    let places = 2 + source.below(5);
+    let calls = 1 + source.below(9);
+    sheet(source, &MEDIUM, places, calls)
+}
+
+/// Two to twelve places and 100 to 128 calls; some such that many calls, or all, fit one run.
+pub fn long(source: &mut Source) -> Vec<u32> {
+    let scale = Scale {
+        capacity: source.one_of(&[12, 60, 400]),
+        day: source.one_of(&[12, 120, 800]),
+        ..MEDIUM
+    };
+    let places = 2 + source.below(11);
+    let calls = 100 + source.below(29);
+    sheet(source, &scale, places, calls)
+}
+
+/// Up to 64 places, 64 to 128 calls, and numbers of the whole range.
+pub fn large(source: &mut Source) -> Vec<u32> {
+    let places = 1 + source.below(64);
+    let calls = 64 + source.below(65);
+    let scale = wide(source, false);
+    sheet(source, &scale, places, calls)
+}
+
+/// The longest sheet: 64 places, 128 calls, and every word that may stand there.
+pub fn full(source: &mut Source) -> Vec<u32> {
+    let scale = wide(source, true);
+    sheet(source, &scale, 64, 128)
+}
+
+/// Legs in tens, thousands, or of the whole range, and a day of one leg or of many.
+fn wide(source: &mut Source, full: bool) -> Scale {
+    let leg = source.one_of(&[30, 1_000, most(0xC) + 1]);
+    Scale {
+        demand: most(7) + 1,
+        capacity: source.one_of(&[80_000, most(2) + 1]),
+        leg,
+        service: source.one_of(&[10, 1_000, leg]),
+        day: (leg * source.one_of(&[1, 8, 64])).min(most(5)),
+        whole_range: true,
+        full,
     }
+}
 
-    pub fn below(&mut self, bound: u32) -> u32 {
-        self.0 ^= self.0 << 13;
-        self.0 ^= self.0 >> 7;
-        self.0 ^= self.0 << 17;
-        ((self.0 >> 11) % u64::from(bound)) as u32
+/// A number of this kind below `bound`, or now and then of its whole range.
+fn number(source: &mut Source, scale: &Scale, kind: u32, bound: u32) -> u32 {
+    let value = if scale.whole_range {
+        source.mostly_below(bound, most(kind))
+    } else {
+        source.below(bound)
+    };
+    word(kind, value)
+}
+
+fn sheet(source: &mut Source, scale: &Scale, places: u32, calls: u32) -> Vec<u32> {
+    let capacity = number(source, scale, 2, scale.capacity);
+    let fixed = number(source, scale, 3, 10);
+    let mut words = vec![word(1, places), capacity, fixed];
+    limits(source, scale, &mut words);
+    for _ in 1..places {
+        customer(source, scale, &mut words);
     }
-
-    pub fn one_in(&mut self, n: u32) -> bool {
-        self.below(n) == 0
+    table(source, scale, places, 0xC, &mut words);
+    if scale.full || source.one_in(3) {
+        table(source, scale, places, 0xD, &mut words);
     }
-
-    /// One less, the number itself, or one more.
-    pub fn near(&mut self, number: u32) -> u32 {
-        (number + self.below(3)).saturating_sub(1)
+    if places > 1 {
+        words.extend((0..calls).map(|_| word(0xE, 1 + source.below(places - 1))));
     }
+    ended(words)
+}
 
-    /// An accepted sheet with up to four places and five calls, its numbers small enough that they often meet.
-    pub fn sheet(&mut self) -> Vec<u32> {
-        let places = 1 + self.below(SMALL.places);
-        let calls = self.below(SMALL.calls + 1);
-        self.sheet_of(&SMALL, places, calls)
+fn limits(source: &mut Source, scale: &Scale, words: &mut Vec<u32>) {
+    let mut put = |kind: u32, number: u32| words.push(word(kind, number.min(most(kind))));
+    if scale.full || source.one_in(3) {
+        put(4, scale.day + source.below(3 * scale.day));
     }
-
-    /// An accepted sheet of the same numbers with two to six places and one to nine calls.
-    pub fn medium(&mut self) -> Vec<u32> {
-        let places = 2 + self.below(MEDIUM.places - 1);
-        let calls = 1 + self.below(MEDIUM.calls);
-        self.sheet_of(&MEDIUM, places, calls)
+    if scale.full || source.one_in(3) {
+        put(5, scale.day + source.below(4 * scale.day));
     }
-
-    /// An accepted sheet with up to 64 places and 128 calls.
-    pub fn large(&mut self) -> Vec<u32> {
-        let places = 1 + self.below(LARGE.places);
-        let calls = self.below(LARGE.calls + 1);
-        let leg = [30, 1_000, LARGE.leg][self.below(3) as usize];
-        let scale = Scale { leg, ..LARGE };
-        self.sheet_of(&scale, places, calls)
+    if scale.full || source.one_in(2) {
+        let earliest = source.below(2 * scale.day);
+        put(6, earliest);
+        put(6, earliest + source.below(scale.day + 3));
+        put(6, source.below(scale.leg / 2));
     }
+}
 
-    fn sheet_of(&mut self, scale: &Scale, places: u32, calls: u32) -> Vec<u32> {
-        let capacity = self.below(scale.demand * 2 + scale.demand / 2);
-        let fixed = 3 * self.below(4);
-        let mut words = vec![word(1, places), word(2, capacity), word(3, fixed)];
-        self.limits(scale, &mut words);
-        for _ in 1..places {
-            self.customer(scale, &mut words);
+fn customer(source: &mut Source, scale: &Scale, words: &mut Vec<u32>) {
+    words.push(word(7, source.below(scale.demand)));
+    words.push(word(8, source.below(scale.service)));
+    if scale.full || source.one_in(2) {
+        let ready = source.below(scale.day + 3);
+        let due = ready + source.below(scale.day);
+        words.push(word(9, ready.min(most(9))));
+        words.push(word(0xA, due.min(most(0xA))));
+    }
+    if scale.full || source.one_in(3) {
+        words.push(number(source, scale, 0xB, 4));
+    }
+}
+
+/// A leg table by rows. One in three is mirrored: each way back is as long as the way there.
+fn table(source: &mut Source, scale: &Scale, places: u32, kind: u32, words: &mut Vec<u32>) {
+    let n = places as usize;
+    let mut legs: Vec<u32> = (0..n * n).map(|_| source.below(scale.leg)).collect();
+    if source.one_in(3) {
+        for from in 0..n {
+            for to in 0..from {
+                legs[to * n + from] = legs[from * n + to];
+            }
         }
-        let legs = places * places;
-        words.extend((0..legs).map(|_| word(0xC, self.below(scale.leg))));
-        if self.one_in(3) {
-            words.extend((0..legs).map(|_| word(0xD, self.below(scale.leg))));
-        }
-        if places > 1 {
-            words.extend((0..calls).map(|_| word(0xE, 1 + self.below(places - 1))));
-        }
-        words.push(word(0xF, words.len() as u32));
-        words
     }
-
-    fn limits(&mut self, scale: &Scale, words: &mut Vec<u32>) {
-        let most = |number: u32| number.min(10_000_000);
-        if self.one_in(3) {
-            words.push(word(4, most(scale.leg + self.below(3 * scale.leg))));
-        }
-        if self.one_in(3) {
-            words.push(word(5, most(scale.leg + self.below(4 * scale.leg))));
-        }
-        if self.one_in(2) {
-            let earliest = self.below(2 * scale.leg);
-            let latest = earliest + self.below(scale.leg + 3);
-            words.push(word(6, most(earliest)));
-            words.push(word(6, most(latest)));
-            words.push(word(6, self.below(scale.leg / 2)));
-        }
-    }
-
-    fn customer(&mut self, scale: &Scale, words: &mut Vec<u32>) {
-        words.push(word(7, self.below(scale.demand)));
-        words.push(word(8, self.below(scale.service)));
-        if self.one_in(2) {
-            let ready = self.below(scale.leg + 3);
-            let due = ready + self.below(scale.leg);
-            words.push(word(9, ready.min(10_000_000)));
-            words.push(word(0xA, due.min(10_000_000)));
-        }
-        if self.one_in(3) {
-            words.push(word(0xB, self.below(4)));
-        }
-    }
+    words.extend(legs.iter().map(|&leg| word(kind, leg)));
 }

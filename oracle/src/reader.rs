@@ -1,7 +1,5 @@
 //! Whether bytes are an accepted sheet in words; if not, the refusal's number and word. Written from the scope document alone.
-use crate::word::{kind, value};
-
-const LARGEST: u32 = 10_000_000;
+use crate::word::{kind, most, value};
 
 /// What the words so far say.
 #[derive(Default)]
@@ -105,13 +103,10 @@ impl Seen {
 
     fn in_range(&self, kind: u32, value: u32) -> bool {
         match kind {
-            1 => (1..=64).contains(&value),
-            2 => value <= 1_000_000,
-            7 => value <= 32_767,
-            0xB => value <= 1_000,
+            1 => (1..=most(1)).contains(&value),
             0xE => value >= 1 && (value as usize) < self.places && self.count(0xE) < 128,
             0xF => true,
-            _ => value <= LARGEST,
+            _ => value <= most(kind),
         }
     }
 

@@ -1,25 +1,20 @@
 //! Recorded answers: for each question the length of its bytes, the bytes, the length of its answer, and the answer; lengths are 32 bits, little-endian. The first byte of a question says its kind.
-use crate::compare::{from_file, generated};
-use crate::random::Source;
-use crate::{answer, word};
+use crate::features::Features;
+use crate::{answer, questions};
 use std::io::Write;
 
 /// A question of this kind is a sheet, and its answer the listing.
 const SHEET: u8 = b's';
 
-/// `count` generated sheets and those of Solomon's files, to standard output.
-pub fn write(count: usize, instances: &[String]) {
-    let mut source = Source::new();
-    let mut sheets: Vec<Vec<u8>> = (0..count).map(|n| generated(&mut source, n)).collect();
-    sheets.extend(
-        instances
-            .iter()
-            .flat_map(|file| from_file(file))
-            .map(|words| word::bytes(&words)),
-    );
-    for file in &sheets {
-        put(SHEET, file, answer(file).as_bytes());
+/// The cases, `count` generated sheets and those of Solomon's files, to standard output; what they have, to standard error.
+pub fn write(seed: u64, count: usize, files: &[String]) {
+    let mut features = Features::default();
+    for file in questions::sheets(seed, count, files) {
+        let answer = answer(&file);
+        features.listing(&file, &answer);
+        put(SHEET, &file, answer.as_bytes());
     }
+    eprintln!("{features}");
 }
 
 /// A question behind its kind and its answer, each behind its length.

@@ -1,7 +1,7 @@
 //! A sheet in words, taken to be an accepted one.
 use crate::distance::DistanceMatrix;
 use crate::evaluation::RouteLimits;
-use crate::models::{Customer, TimeWindow, VehicleBreak};
+use crate::models::{Customer, TimeWindow, Vehicle, VehicleBreak};
 
 pub struct Sheet {
     pub capacity: i32,
@@ -66,6 +66,21 @@ impl Sheet {
             customers,
             distances,
             tour,
+        }
+    }
+
+    /// A vehicle with the sheet's capacity, fixed cost, limits and break.
+    pub fn vehicle(&self) -> Vehicle {
+        let mut vehicle = Vehicle::new(0, self.capacity).with_fixed_cost(self.fixed);
+        if let Some(most) = self.limits.max_distance {
+            vehicle = vehicle.with_max_distance(most);
+        }
+        if let Some(most) = self.limits.max_duration {
+            vehicle = vehicle.with_max_duration(most);
+        }
+        match self.limits.rest {
+            Some(rest) => vehicle.with_break(rest),
+            None => vehicle,
         }
     }
 }

@@ -1,5 +1,5 @@
-//! Solomon's instances as sheets. The unit is a tenth of Solomon's: distances are Euclidean, truncated to one decimal, and times are the same numbers.
-use crate::word::word;
+//! Solomon's instances as sheets. The unit is a tenth of Solomon's: distances are Euclidean, truncated to one decimal, and times are the same numbers. When the depot is due is the duration limit, which in the Rust is the latest return to the depot.
+use crate::word::{ended, word};
 
 struct Node {
     x: f64,
@@ -55,6 +55,7 @@ fn leg(a: &Node, b: &Node) -> u32 {
 
 fn sheet(nodes: &[Node], capacity: u32, tour: &[usize], rest: &Option<[u32; 3]>) -> Vec<u32> {
     let mut words = vec![word(1, nodes.len() as u32), word(2, capacity), word(3, 0)];
+    words.push(word(5, nodes[0].due));
     words.extend(rest.iter().flatten().map(|&n| word(6, n)));
     for n in &nodes[1..] {
         words.extend([
@@ -70,6 +71,5 @@ fn sheet(nodes: &[Node], capacity: u32, tour: &[usize], rest: &Option<[u32; 3]>)
             .flat_map(|a| nodes.iter().map(move |b| word(0xC, leg(a, b)))),
     );
     words.extend(tour.iter().map(|&c| word(0xE, c as u32)));
-    words.push(word(0xF, words.len() as u32));
-    words
+    ended(words)
 }

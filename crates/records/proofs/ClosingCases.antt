@@ -8,17 +8,17 @@ use Rattle.records.specs.Tally.{nothingYet}
 use Rattle.records.specs.Closing.{closing}
 
 abbrev tally : ℕ → ℕ → ℕ → Tally
-tally sheets unlike first = record { sheets = sheets; unlike = unlike; first = first }
+tally answers unlike first = record { answers = answers; unlike = unlike; first = first }
 
-all-alike : closing (tally 654 0 0) End ≡ text "replayed 654 sheets, all alike\n"
+all-alike : closing (tally 654 0 0) End ≡ text "replayed 654 answers, all alike\n"
 unfolding digitsIn
 all-alike = refl
 
-nothing-read : closing nothingYet End ≡ text "replayed 0 sheets, all alike\n"
+nothing-read : closing nothingYet End ≡ text "replayed 0 answers, all alike\n"
 unfolding digitsIn
 nothing-read = refl
 
-some-unlike : closing (tally 654 3 4) End ≡ text "sheet 4 is unlike\nreplayed 654 sheets, 3 unlike\n"
+some-unlike : closing (tally 654 3 4) End ≡ text "answer 4 is unlike\nreplayed 654 answers, 3 unlike\n"
 unfolding digitsIn
 some-unlike = refl
 
@@ -26,7 +26,7 @@ cut-short : closing (tally 7 0 0) CutShort ≡ text "record 8 is cut short\n"
 unfolding digitsIn
 cut-short = refl
 
-unlike-and-too-long : closing (tally 7 1 3) TooLong ≡ text "sheet 3 is unlike\nrecord 8 is too long\n"
+unlike-and-too-long : closing (tally 7 1 3) TooLong ≡ text "answer 3 is unlike\nrecord 8 is too long\n"
 unfolding digitsIn
 unlike-and-too-long = refl
 

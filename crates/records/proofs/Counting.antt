@@ -1,4 +1,4 @@
--- The tally of a run, one sheet more at a time. Assumes nothing.
+-- The tally of a run, one answer more at a time. Assumes nothing.
 use Prim.Native.Nat.{_+_, _<_}
 use native.Mathlib.Omega.{arith}
 use mathlib.Core.Path.{_≡_, ap}
@@ -6,12 +6,12 @@ use Rattle.basics.specs.Tests.{by-test}
 use Rattle.records.specs.declared.seen.Seen.{Seen}
 use Rattle.records.specs.declared.tally.Tally.{Tally}
 use Rattle.records.specs.Seen.{isUnlike}
-use Rattle.records.specs.Tally.{InRun, mostSheets, countedWith}
+use Rattle.records.specs.Tally.{InRun, mostAnswers, countedWith}
 
-pub sheets-more : (r t : Tally) (seen : Seen) → r ≡ countedWith t seen → r .sheets ≡ t .sheets + 1
+pub answers-more : (r t : Tally) (seen : Seen) → r ≡ countedWith t seen → r .answers ≡ t .answers + 1
 unfolding countedWith
-sheets-more r t seen e = ap (λ (t : Tally). t .sheets) e
+answers-more r t seen e = ap (λ (t : Tally). t .answers) e
 
-pub run-on : (t : Tally) (seen : Seen) → InRun t → t .sheets < mostSheets → InRun (countedWith t seen)
+pub run-on : (t : Tally) (seen : Seen) → InRun t → t .answers < mostAnswers → InRun (countedWith t seen)
 unfolding countedWith
 run-on t seen h more = by-test (isUnlike seen) (λ e. rw e (omega arith, omega arith)) (λ e. rw e (omega arith, omega arith))

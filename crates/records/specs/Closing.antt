@@ -8,14 +8,14 @@ use Rattle.records.specs.declared.seen.Seen.{Seen}
 use Rattle.records.specs.declared.seen.Seen.the-variants.{Alike, Unlike, End, CutShort, TooLong}
 use Rattle.records.specs.declared.tally.Tally.{Tally}
 
--- the first sheet that is unlike, where there is one
+-- the first answer that is unlike, where there is one
 abbrev pub firstLine : ℕ → List ℕ
-firstLine first = cond (eqb first 0) [] (text "sheet" ++ spaced first ++ text " is unlike\n")
+firstLine first = cond (eqb first 0) [] (text "answer" ++ spaced first ++ text " is unlike\n")
 
 -- how many were replayed, and how many of them are unlike
 abbrev pub countLine : ℕ → ℕ → List ℕ
-countLine sheets unlike =
-    text "replayed" ++ spaced sheets ++ cond (eqb unlike 0) (text " sheets, all alike\n") (text " sheets," ++ spaced unlike ++ text " unlike\n")
+countLine answers unlike =
+    text "replayed" ++ spaced answers ++ cond (eqb unlike 0) (text " answers, all alike\n") (text " answers," ++ spaced unlike ++ text " unlike\n")
 
 -- a record that is none
 abbrev pub stopLine : ℕ → List ℕ → List ℕ
@@ -23,11 +23,11 @@ stopLine number fault = text "record" ++ spaced number ++ fault
 
 -- why the run ended
 abbrev pub lastLine : Tally → Seen → List ℕ
-lastLine t End = countLine (t .sheets) (t .unlike)
-lastLine t CutShort = stopLine (t .sheets + 1) (text " is cut short\n")
-lastLine t TooLong = stopLine (t .sheets + 1) (text " is too long\n")
-lastLine t Alike = stopLine (t .sheets + 1) (text " is one too many\n")
-lastLine t Unlike = stopLine (t .sheets + 1) (text " is one too many\n")
+lastLine t End = countLine (t .answers) (t .unlike)
+lastLine t CutShort = stopLine (t .answers + 1) (text " is cut short\n")
+lastLine t TooLong = stopLine (t .answers + 1) (text " is too long\n")
+lastLine t Alike = stopLine (t .answers + 1) (text " is one too many\n")
+lastLine t Unlike = stopLine (t .answers + 1) (text " is one too many\n")
 
 abbrev pub closing : Tally → Seen → List ℕ
 closing t last = firstLine (t .first) ++ lastLine t last

@@ -10,30 +10,30 @@ use crate::tally::Tally;
 use report::text::numbered;
 use report::text::word;
 
-// The first sheet that is unlike; 0 where all are alike.
+// The first answer that is unlike; 0 where all are alike.
 fn first_line(out: &mut [u8], at: usize, first: u64) -> usize
-    requires { ⌜ at + 37 ≤ length (now out) ⌝ }
+    requires { ⌜ at + 38 ≤ length (now out) ⌝ }
     ensures text { λ r. ⌜ Put at (firstLine first) (now (out .entry)) (now (out .exit)) r ⌝ }
-    ensures short { λ r. ⌜ r ≤ at + 37 ⌝ }
+    ensures short { λ r. ⌜ r ≤ at + 38 ⌝ }
 {
     if first == 0 {
         return at;
     }
-    let end = numbered(&mut *out, at, b"sheet", first);
+    let end = numbered(&mut *out, at, b"answer", first);
     word(&mut *out, end, b" is unlike\n")
 }
 
-// How many sheets were replayed, and how many of them are unlike.
-fn count_line(out: &mut [u8], at: usize, sheets: u64, unlike: u64) -> usize
-    requires { ⌜ at + 66 ≤ length (now out) ⌝ }
-    ensures text { λ r. ⌜ Put at (countLine sheets unlike) (now (out .entry)) (now (out .exit)) r ⌝ }
-    ensures short { λ r. ⌜ r ≤ at + 66 ⌝ }
+// How many answers were replayed, and how many of them are unlike.
+fn count_line(out: &mut [u8], at: usize, answers: u64, unlike: u64) -> usize
+    requires { ⌜ at + 67 ≤ length (now out) ⌝ }
+    ensures text { λ r. ⌜ Put at (countLine answers unlike) (now (out .entry)) (now (out .exit)) r ⌝ }
+    ensures short { λ r. ⌜ r ≤ at + 67 ⌝ }
 {
-    let mut end = numbered(&mut *out, at, b"replayed", sheets);
+    let mut end = numbered(&mut *out, at, b"replayed", answers);
     if unlike == 0 {
-        return word(&mut *out, end, b" sheets, all alike\n");
+        return word(&mut *out, end, b" answers, all alike\n");
     }
-    end = numbered(&mut *out, end, b" sheets,", unlike);
+    end = numbered(&mut *out, end, b" answers,", unlike);
     word(&mut *out, end, b" unlike\n")
 }
 
@@ -49,14 +49,14 @@ fn stop_line(out: &mut [u8], at: usize, number: u64, fault: &[u8]) -> usize
 
 // Why the run ended: there was no further record, or the next one is no record.
 fn last_line(out: &mut [u8], at: usize, tally: Tally, last: Seen) -> usize
-    requires { ⌜ at + 66 ≤ length (now out) ⌝ }
+    requires { ⌜ at + 67 ≤ length (now out) ⌝ }
     requires { ⌜ InRun tally ⌝ }
     ensures text { λ r. ⌜ Put at (lastLine tally last) (now (out .entry)) (now (out .exit)) r ⌝ }
-    ensures short { λ r. ⌜ r ≤ at + 66 ⌝ }
+    ensures short { λ r. ⌜ r ≤ at + 67 ⌝ }
 {
-    let number = tally.sheets + 1;
+    let number = tally.answers + 1;
     match last {
-        Seen::End => count_line(&mut *out, at, tally.sheets, tally.unlike),
+        Seen::End => count_line(&mut *out, at, tally.answers, tally.unlike),
         Seen::CutShort => stop_line(&mut *out, at, number, b" is cut short\n"),
         Seen::TooLong => stop_line(&mut *out, at, number, b" is too long\n"),
         Seen::Alike => stop_line(&mut *out, at, number, b" is one too many\n"),
@@ -66,7 +66,7 @@ fn last_line(out: &mut [u8], at: usize, tally: Tally, last: Seen) -> usize
 
 // All of it.
 pub fn closing_text(out: &mut [u8], tally: Tally, last: Seen) -> usize
-    requires { ⌜ 103 ≤ length (now out) ⌝ }
+    requires { ⌜ 105 ≤ length (now out) ⌝ }
     requires { ⌜ InRun tally ⌝ }
     ensures text { λ r. ⌜ Put 0 (closing tally last) (now (out .entry)) (now (out .exit)) r ⌝ }
     ensures short { λ r. ⌜ r ≤ length (now (out .entry)) ⌝ }

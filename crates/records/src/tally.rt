@@ -1,15 +1,15 @@
-// How many sheets were replayed, and which of them are unlike.
+// How many answers were replayed, and which of them are unlike.
 ghost use mathlib.Core.Path.{_≡_};
 ghost use Prim.Native.Nat.{_<_};
-ghost use Rattle.records.specs.Tally.{InRun, mostSheets, nothingYet, firstOf, countedWith};
+ghost use Rattle.records.specs.Tally.{InRun, mostAnswers, nothingYet, firstOf, countedWith};
 use crate::seen::Seen;
 use crate::seen::is_unlike;
 
-// No more sheets than this are replayed in one run.
+// No more answers than this are replayed in one run.
 pub const MOST: u64 = 1_000_000_000_000;
 
 pub struct Tally {
-    pub sheets: u64,
+    pub answers: u64,
     pub unlike: u64,
     // The number of the first that is unlike, from 1; 0 where all are alike.
     pub first: u64,
@@ -19,35 +19,35 @@ pub fn start() -> Tally
     ensures { λ r. ⌜ r ≡ nothingYet ⌝ }
 {
     Tally {
-        sheets: 0,
+        answers: 0,
         unlike: 0,
         first: 0,
     }
 }
 
-// The first sheet that is unlike, where this one is.
-fn first_of(first: u64, sheet: u64) -> u64
-    ensures { λ r. ⌜ r ≡ firstOf first sheet ⌝ }
+// The first answer that is unlike, where this one is.
+fn first_of(first: u64, answer: u64) -> u64
+    ensures { λ r. ⌜ r ≡ firstOf first answer ⌝ }
 {
-    if first == 0 { sheet } else { first }
+    if first == 0 { answer } else { first }
 }
 
-// One sheet more.
+// One answer more.
 pub fn counted(tally: Tally, seen: Seen) -> Tally
     requires { ⌜ InRun tally ⌝ }
-    requires { ⌜ tally .sheets < mostSheets ⌝ }
+    requires { ⌜ tally .answers < mostAnswers ⌝ }
     ensures { λ r. ⌜ r ≡ countedWith tally seen ⌝ }
 {
-    let sheet = tally.sheets + 1;
+    let answer = tally.answers + 1;
     if is_unlike(seen) {
         return Tally {
-            sheets: sheet,
+            answers: answer,
             unlike: tally.unlike + 1,
-            first: first_of(tally.first, sheet),
+            first: first_of(tally.first, answer),
         };
     }
     Tally {
-        sheets: sheet,
+        answers: answer,
         unlike: tally.unlike,
         first: tally.first,
     }

@@ -2,6 +2,7 @@
 ghost use mathlib.Core.Path.{_≡_};
 ghost use Rattle.definitions.specs.Listing.{listing};
 ghost use Rattle.run_answers.specs.Alike.{sameList};
+use list_answers::alike::runs_alike;
 use plan_listing::text::text;
 use records::closing::print_closing;
 use records::record::Record;
@@ -12,7 +13,6 @@ use records::seen::seen_of;
 use records::tally::MOST;
 use records::tally::counted;
 use records::tally::start;
-use run_answers::alike::runs_alike;
 
 // Whether the recorded text is the listing of the sheet.
 fn listing_alike(sheet: &[u8], recorded: &[u8]) -> bool
@@ -55,7 +55,7 @@ fn next() -> Seen {
 fn main() {
     let mut tally = start();
     let mut last = next();
-    while tally.sheets < MOST && is_answer(last) {
+    while tally.answers < MOST && is_answer(last) {
         tally = counted(tally, last);
         last = next();
     }

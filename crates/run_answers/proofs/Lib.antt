@@ -4,5 +4,3 @@ pub mod Same
 pub mod Front
 -- Reading along a recorded text.
 pub mod Along
--- A question that has an answer.
-pub mod Answering

@@ -1,4 +1,3 @@
 -- What the contracts of the recorded answers cite.
 pub mod Alike
 pub mod Along
-pub mod Answered

@@ -1,4 +1,4 @@
-// What is made of a run list, as a recorded text says it: the visits of each run, each run reversed, and the runs left by elimination.
+// What is made of a run list, as a recorded text says it: the visits of each run, whether it may be made and what it costs, each run reversed, and the runs left by elimination.
 // A run list whose ends fall, or that is too long, has no text.
 ghost use mathlib.Core.Path.{_≡_};
 ghost use mathlib.Core.Bool.{false};
@@ -6,6 +6,7 @@ ghost use Prim.Native.Nat.{_≤_};
 ghost use lib.ListN.{length};
 ghost use Rattle.definitions.specs.Refusals.{endsFall};
 ghost use Rattle.run_answers.specs.Along.{Inside};
+use crate::evaluations::evaluation_line;
 use crate::lines::built_lines;
 use crate::recorded::UNLIKE;
 use crate::recorded::calls;
@@ -13,6 +14,8 @@ use crate::recorded::figure;
 use crate::recorded::word;
 use elimination::route_elimination::Left;
 use elimination::route_elimination::eliminate_routes;
+use evaluation::route::effective_cost;
+use evaluation::route::route_feasible;
 use lists::runs::ends_fall;
 use local_search::search::search_of;
 use local_search::two_opt::two_opt_improve;
@@ -48,6 +51,25 @@ fn visited(
         head.limits,
     );
     built_lines(recorded, at, built)
+}
+
+// Whether a run may be made, and what it costs.
+fn evaluated(
+    recorded: &[u8],
+    at: usize,
+    run: &[usize],
+    held: Loaded,
+    distances: &[f64],
+    times: &[f64],
+) -> usize
+    ensures { λ r. ⌜ Inside (now (recorded .entry)) r ⌝ }
+{
+    let head = held.head;
+    let customers = held.customers;
+    let size = head.places;
+    let feasible = route_feasible(run, customers, distances, times, size, head.limits);
+    let cost = effective_cost(run, customers, distances, times, size, head.limits);
+    evaluation_line(recorded, at, feasible, cost)
 }
 
 // A run after reversals, at the front of the list, and its distance.
@@ -100,6 +122,7 @@ fn reversed(
 // What is said of each run.
 pub enum Part {
     Visits,
+    Evaluation,
     Reversal,
     Calls,
 }
@@ -118,6 +141,7 @@ fn run_text(
 {
     match part {
         Part::Visits => visited(recorded, at, run, held, distances, times),
+        Part::Evaluation => evaluated(recorded, at, run, held, distances, times),
         Part::Reversal => reversed(recorded, at, run, held, distances, times),
         Part::Calls => {
             let end = word(recorded, at, b"left");
@@ -272,7 +296,7 @@ fn left_over(
     left_lines(recorded, at, all, ends, held, distances, times)
 }
 
-// All of it. A sheet with lateness pay has visits only.
+// All of it. A sheet with lateness pay has visits and evaluations only.
 pub fn runs_text(
     recorded: &[u8],
     all: &[usize],
@@ -284,6 +308,16 @@ pub fn runs_text(
     ensures { λ r. ⌜ Inside (now (recorded .entry)) r ⌝ }
 {
     let mut end = each_run(recorded, 0, Part::Visits, all, ends, held, distances, times);
+    end = each_run(
+        recorded,
+        end,
+        Part::Evaluation,
+        all,
+        ends,
+        held,
+        distances,
+        times,
+    );
     let head = held.head;
     let customers = held.customers;
     if any_fits(Test::Soft, customers, head.places) {

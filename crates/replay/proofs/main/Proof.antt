@@ -1,9 +1,9 @@
--- `main` meets its contract. The loop's invariant: the tally is that of a run. The measure is how many sheets may still come. Assumes nothing.
+-- `main` meets its contract. The loop's invariant: the tally is that of a run. The measure is how many answers may still come. Assumes nothing.
 use Prim.Native.Nat.{_-_}
 use native.Mathlib.Omega.{arith}
 use borrow.Author.Needs.{needs}
-use Rattle.records.proofs.Counting.{sheets-more, run-on}
-use Rattle.records.specs.Tally.{InRun, mostSheets}
+use Rattle.records.proofs.Counting.{answers-more, run-on}
+use Rattle.records.specs.Tally.{InRun, mostAnswers}
 use Rattle.replay.proofs.main.Statement.{statement}
 use Rattle.replay.proofs.main.Tie as tie
 
@@ -11,7 +11,7 @@ abbrev Inv-loop : tie.InvT-loop
 Inv-loop tally₀ last₀ tally last = InRun tally
 
 abbrev μ-loop : tie.MeasureT-loop
-μ-loop tally₀ last₀ tally last = mostSheets - tally .sheets
+μ-loop tally₀ last₀ tally last = mostAnswers - tally .answers
 
 start-requires : tie.Need-start-requires Inv-loop μ-loop
 start-requires c κs = search needs
@@ -34,7 +34,7 @@ next-requires-2 c κs = search needs
 loop-less : tie.Need-loop-less Inv-loop μ-loop
 loop-less c =
     let l = c .before .before .before .before .before .before .loop in
-    omega (arith, sheets-more (c .before .counted .result) (l .tally) (l .last) (c .before .counted .ensures))
+    omega (arith, answers-more (c .before .counted .result) (l .tally) (l .last) (c .before .counted .ensures))
 
 loop-again : tie.Need-loop-again Inv-loop μ-loop
 loop-again c =

@@ -5,8 +5,8 @@ use Rattle.records.specs.Tally.{countedWith}
 use Rattle.records.proofs.tally.counted.Statement.{statement}
 use Rattle.records.proofs.tally.counted.Tie as tie
 
-add-sheet : tie.Need-add-sheet
-add-sheet c = search needs
+add-answer : tie.Need-add-answer
+add-answer c = search needs
 
 is-unlike-requires : tie.Need-is-unlike-requires
 is-unlike-requires c κs = search needs
@@ -29,4 +29,4 @@ returns-2 c = rw (sym (c .before .is-unlike .ensures) ∙ c .if1 .left)
 
 pub counted-spec : {M : Type 1} → statement M
 counted-spec =
-    tie.close (tie.spec add-sheet is-unlike-requires add-t5 first-of-requires returns returns-2)
+    tie.close (tie.spec add-answer is-unlike-requires add-t5 first-of-requires returns returns-2)

@@ -5,8 +5,8 @@ use denote.Ref.{now}
 use Rattle.sheet.specs.Summary.{heldCounts, heldSummary}
 use Rattle.plan_listing.proofs.Reading.{is-accepted}
 use borrow.Author.Needs.{needs}
-use Rattle.run_answers.proofs.alike.sheet_alike.Statement.{statement}
-use Rattle.run_answers.proofs.alike.sheet_alike.Tie as tie
+use Rattle.list_answers.proofs.alike.sheet_alike.Statement.{statement}
+use Rattle.list_answers.proofs.alike.sheet_alike.Tie as tie
 
 read-requires : tie.Need-read-requires
 read-requires c κs = search needs

@@ -6,7 +6,7 @@ use mathlib.Core.List.{List}
 use lib.ListN.{length, take, drop, length-drop}
 use lib.Seq.{take-all}
 use Rattle.plan_listing.specs.Held.{Accepted}
-use Rattle.run_answers.specs.Answered.{runEnds, Answered}
+use Rattle.list_answers.specs.Answered.{runEnds, Answered}
 
 -- all bytes behind the run ends
 behind : (question : List ℕ) (from : ℕ) → take (length question - from) (drop from question) ≡ drop from question

@@ -2,13 +2,14 @@
 ghost use mathlib.Core.Path.{_≡_};
 ghost use mathlib.Core.Bool.{true};
 ghost use Rattle.plan_listing.specs.Held.{Accepted};
-ghost use Rattle.run_answers.specs.Answered.{Answered};
+ghost use Rattle.list_answers.specs.Answered.{Answered};
+use crate::cut::cut_text;
 use crate::given::number_of;
 use crate::given::write_ends;
-use crate::recorded::UNLIKE;
-use crate::runs::runs_text;
 use plan_listing::held::Loaded;
 use plan_listing::held::load;
+use run_answers::recorded::UNLIKE;
+use run_answers::runs::runs_text;
 use sheet::read::Reading;
 use sheet::read::read;
 
@@ -23,7 +24,8 @@ fn ends_alike(
 ) -> bool {
     let mut ends = [0usize; 128];
     let runs = write_ends(ends_bytes, &mut ends);
-    let end = runs_text(recorded, tour, &ends[..runs], held, distances, times);
+    let mut end = runs_text(recorded, tour, &ends[..runs], held, distances, times);
+    end = cut_text(recorded, end, tour, held, distances);
     end != UNLIKE && end == recorded.len()
 }
 

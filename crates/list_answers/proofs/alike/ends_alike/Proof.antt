@@ -2,8 +2,8 @@
 use mathlib.Core.Path.{sym}
 use lib.Seq.{length-take-le}
 use borrow.Author.Needs.{needs}
-use Rattle.run_answers.proofs.alike.ends_alike.Statement.{statement}
-use Rattle.run_answers.proofs.alike.ends_alike.Tie as tie
+use Rattle.list_answers.proofs.alike.ends_alike.Statement.{statement}
+use Rattle.list_answers.proofs.alike.ends_alike.Tie as tie
 
 slice-aggregate-write-ends : tie.Need-slice-aggregate-write-ends
 slice-aggregate-write-ends c = search needs
@@ -20,6 +20,9 @@ slice-aggregate-runs-text c = sym (length-take-le _ _ (array-share-prefix-ends (
 runs-text-requires : tie.Need-runs-text-requires
 runs-text-requires c κs = search needs
 
+cut-text-requires : tie.Need-cut-text-requires
+cut-text-requires c κs = search needs
+
 returns : tie.Need-returns
 returns c = search needs
 
@@ -35,5 +38,6 @@ ends-alike-spec =
     array-share-prefix-ends
     slice-aggregate-runs-text
     runs-text-requires
+    cut-text-requires
     returns
     returns-2)

@@ -1,8 +1,8 @@
 -- `alike::accepted_alike` is safe. Assumes nothing.
 use Rattle.plan_listing.proofs.Loading.{far-inside, far-counted, long-inside, long-counted, calls-inside, calls-counted}
 use borrow.Author.Needs.{needs}
-use Rattle.run_answers.proofs.alike.accepted_alike.Statement.{statement}
-use Rattle.run_answers.proofs.alike.accepted_alike.Tie as tie
+use Rattle.list_answers.proofs.alike.accepted_alike.Statement.{statement}
+use Rattle.list_answers.proofs.alike.accepted_alike.Tie as tie
 
 load-requires : tie.Need-load-requires
 load-requires c κs = search needs

@@ -3,9 +3,9 @@ use native.Mathlib.Omega.{arith}
 use mathlib.Core.Bool.{false≢true}
 use denote.Ref.{now}
 use borrow.Author.Needs.{needs}
-use Rattle.run_answers.proofs.Answering.{answered}
-use Rattle.run_answers.proofs.alike.runs_alike.Statement.{statement}
-use Rattle.run_answers.proofs.alike.runs_alike.Tie as tie
+use Rattle.list_answers.proofs.Answering.{answered}
+use Rattle.list_answers.proofs.alike.runs_alike.Statement.{statement}
+use Rattle.list_answers.proofs.alike.runs_alike.Tie as tie
 
 returns : tie.Need-returns
 returns c h = absurd (false≢true h)

@@ -3,8 +3,8 @@ use Prim.Native.Nat.{_≤_, _-_}
 use mathlib.Core.Path.{_≡_}
 use lib.ListN.{length}
 use borrow.Author.Needs.{needs}
-use Rattle.run_answers.proofs.given.write_ends.Statement.{statement}
-use Rattle.run_answers.proofs.given.write_ends.Tie as tie
+use Rattle.list_answers.proofs.given.write_ends.Statement.{statement}
+use Rattle.list_answers.proofs.given.write_ends.Tie as tie
 
 abbrev Inv-loop : tie.InvT-loop
 Inv-loop bytes ends₀ k₀ ends k = (length ends ≡ length ends₀) × (k ≤ length ends₀)

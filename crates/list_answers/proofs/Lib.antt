@@ -1,0 +1,2 @@
+-- A question that has an answer.
+pub mod Answering

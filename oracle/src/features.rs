@@ -1,0 +1,82 @@
+//! What a sample of questions and answers has, by how many of them.
+use crate::reader;
+use crate::sheet::Sheet;
+use std::fmt;
+
+/// A run or a tour of so many calls counts as long.
+const LONG: usize = 100;
+
+/// Names in the order of their first question, each with its count.
+#[derive(Default)]
+pub struct Features {
+    questions: usize,
+    counts: Vec<(&'static str, usize)>,
+}
+
+impl Features {
+    fn count(&mut self, name: &'static str, has: bool) {
+        let known = self.counts.iter().position(|&(other, _)| other == name);
+        let at = known.unwrap_or_else(|| {
+            self.counts.push((name, 0));
+            self.counts.len() - 1
+        });
+        self.counts[at].1 += usize::from(has);
+    }
+
+    /// A sheet that may be refused, and its listing.
+    pub fn listing(&mut self, file: &[u8], answer: &str) {
+        self.questions += 1;
+        self.count("refused", answer.starts_with("refused"));
+        self.count("with drops", answer.contains("drop "));
+        self.count("with a break taken", answer.contains(" rest "));
+        if let Ok(words) = reader::words(file) {
+            self.sheet(&Sheet::from_words(&words));
+        }
+    }
+
+    fn sheet(&mut self, sheet: &Sheet) {
+        self.count("with a symmetric table", sheet.distances.symmetric());
+        self.count("of 100 calls or more", sheet.tour.len() >= LONG);
+    }
+
+    /// An accepted sheet, its runs, and what is made of them.
+    pub fn runs(&mut self, sheet: &Sheet, routes: &[Vec<usize>], answer: &str) {
+        self.questions += 1;
+        self.sheet(sheet);
+        let longest = routes.iter().map(Vec::len).max().unwrap_or(0);
+        self.count("with a run of 4 calls or more", longest >= 4);
+        self.count("with a run of 100 calls or more", longest >= LONG);
+        self.count("with an empty run", routes.iter().any(Vec::is_empty));
+        self.count("with violations", answer.contains("violation "));
+        self.count("with a feasible run", answer.contains("\nfeasible "));
+        self.count("with a call too heavy", answer.contains("dropped "));
+        let reversed = lines(answer, "reversed ");
+        self.count("without lateness pay", !reversed.is_empty());
+        let turned = std::iter::zip(&reversed, routes).any(|(new, old)| new[1..] != old[..]);
+        self.count("with a run turned", turned);
+        let filled = routes.iter().filter(|route| !route.is_empty()).count();
+        let left = lines(answer, "left ").len();
+        self.count("with a run eliminated", 0 < left && left < filled);
+    }
+}
+
+/// The numbers of the answer's lines that begin with this word.
+fn lines(answer: &str, word: &str) -> Vec<Vec<usize>> {
+    let rest = answer.lines().filter_map(|line| line.strip_prefix(word));
+    let numbers = |rest: &str| {
+        rest.split(' ')
+            .map(|n| n.parse().expect("a number"))
+            .collect()
+    };
+    rest.map(numbers).collect()
+}
+
+impl fmt::Display for Features {
+    fn fmt(&self, f: &mut fmt::Formatter) -> fmt::Result {
+        write!(f, "{} questions", self.questions)?;
+        for (name, count) in &self.counts {
+            write!(f, ", {count} {name}")?;
+        }
+        Ok(())
+    }
+}
