@@ -6,6 +6,5 @@ pub mod Loading
 pub mod Growing
 pub mod Driving
 -- On whole numbers within the limits all that is that of the definitions.
-pub mod ServingExact
 pub mod ClockExact
 pub mod RouteExact

@@ -9,9 +9,9 @@ use lib.Ieee.{Float, binary64, inf}
 use Rattle.basics.specs.Options.{_>>=_, given, present}
 use Rattle.definitions.specs.Sheet.{BreakOf}
 use Rattle.models.specs.Limits.{allowF}
-use Rattle.evaluation.specs.declared.schedule.Scheduled.{Scheduled}
+use Rattle.clock.specs.declared.schedule.Scheduled.{Scheduled}
+use Rattle.clock.specs.Serving.{breakStartF}
 use Rattle.evaluation.specs.Records.{Tables, LimitsF, EvaluationF}
-use Rattle.evaluation.specs.Serving.{breakStartF}
 use Rattle.evaluation.specs.Tables.{timeF}
 use Rattle.evaluation.specs.Schedule.{scheduleF}
 use Rattle.evaluation.specs.Way.{startWay, wayF, plainF}

@@ -2,14 +2,16 @@
 ghost use mathlib.Core.Path.{_≡_};
 ghost use lib.ListN.{getD};
 ghost use Rattle.models.specs.Records.{breakOf, restOf};
-ghost use Rattle.evaluation.specs.Records.{finishedOf, startOf, evaluatedOf, limitsOf, lent};
+ghost use Rattle.clock.specs.Records.{finishedOf};
+ghost use Rattle.evaluation.specs.Records.{startOf, evaluatedOf, limitsOf, lent};
 ghost use Rattle.evaluation.specs.Route.{totalsF, allowedF, breakStartAtF, startF, evalF, feasibleF, costF};
-use crate::schedule::Finished;
 use crate::schedule::schedule;
 use crate::way::Driven;
 use crate::way::Way;
 use crate::way::plain_from;
 use crate::way::way_through;
+use clock::schedule::Finished;
+use clock::schedule::break_start_at;
 use distance::matrix::travel_time;
 use models::count::fewer;
 use models::customer::Customer;
@@ -17,7 +19,6 @@ use models::limits::RouteLimits;
 use models::vehicle::Rest;
 use models::vehicle::VehicleBreak;
 use whole::infinity;
-use whole::later;
 
 // No break, or when it starts.
 pub enum Start {
@@ -142,7 +143,7 @@ pub fn break_start(
     let prev = d.prev;
     let cid = call_at(route, k);
     let arrival = label.time + travel_time(distances, times, size, prev, cid);
-    Start::At(later(arrival, rest.earliest))
+    Start::At(break_start_at(rest, arrival))
 }
 
 // When the break of that place starts; a place of 0 is none.

@@ -25,13 +25,14 @@ use Rattle.whole.specs.Whole.{fl, limit, fl-add, fl-sub, fl-mul}
 use Rattle.whole.specs.Later.{later-fl}
 use Rattle.models.specs.Image.{flWindow, flBreak, flCustomer}
 use Rattle.models.proofs.Exact.{late-exact}
+use Rattle.clock.specs.Clock.{begunF, finishF}
+use Rattle.clock.specs.Image.{flTotals}
+use Rattle.clock.proofs.ServingExact.{through}
 use Rattle.evaluation.specs.Records.{Tables}
-use Rattle.evaluation.specs.Clock.{begunF, finishF}
 use Rattle.evaluation.specs.Schedule.{clockFromF, endF}
 use Rattle.evaluation.specs.Tables as Lookup
 use Rattle.evaluation.specs.Tables.{recordF, timeF}
-use Rattle.evaluation.specs.Image.{flTotals, Image}
-use Rattle.evaluation.proofs.ServingExact.{through}
+use Rattle.evaluation.specs.Image.{Image}
 use Rattle.evaluation.proofs.ClockExact.{record-exact, distance-exact, time-exact, distance-from-exact, schedule-exact}
 use Rattle.evaluation.proofs.RouteExact.{plain-clock}
 use Rattle.stretch.specs.declared.rows.Timed.{Timed}

@@ -13,10 +13,11 @@ use lib.Ieee.{Float, binary64}
 use Rattle.basics.specs.Tests.{by-test}
 use Rattle.basics.specs.Options.{_>>=_, given, present}
 use Rattle.definitions.specs.Sheet.{BreakOf, CustomerOf}
-use Rattle.evaluation.specs.declared.schedule.Scheduled.{Scheduled}
+use Rattle.clock.specs.declared.schedule.Scheduled.{Scheduled}
+use Rattle.clock.specs.Records.{ClockF}
+use Rattle.clock.specs.Clock.{pushF, aliveF}
 use Rattle.evaluation.specs.declared.way.Way.{Way}
-use Rattle.evaluation.specs.Records.{ClockF, Tables, LimitsF}
-use Rattle.evaluation.specs.Clock.{pushF, aliveF}
+use Rattle.evaluation.specs.Records.{Tables, LimitsF}
 use Rattle.evaluation.specs.Tables.{recordF, distanceF, timeF, legsF}
 use Rattle.evaluation.specs.Schedule.{tickF, clockFromF, endF}
 use Rattle.evaluation.specs.Way.{wayOnF, throughF, wayF, homewardF, plainF}

@@ -10,10 +10,11 @@ use lib.Ieee.{Float, binary64}
 use Rattle.basics.specs.Options.{present}
 use Rattle.definitions.specs.Sheet.{BreakOf, CustomerOf}
 use Rattle.whole.specs.Whole.{fl}
-use Rattle.evaluation.specs.declared.schedule.Scheduled.{Scheduled}
+use Rattle.clock.specs.declared.schedule.Scheduled.{Scheduled}
+use Rattle.clock.specs.Records.{ClockF, clockOf}
+use Rattle.clock.specs.Clock.{begunF, pushF, aliveF}
 use Rattle.evaluation.specs.declared.way.Way.{Way}
-use Rattle.evaluation.specs.Records.{ClockF, clockOf, Tables, LimitsF}
-use Rattle.evaluation.specs.Clock.{begunF, pushF, aliveF}
+use Rattle.evaluation.specs.Records.{Tables, LimitsF}
 use Rattle.evaluation.specs.Schedule.{endF}
 use Rattle.evaluation.specs.Way.{startWay, wayOnF, plainF}
 use Rattle.evaluation.specs.Route.{keptF, feasibleF}

@@ -22,9 +22,10 @@ use Rattle.bounds.specs.CostBounds.{price-room}
 use Rattle.whole.specs.Whole.{fl, limit, fl-le, fl-sum}
 use Rattle.models.specs.Image.{flBreak}
 use Rattle.models.proofs.Exact.{Small, limit-exact, within-exact}
-use Rattle.evaluation.specs.Serving.{startLabel}
+use Rattle.clock.specs.Serving.{startLabel}
+use Rattle.clock.specs.Image.{flTotals}
 use Rattle.evaluation.specs.Tables.{loadF}
-use Rattle.evaluation.specs.Image.{flTotals, flLimits}
+use Rattle.evaluation.specs.Image.{flLimits}
 use Rattle.evaluation.proofs.ClockExact.{demand-exact}
 use Rattle.marker.specs.declared.walk.Walked.{Walked}
 use Rattle.marker.specs.declared.run.Marked.{Marked}

@@ -13,10 +13,10 @@ use Rattle.models.specs.declared.customer.Customer.{Customer}
 use Rattle.models.specs.declared.head.Head.{Head}
 use Rattle.models.specs.Limits.{limitF, withinF}
 use Rattle.models.specs.Load.{fitsLoad}
-use Rattle.evaluation.specs.declared.schedule.Scheduled.{Scheduled}
+use Rattle.clock.specs.declared.schedule.Scheduled.{Scheduled}
+use Rattle.clock.specs.Serving.{startLabel}
+use Rattle.clock.specs.Clock.{excusedF}
 use Rattle.evaluation.specs.Records.{Tables, LimitsF, lent, limitsOf}
-use Rattle.evaluation.specs.Serving.{startLabel}
-use Rattle.evaluation.specs.Clock.{excusedF}
 use Rattle.evaluation.specs.Tables.{loadF}
 use Rattle.marker.specs.declared.verdict.Verdict.the-variants.{Overload, BreakMissing, TooFar, TooLong}
 use Rattle.marker.specs.declared.walk.Walked.{Walked}

@@ -4,10 +4,10 @@ ghost use Rattle.models.specs.Records.{restOf};
 ghost use Rattle.evaluation.specs.Records.{lent};
 ghost use Rattle.report.specs.Shown.{shownF};
 use crate::number::whole_part;
+use clock::schedule::Finished;
 use evaluation::route::Start;
 use evaluation::route::start_of;
 use evaluation::route::totals;
-use evaluation::schedule::Finished;
 use models::customer::Customer;
 use models::vehicle::Rest;
 

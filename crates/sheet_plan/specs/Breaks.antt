@@ -6,7 +6,7 @@ use lib.Ieee.{Float}
 use Rattle.basics.specs.Options.{valueOr}
 use Rattle.whole.specs.Whole.{fl}
 use Rattle.definitions.specs.Sheet.{BreakOf}
-use Rattle.evaluation.specs.declared.schedule.Scheduled.{Scheduled}
+use Rattle.clock.specs.declared.schedule.Scheduled.{Scheduled}
 use Rattle.evaluation.specs.Records.{Tables}
 use Rattle.evaluation.specs.Route.{totalsF, startF}
 use Rattle.sheet_plan.specs.declared.breaks.Taken.{Taken}

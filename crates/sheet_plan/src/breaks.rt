@@ -9,10 +9,10 @@ ghost use Rattle.definitions.proofs.RunListLaws.{RiseTo};
 ghost use Rattle.models.specs.Records.{restOf};
 ghost use Rattle.evaluation.specs.Records.{lent};
 ghost use Rattle.sheet_plan.specs.Breaks.{breakF};
+use clock::schedule::Finished;
 use evaluation::route::Start;
 use evaluation::route::start_of;
 use evaluation::route::totals;
-use evaluation::schedule::Finished;
 use models::customer::Customer;
 use models::vehicle::Rest;
 

@@ -13,12 +13,13 @@ use lib.Ieee.{Float, binary64, add}
 use Rattle.basics.specs.Options.{_>>=_}
 use Rattle.definitions.specs.Sheet.{BreakOf}
 use Rattle.models.specs.Limits.{allowF}
+use Rattle.clock.specs.Clock.{begunF, aliveF, finishF}
+use Rattle.clock.specs.declared.schedule.Scheduled.{Scheduled}
+use Rattle.clock.proofs.Gone.{Gone, not-alive, finish-gone}
 use Rattle.evaluation.specs.Records.{Tables}
-use Rattle.evaluation.specs.Clock.{begunF, aliveF, finishF}
 use Rattle.evaluation.specs.Tables.{distanceF, recordF, timeF}
 use Rattle.evaluation.specs.Schedule.{tickF, clockFromF}
-use Rattle.evaluation.specs.declared.schedule.Scheduled.{Scheduled}
-use Rattle.evaluation.proofs.Growing.{Gone, not-alive, clock-gone, clock-append, clock-grown, finish-gone}
+use Rattle.evaluation.proofs.Growing.{clock-gone, clock-append, clock-grown}
 use Rattle.stretch.specs.declared.rows.Timed.{Timed}
 use Rattle.stretch.specs.Stretch.{joinedF, placeOf, wayOf}
 use Rattle.stretch.specs.Runs.{Instance, visitF, timedOf, clockOf, End, backTime, endOf, allowedF, payF}

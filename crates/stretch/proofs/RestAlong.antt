@@ -10,11 +10,11 @@ use lib.Dec.{eqb}
 use lib.Ieee.{Float, binary64, add}
 use Rattle.definitions.specs.Sheet.{BreakOf, CustomerOf}
 use Rattle.models.specs.Limits.{allowF}
-use Rattle.evaluation.specs.Records.{ClockF}
-use Rattle.evaluation.specs.Clock.{begunF, pushF, aliveF, finishF}
+use Rattle.clock.specs.Records.{ClockF}
+use Rattle.clock.specs.Clock.{begunF, pushF, aliveF, finishF}
+use Rattle.clock.specs.declared.schedule.Scheduled.{Scheduled}
 use Rattle.evaluation.specs.Tables.{distanceF, recordF, timeF}
 use Rattle.evaluation.specs.Schedule.{clockFromF}
-use Rattle.evaluation.specs.declared.schedule.Scheduled.{Scheduled}
 use Rattle.table.specs.Table.{Offered}
 use Rattle.models.specs.Load.{fitsLoad}
 use Rattle.stretch.specs.Stretch.{joinedF, placeOf, wayOf}

@@ -16,9 +16,10 @@ use Rattle.models.specs.Limits.{allowF}
 use Rattle.models.specs.Window.{lateF}
 use Rattle.whole.specs.Whole.{fl}
 use Rattle.whole.specs.Later.{laterF}
-use Rattle.evaluation.specs.Records.{Tables, LimitsF, ClockF}
+use Rattle.clock.specs.Records.{ClockF}
+use Rattle.clock.specs.Clock.{begunF, finishF}
+use Rattle.evaluation.specs.Records.{Tables, LimitsF}
 use Rattle.evaluation.specs.Records as Evaluation
-use Rattle.evaluation.specs.Clock.{begunF, finishF}
 use Rattle.evaluation.specs.Tables as Lookup
 use Rattle.evaluation.specs.Tables.{recordF, demandF, timeF}
 use Rattle.evaluation.specs.Schedule.{clockFromF}

@@ -1,6 +1,6 @@
 -- `begun::feasible_from` meets its contract. Assumes nothing.
 use mathlib.Core.Path.{_≡_, _∙_}
-use Rattle.evaluation.specs.declared.schedule.Finished.the-variants.{Impossible, Home}
+use Rattle.clock.specs.declared.schedule.Finished.the-variants.{Impossible, Home}
 use Rattle.local_search.specs.Begun.{feasibleFromF}
 use Rattle.local_search.proofs.Leading.{given-there}
 use borrow.Author.Needs.{needs}

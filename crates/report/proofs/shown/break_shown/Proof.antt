@@ -1,6 +1,6 @@
 -- `shown::break_shown` meets its contract. Assumes nothing.
 use mathlib.Core.Path.{_≡_}
-use Rattle.evaluation.specs.declared.schedule.Finished.the-variants.{Impossible, Home}
+use Rattle.clock.specs.declared.schedule.Finished.the-variants.{Impossible, Home}
 use Rattle.evaluation.specs.declared.route.Start.the-variants.{Unbroken, At}
 use Rattle.report.specs.Shown.{shownF}
 use borrow.Author.Needs.{needs}

@@ -1,7 +1,7 @@
 -- `breaks::break_of` meets its contract. Assumes nothing.
 use mathlib.Core.Path.{_≡_}
 use Rattle.whole.specs.Bits.{fl-zero}
-use Rattle.evaluation.specs.declared.schedule.Finished.the-variants.{Impossible, Home}
+use Rattle.clock.specs.declared.schedule.Finished.the-variants.{Impossible, Home}
 use Rattle.evaluation.specs.declared.route.Start.the-variants.{Unbroken, At}
 use Rattle.sheet_plan.specs.Breaks.{breakF}
 use borrow.Author.Needs.{needs}
