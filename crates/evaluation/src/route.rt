@@ -4,7 +4,8 @@ ghost use lib.ListN.{getD};
 ghost use Rattle.models.specs.Records.{breakOf, restOf};
 ghost use Rattle.clock.specs.Records.{finishedOf};
 ghost use Rattle.evaluation.specs.Records.{startOf, evaluatedOf, limitsOf, lent};
-ghost use Rattle.evaluation.specs.Route.{totalsF, allowedF, breakStartAtF, startF, evalF, feasibleF, costF};
+ghost use Rattle.evaluation.specs.Tables.{placeBefore};
+ghost use Rattle.evaluation.specs.Route.{totalsF, allowedF, breakStartAtF, startF, breakF, evalF, feasibleF, costF};
 use crate::schedule::schedule;
 use crate::way::Driven;
 use crate::way::Way;
@@ -24,6 +25,12 @@ use whole::infinity;
 pub enum Start {
     Unbroken,
     At(f64),
+}
+
+// The number of the call, from 1, at which a run takes its break, and when that starts; both are 0 where there is none.
+pub struct Taken {
+    pub place: usize,
+    pub start: f64,
 }
 
 // What `route_eval` reports of a run that is allowed. The place is that of the break, from 1, or 0.
@@ -122,6 +129,13 @@ pub fn call_at(route: &[usize], k: usize) -> usize
     if k < route.len() { route[k] } else { 0 }
 }
 
+// The place before call number k, from 0: the call before it, or the depot.
+pub fn place_before(route: &[usize], k: usize) -> usize
+    ensures { λ r. ⌜ r ≡ placeBefore (now (route .entry)) k ⌝ }
+{
+    if k == 0 { 0 } else { call_at(route, k - 1) }
+}
+
 // When the break starts that is taken at call number k, from 0: the calls before it are served without it.
 pub fn break_start(
     route: &[usize],
@@ -165,6 +179,30 @@ pub fn start_of(
         return Start::Unbroken;
     }
     break_start(route, customers, distances, times, size, b, place - 1)
+}
+
+// The break of a run, where its clock puts it.
+pub fn break_of(
+    run: &[usize],
+    customers: [Customer; 64],
+    distances: &[f64],
+    times: &[f64],
+    size: usize,
+    rest: Rest,
+) -> Taken
+    ensures { λ r. ⌜ r ≡ breakF (lent customers (now (distances .entry)) (now (times .entry)) size) (restOf rest) (now (run .entry)) ⌝ }
+{
+    let Finished::Home(home) = totals(run, customers, distances, times, size, rest) else {
+        return Taken {
+            place: 0,
+            start: 0.0,
+        };
+    };
+    let place = home.place;
+    let Start::At(start) = start_of(run, customers, distances, times, size, rest, place) else {
+        return Taken { place, start: 0.0 };
+    };
+    Taken { place, start }
 }
 
 // What a run comes to, with its break, if it is allowed.

@@ -1,12 +1,12 @@
--- `breaks::break_of` meets its contract. Assumes nothing.
+-- `route::break_of` meets its contract. Assumes nothing.
 use mathlib.Core.Path.{_≡_}
 use Rattle.whole.specs.Bits.{fl-zero}
 use Rattle.clock.specs.declared.schedule.Finished.the-variants.{Impossible, Home}
 use Rattle.evaluation.specs.declared.route.Start.the-variants.{Unbroken, At}
-use Rattle.sheet_plan.specs.Breaks.{breakF}
+use Rattle.evaluation.specs.Route.{breakF}
 use borrow.Author.Needs.{needs}
-use Rattle.sheet_plan.proofs.breaks.break_of.Statement.{statement}
-use Rattle.sheet_plan.proofs.breaks.break_of.Tie as tie
+use Rattle.evaluation.proofs.route.break_of.Statement.{statement}
+use Rattle.evaluation.proofs.route.break_of.Tie as tie
 
 totals-requires : tie.Need-totals-requires
 totals-requires c κs = search needs
