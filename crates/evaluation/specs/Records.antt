@@ -13,6 +13,7 @@ use Rattle.evaluation.specs.declared.way.Driven.{Driven}
 use Rattle.evaluation.specs.declared.way.Driven.the-variants.{Failed, To}
 use Rattle.evaluation.specs.declared.route.Start.{Start}
 use Rattle.evaluation.specs.declared.route.Start.the-variants as Starts
+use Rattle.evaluation.specs.declared.route.Taken.{Taken}
 use Rattle.evaluation.specs.declared.route.RouteEval.{RouteEval}
 use Rattle.evaluation.specs.declared.route.Evaluated.{Evaluated}
 use Rattle.evaluation.specs.declared.route.Evaluated.the-variants.{NotAllowed, Allowed}
@@ -38,6 +39,14 @@ drivenOf (To d) = some d
 abbrev pub startOf : Start → Option Float
 startOf Starts.Unbroken = none
 startOf (Starts.At t) = some t
+
+-- the place of a run's break, from 1, or 0, and when it starts
+pub record TakenF : Type 0 where
+  pub place : ℕ
+  pub start : Option Float
+
+abbrev pub takenOf : Taken → TakenF
+takenOf b = record { place = b .place; start = startOf (b .start) }
 
 -- a run's totals, and when its break starts
 pub record EvaluationF : Type 0 where

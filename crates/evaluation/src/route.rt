@@ -3,7 +3,7 @@ ghost use mathlib.Core.Path.{_≡_};
 ghost use lib.ListN.{getD};
 ghost use Rattle.models.specs.Records.{breakOf, restOf};
 ghost use Rattle.clock.specs.Records.{finishedOf};
-ghost use Rattle.evaluation.specs.Records.{startOf, evaluatedOf, limitsOf, lent};
+ghost use Rattle.evaluation.specs.Records.{startOf, takenOf, evaluatedOf, limitsOf, lent};
 ghost use Rattle.evaluation.specs.Tables.{placeBefore};
 ghost use Rattle.evaluation.specs.Route.{totalsF, allowedF, breakStartAtF, startF, breakF, evalF, feasibleF, costF};
 use crate::schedule::schedule;
@@ -27,10 +27,10 @@ pub enum Start {
     At(f64),
 }
 
-// The number of the call, from 1, at which a run takes its break, and when that starts; both are 0 where there is none.
+// The number of the call, from 1, at which a run takes its break, or 0, and when that starts.
 pub struct Taken {
     pub place: usize,
-    pub start: f64,
+    pub start: Start,
 }
 
 // What `route_eval` reports of a run that is allowed. The place is that of the break, from 1, or 0.
@@ -190,18 +190,16 @@ pub fn break_of(
     size: usize,
     rest: Rest,
 ) -> Taken
-    ensures { λ r. ⌜ r ≡ breakF (lent customers (now (distances .entry)) (now (times .entry)) size) (restOf rest) (now (run .entry)) ⌝ }
+    ensures { λ r. ⌜ takenOf r ≡ breakF (lent customers (now (distances .entry)) (now (times .entry)) size) (restOf rest) (now (run .entry)) ⌝ }
 {
     let Finished::Home(home) = totals(run, customers, distances, times, size, rest) else {
         return Taken {
             place: 0,
-            start: 0.0,
+            start: Start::Unbroken,
         };
     };
     let place = home.place;
-    let Start::At(start) = start_of(run, customers, distances, times, size, rest, place) else {
-        return Taken { place, start: 0.0 };
-    };
+    let start = start_of(run, customers, distances, times, size, rest, place);
     Taken { place, start }
 }
 

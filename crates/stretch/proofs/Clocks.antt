@@ -17,11 +17,11 @@ use Rattle.clock.specs.Clock.{begunF, aliveF, finishF}
 use Rattle.clock.specs.declared.schedule.Scheduled.{Scheduled}
 use Rattle.clock.proofs.Gone.{Gone, not-alive, finish-gone}
 use Rattle.evaluation.specs.Records.{Tables}
-use Rattle.evaluation.specs.Tables.{distanceF, recordF, timeF}
+use Rattle.evaluation.specs.Tables.{distanceF, recordF, timeF, placeBefore}
 use Rattle.evaluation.specs.Schedule.{tickF, clockFromF}
 use Rattle.evaluation.proofs.Growing.{clock-gone, clock-append, clock-grown}
 use Rattle.stretch.specs.declared.rows.Timed.{Timed}
-use Rattle.stretch.specs.Stretch.{joinedF, placeOf, wayOf}
+use Rattle.stretch.specs.Stretch.{joinedF, wayOf}
 use Rattle.stretch.specs.Runs.{Instance, visitF, timedOf, clockOf, End, backTime, endOf, allowedF, payF}
 
 -- what the break clock reports of a run, as its end
@@ -51,7 +51,7 @@ module _ (t : Tables) (st : List ℕ) where
   -- ---- without a break
 
   pub timed-more : (m : ℕ) (x : Timed) → timedOf t st m ≡ some x
-      → timedOf t st (suc m) ≡ visitF (recordF t (getD st m 0)) (joinedF (x .time) (timeF t (placeOf st m) (getD st m 0)) (eqb m 0)) (x .«late_cost»)
+      → timedOf t st (suc m) ≡ visitF (recordF t (getD st m 0)) (joinedF (x .time) (timeF t (placeBefore st m) (getD st m 0)) (eqb m 0)) (x .«late_cost»)
   unfolding timedOf
   timed-more m x e = rw e
 

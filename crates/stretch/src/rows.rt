@@ -4,9 +4,8 @@ ghost use mathlib.Core.Option.{none, some};
 ghost use Prim.Native.Nat.{_+_, _≤_};
 ghost use lib.ListN.{length};
 ghost use Rattle.models.specs.Records.{openingOf, penaltyOf, customerOf, breakOf};
+ghost use Rattle.stops.specs.Stops.{Below64};
 ghost use Rattle.stretch.specs.Runs.{visitedOf, enterF, visitF, overBy, over, Rowed};
-ghost use Rattle.stretch.specs.Stops.{Below64};
-use crate::stops::stop_at;
 use crate::terms::Terms;
 use crate::way::leg_to;
 use crate::way::way_to;
@@ -19,6 +18,7 @@ use models::load::fits;
 use models::load::wide;
 use models::vehicle::Rest;
 use models::vehicle::VehicleBreak;
+use stops::stops::stop_at;
 use table::cells::offer;
 use whole::later;
 

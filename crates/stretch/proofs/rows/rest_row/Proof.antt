@@ -12,7 +12,7 @@ use Rattle.whole.specs.Bits.{fl-zero}
 use Rattle.clock.specs.declared.schedule.Finished.the-variants.{Impossible, Home}
 use Rattle.clock.specs.Records.{ClockF, clockOf, finishedOf}
 use Rattle.clock.specs.Clock.{begunF}
-use Rattle.stretch.specs.Stops.{Below64}
+use Rattle.stops.specs.Stops.{Below64}
 use Rattle.stretch.specs.Runs.{overBy, tariff, Rowed}
 use Rattle.stretch.proofs.Branches.{fails, holds}
 use Rattle.stretch.proofs.Along.{setout}
