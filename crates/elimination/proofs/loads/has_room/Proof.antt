@@ -1,8 +1,5 @@
 -- `loads::has_room` meets its contract. Assumes nothing.
-use Prim.Native.Nat.{ℕ, _+_}
 use native.Mathlib.Omega.{arith}
-use mathlib.Core.Path.{_≡_, ap, ap₂, _∙_}
-use Rattle.models.specs.Load.{fitsLoad}
 use Rattle.elimination.specs.Loads.{roomF}
 use borrow.Author.Needs.{needs}
 use Rattle.elimination.proofs.loads.has_room.Statement.{statement}
