@@ -5,7 +5,7 @@ use mathlib.Core.List.{List, [], _∷_}
 use lib.ListN.{length}
 use lib.Ieee.{Float}
 use Rattle.bounds.specs.Inside.{few-calls}
-use Rattle.stretch.specs.Stops.{Below64}
+use Rattle.stops.specs.Stops.{Below64}
 use Rattle.exact.specs.Exact.{below-64}
 use Rattle.definitions.specs.Domain.{mostCalls}
 use Rattle.definitions.specs.Sheet.{Sheet, own}

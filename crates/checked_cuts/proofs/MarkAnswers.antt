@@ -10,7 +10,7 @@ use Rattle.definitions.specs.Lent.{marking}
 use Rattle.definitions.specs.Refusals.{endsFall}
 use Rattle.definitions.specs.Answers.{markOf}
 use Rattle.definitions.proofs.Accepted.{Accepted}
-use Rattle.stretch.specs.Stops.{Below64}
+use Rattle.stops.specs.Stops.{Below64}
 use Rattle.exact.specs.Exact.{below-64}
 use Rattle.bounds.specs.Inside.{few-calls}
 use Rattle.whole.specs.Value.{value}

@@ -19,11 +19,10 @@ use Rattle.models.specs.declared.customer.Customer.{Customer}
 use Rattle.models.specs.declared.head.Head.{Head}
 use Rattle.evaluation.specs.Records.{Tables, lent}
 use Rattle.evaluation.specs.Image as Evaluation
+use Rattle.evaluation.proofs.ChecksExact.{checks-exact}
 use Rattle.local_search.specs.Gain.{scaleF}
-use Rattle.local_search.specs.Search.{SearchF, searchF}
+use Rattle.local_search.specs.Search.{SearchF, searchF, told}
 use Rattle.local_search.proofs.GainExact.{largest, largest-small, largest-exact}
-use Rattle.local_search.proofs.SearchExact.{checks-exact}
-use Rattle.local_search.proofs.TwoOptExact.{told}
 use Rattle.elimination.specs.Insertion.{TermsF}
 use Rattle.elimination.specs.Elimination.{eliminatedF}
 use Rattle.elimination.specs.Image.{Image}

@@ -20,8 +20,7 @@ use Rattle.checks.specs.Lent.{sheetOf, lentOf}
 use Rattle.checks.specs.Order.{Refuses, Images}
 use Rattle.evaluation.specs.Records.{Tables, LimitsF, lent, limitsOf}
 use Rattle.evaluation.specs.Image.{Image}
-use Rattle.local_search.specs.Search.{SearchF, searchF}
-use Rattle.local_search.proofs.TwoOptExact.{told}
+use Rattle.local_search.specs.Search.{SearchF, searchF, told}
 use Rattle.checked.specs.Answers.{Answers}
 use Rattle.checked.proofs.Accepting.{lentSheet, meant, limits-held, tables-hold}
 use Rattle.checked.proofs.CallAnswers.{accepted, refused-call, accepted-call}

@@ -21,9 +21,9 @@ use Rattle.checks.specs.Lent.{sheetOf}
 use Rattle.checks.specs.Order.{Refuses, Images}
 use Rattle.evaluation.specs.Records.{Tables, lent, limitsOf}
 use Rattle.evaluation.specs.Image.{Image}
-use Rattle.local_search.specs.Search.{SearchF, searchF}
-use Rattle.local_search.specs.TwoOpt.{improvedF, improvedDistanceF}
-use Rattle.local_search.proofs.TwoOptExact.{told, AsDefined, two-opt-exact}
+use Rattle.local_search.specs.Search.{SearchF, searchF, told}
+use Rattle.two_opt.specs.TwoOpt.{improvedF, improvedDistanceF}
+use Rattle.two_opt.proofs.TwoOptExact.{AsDefined, two-opt-exact}
 use Rattle.checked_improvers.specs.declared.improving.Reversed.{Reversed}
 use Rattle.checked_improvers.specs.declared.improving.Reversed.the-variants as Reverseds
 use Rattle.checked.specs.Answers.{Answers}

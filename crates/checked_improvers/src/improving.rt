@@ -5,7 +5,6 @@ ghost use Rattle.whole.specs.Value.{value};
 ghost use Rattle.checked_improvers.specs.Improving.{reversalLent, Reverses};
 use checks::by_call::refuse_reversing;
 use local_search::search::search_of;
-use local_search::two_opt;
 use models::customer::Customer;
 use models::head::Head;
 
@@ -37,7 +36,7 @@ pub fn two_opt_improve(
         return Reversed::Refused(number);
     }
     let search = search_of(all, distances, head.places, head.limits);
-    let distance = two_opt::two_opt_improve(
+    let distance = two_opt::two_opt::two_opt_improve(
         run,
         all,
         distances,

@@ -17,8 +17,7 @@ use Rattle.definitions.specs.Sort.{rising, sort}
 use Rattle.definitions.specs.Improver.{givenOf, total, load}
 use Rattle.definitions.specs.Elimination.{Put, beyond, inserts, candidates}
 use Rattle.whole.specs.Difference.{diff, diff-same, diff-le}
-use Rattle.local_search.specs.Delta.{placeBefore}
-use Rattle.evaluation.specs.Tables.{demandsOf}
+use Rattle.evaluation.specs.Tables.{placeBefore, demandsOf}
 use Rattle.run_lists.specs.RunLists.{runAt, insertAt, putIn}
 use Rattle.run_lists.proofs.Sorting.{sort-map, map-twice, count-next}
 use Rattle.elimination.specs.Loads.{roomF}

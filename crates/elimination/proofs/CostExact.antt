@@ -24,12 +24,12 @@ use Rattle.definitions.proofs.EliminationLaws.{Calls}
 use Rattle.whole.specs.Whole.{fl, limit, Is, fl-add, fl-is}
 use Rattle.whole.specs.Difference.{diff, fl-diff}
 use Rattle.whole.specs.Infinity.{is-lt-inf}
-use Rattle.evaluation.specs.Tables.{demandsOf}
+use Rattle.evaluation.specs.Tables.{demandsOf, loadF, placeBefore}
 use Rattle.evaluation.proofs.Demands.{asked}
 use Rattle.evaluation.proofs.ClockExact as Clock
 use Rattle.evaluation.proofs.ClockExact.{distance-exact}
-use Rattle.local_search.specs.Delta.{placeBefore, routeDistanceF}
-use Rattle.local_search.proofs.DeltaExact.{route-distance-exact}
+use Rattle.local_search.specs.Route.{routeDistanceF}
+use Rattle.local_search.proofs.RouteExact.{route-distance-exact}
 use Rattle.run_lists.specs.RunLists.{runAt, insertAt, putIn}
 use Rattle.elimination.specs.Loads.{roomF}
 use Rattle.elimination.specs.Insertion.{TermsF, addsF, legF, demandF}
@@ -136,7 +136,7 @@ module _ (s : Sheet) (S : Sized s) (T : TermsF) (I : Image s T) where
 
   pub room-exact : (c : ℕ) (run : List ℕ) → Place s c → All (Place s) run
       → roomF (demandsOf (T .tables .customers)) (T .capacity) c run ≡ leb (load (givenOf s) run + customer s c .demand) (s .capacity)
-  unfolding roomF
+  unfolding roomF loadF
   room-exact c run p a = rw (load-exact run a, demand-exact c p, I .capacity-holds)
 
   leg-exact : (a b : ℕ) → Place s a → Place s b → legF T a b ≡ fl (distance s a b)

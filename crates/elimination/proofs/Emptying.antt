@@ -10,11 +10,11 @@ use Rattle.basics.specs.Options.{_>>=_, given}
 use Rattle.definitions.specs.Sort.{falling, sort}
 use Rattle.definitions.specs.Elimination.{Parted}
 use Rattle.whole.specs.Whole.{fl}
-use Rattle.local_search.specs.Delta.{routeDistanceF}
+use Rattle.evaluation.specs.Tables.{demandsOf}
 use Rattle.run_lists.specs.RunLists.{runsIn}
 use Rattle.run_lists.specs.Least.{byDemand}
 use Rattle.elimination.specs.declared.insertion.Placed.{Placed}
-use Rattle.evaluation.specs.Tables.{demandsOf}
+use Rattle.local_search.specs.Route.{routeDistanceF}
 use Rattle.elimination.specs.Insertion.{TermsF, legF, demandF, placeAllF, placedOf}
 use Rattle.elimination.specs.Elimination.{finiteF, savedF, emptiedF}
 

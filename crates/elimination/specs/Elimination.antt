@@ -13,7 +13,7 @@ use Rattle.definitions.specs.Sort.{rising, falling, sort}
 use Rattle.definitions.specs.RunList.{callsOf}
 use Rattle.definitions.specs.Elimination.{maybe, nonEmpty, Parted, parted}
 use Rattle.whole.specs.Whole.{fl}
-use Rattle.local_search.specs.Delta.{routeDistanceF}
+use Rattle.local_search.specs.Route.{routeDistanceF}
 use Rattle.run_lists.specs.RunLists.{Sound, runsIn, runAt}
 use Rattle.elimination.specs.declared.route_elimination.Tried.{Tried}
 use Rattle.elimination.specs.Insertion.{TermsF, legF, demandF, placeAllF}

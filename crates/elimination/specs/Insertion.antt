@@ -13,9 +13,8 @@ use Rattle.definitions.specs.Sort.{sort}
 use Rattle.models.specs.declared.customer.Customer.{Customer}
 use Rattle.models.specs.declared.limits.RouteLimits.{RouteLimits}
 use Rattle.evaluation.specs.Records.{Tables, LimitsF, limitsOf, lent}
-use Rattle.evaluation.specs.Tables.{demandsOf, askedF, distanceF}
+use Rattle.evaluation.specs.Tables.{demandsOf, askedF, distanceF, placeBefore}
 use Rattle.evaluation.specs.Route.{feasibleF}
-use Rattle.local_search.specs.Delta.{placeBefore}
 use Rattle.run_lists.specs.RunLists.{Sound, runsIn, runAt, putIn}
 use Rattle.elimination.specs.declared.insertion.Terms.{Terms}
 use Rattle.elimination.specs.declared.insertion.Placed.{Placed}

@@ -4,6 +4,7 @@ ghost use Prim.Native.Nat.{_≤_};
 ghost use lib.ListN.{length};
 ghost use Rattle.elimination.specs.Loads.{roomF};
 use evaluation::load::demand_at;
+use evaluation::load::load_of;
 use models::load::fits;
 
 // Whether the load of a run leaves room for c.
@@ -11,12 +12,6 @@ pub fn has_room(route: &[usize], c: usize, demands: &[u32; 64], capacity: u32) -
     requires { ⌜ length (now route) ≤ 128 ⌝ }
     ensures { λ r. ⌜ r ≡ roomF (now (demands .entry)) capacity c (now (route .entry)) ⌝ }
 {
-    let mut load = demand_at(demands, c);
-    let mut i = 0;
-    while i < route.len() {
-        let call = route[i];
-        load += demand_at(demands, call);
-        i += 1;
-    }
+    let load = load_of(route, demands) + demand_at(demands, c);
     fits(load, capacity)
 }

@@ -15,10 +15,9 @@ ghost use Rattle.elimination.specs.Elimination.{finiteF, partAt, Tries, 
 use crate::insertion::Terms;
 use crate::insertion::place_all;
 use evaluation::load::demands_of;
-use local_search::two_opt::route_distance;
+use local_search::route::route_distance;
 use models::customer::Customer;
 use models::limits::RouteLimits;
-use run_lists::picking::number;
 use run_lists::picking::shortest;
 use run_lists::runs::Runs;
 use run_lists::runs::gathered;
@@ -26,6 +25,7 @@ use run_lists::runs::lengths_of;
 use run_lists::runs::non_empty;
 use run_lists::runs::start_of;
 use run_lists::runs::without_run;
+use table::held::number;
 use table::held::remove;
 use table::held::write_front;
 use whole::infinity;
@@ -100,7 +100,7 @@ pub fn eliminate(runs: Runs, terms: Terms, distances: &[f64], times: &[f64]) -> 
         let lengths = lengths_of(left);
         let mut pending = [0usize; 128];
         let mut n = left.count;
-        number(&mut pending, n);
+        number(&mut pending, 0, n);
         while 0 < n {
             let j = shortest(&pending[..n], &lengths);
             let r = pending[j];

@@ -6,47 +6,34 @@ use native.Mathlib.Numerals.{add-one}
 use mathlib.Core.Path.{_≡_, refl, sym, ap, subst, _∙_}
 use mathlib.Core.List.{List, [], _∷_, map}
 use mathlib.Core.Option.{Option, none, some, Option·map}
-use lib.ListN.{length, getD, take, length-map}
-use lib.Seq.{getD-take, take-all}
+use lib.ListN.{length, getD, take}
+use lib.Seq.{getD-take}
 use lib.Ieee.{Float}
 use borrow.Author.Tests.{lt-ltb}
-use Rattle.basics.specs.Tests.{by-test}
-use Rattle.basics.specs.Options.{_>>=_, holds, Holds}
+use Rattle.basics.specs.Options.{_>>=_, Holds}
 use Rattle.basics.specs.Lists.{All}
 use Rattle.definitions.specs.Domain.{mostCalls}
 use Rattle.definitions.specs.Sheet.{Break, CustomerOf, Sheet, depot, customer, distance, time}
-use Rattle.definitions.specs.Limits.{excused}
 use Rattle.definitions.specs.Run as Whole
-use Rattle.definitions.specs.Run.{serve, lastOf, distanceFrom, Totals}
-use Rattle.definitions.specs.Clock.{Clock, tick, clockFrom, counts, clock}
-use Rattle.bounds.specs.Inside.{timesOf, Small, SmallBreak, Sized, Place, depot-inside, last-inside, distance-inside, time-inside, record-inside, time-small, customer-small}
+use Rattle.definitions.specs.Run.{serve, lastOf, distanceFrom}
+use Rattle.definitions.specs.Clock.{Clock, tick, clockFrom, clock}
+use Rattle.bounds.specs.Inside.{timesOf, SmallBreak, Sized, Place, depot-inside, last-inside, distance-inside, time-inside, record-inside, time-small, customer-small}
 use Rattle.bounds.specs.Bounds.{Early, EarlyClock, begun, start-early, serve-early, clock-early, labels-most, label-fits, LabelFits, distance-most}
-use Rattle.whole.specs.Whole.{fl, limit, fl-add, fl-le}
+use Rattle.whole.specs.Whole.{fl, limit, fl-add}
 use Rattle.distance.proofs.Exact.{lookup-exact, times-exact}
 use Rattle.models.specs.Image.{flBreak, flCustomer}
-use Rattle.evaluation.specs.declared.schedule.Label.{Label}
-use Rattle.evaluation.specs.Records.{ClockF, Tables}
-use Rattle.evaluation.specs.Serving.{carryF}
-use Rattle.evaluation.specs.Clock.{isExcusedF, pushF, countsF, homeF, finishF}
+use Rattle.clock.specs.declared.schedule.Label.{Label}
+use Rattle.clock.specs.Records.{ClockF}
+use Rattle.clock.specs.Serving.{carryF}
+use Rattle.clock.specs.Clock.{pushF}
+use Rattle.clock.specs.Image.{flLabel, flTotals, flClock}
+use Rattle.clock.proofs.ServingExact.{serve-exact, earlier-exact}
+use Rattle.clock.proofs.HomeExact.{finish-exact}
+use Rattle.evaluation.specs.Records.{Tables}
 use Rattle.evaluation.specs.Tables.{recordIndex, blank, recordF, demandF, distanceF, timeF, legsF}
 use Rattle.evaluation.specs.Schedule.{tickF, clockFromF, distanceFromF, endF, scheduleF}
-use Rattle.evaluation.specs.Image.{flLabel, flTotals, flClock, flTables, Image}
+use Rattle.evaluation.specs.Image.{Image}
 use Rattle.evaluation.proofs.Reading.{getD-of}
-use Rattle.evaluation.proofs.ServingExact.{through, serve-exact, earlier-exact}
-
-pub image-sheet : (s : Sheet) → Sized s → Image s (flTables s)
-image-sheet s S =
-    record { size-is = refl; distances-are = refl; times-are = refl; records-are = take-all (s .places) (map flCustomer (s .customers)) (omega (arith, length-map (s .customers) flCustomer, S .records-all)) }
-
--- ---- home
-
--- the totals of a label that has `far` behind it and `back` before it
-abbrev pub ended : ℕ → ℕ → Whole.Label → Totals
-ended far back l = record { distance = far; duration = l .time + back; lateness = l .lateness; pay = l .pay; place = l .place }
-
-pub home-exact : (n : ℕ) → n ≤ mostCalls → (far back : ℕ) → Small back → (l : Whole.Label) → Early n l
-    → some (homeF (fl far) (fl back) (flLabel l)) ≡ Option·map flTotals (some (ended far back l))
-home-exact n few far back near l E = rw (fl-add (l .time) back (omega arith) (omega arith))
 
 -- ---- what is looked up for a call
 
@@ -133,27 +120,6 @@ module _ (s : Sheet) (S : Sized s) (t : Tables) (I : Image s t) where
         ∙ (clock-exact (suc k) (suc j) c (tick s j a c x) cs (omega arith) (i .0) (i .1) (tick-early k (omega arith) j a c x E)
         ∙ ap (λ (n : ℕ). flClock b (lastOf c cs) n (clockFrom s (suc j) c (tick s j a c x) cs)) (omega arith))
 
-    -- ---- the end of a run
-
-    module _ (n : ℕ) (few : n ≤ mostCalls) (far back : ℕ) (near : Small back) where
-      excused-exact : (o : Option Whole.Label) → Holds (Early n) o → isExcusedF (flBreak b) (fl back) (Option·map flLabel o) ≡ holds o (λ l. excused b (l .time + back))
-      excused-exact none E = refl
-      excused-exact (some l) E = rw (fl-add (l .time) back (omega arith) (omega arith)) (fl-le (l .time + back) (b .earliest) (omega arith) (omega (arith, break-small)))
-
-      counts-exact : (a j : ℕ) (x : Clock) → EarlyClock n x → countsF (fl back) (flClock b a j x) ≡ Option·map flLabel (counts (some b) back x)
-      unfolding countsF
-      counts-exact a j x E =
-          rw (excused-exact (x .before) (E .before-early)) (by-test (holds (x .before) (λ l. excused b (l .time + back))) (λ e. rw e) (λ e. rw e))
-
-      counts-early : (x : Clock) → EarlyClock n x → Holds (Early n) (counts (some b) back x)
-      counts-early x E = by-test (holds (x .before) (λ l. excused b (l .time + back))) (λ e. rw e (E .before-early)) (λ e. rw e (E .after-early))
-
-      pub finish-exact : (a j : ℕ) (x : Clock) → EarlyClock n x → finishF (fl far) (fl back) (flClock b a j x) ≡ Option·map flTotals (counts (some b) back x >>= λ l. some (ended far back l))
-      unfolding finishF
-      finish-exact a j x E =
-          ap (λ (o : Option Label). o >>= λ l. some (homeF (fl far) (fl back) l)) (counts-exact a j x E)
-          ∙ through (counts (some b) back x) flLabel (λ l. some (homeF (fl far) (fl back) l)) flTotals (λ l. some (ended far back l)) (λ l e. home-exact n few far back near l (subst (Holds (Early n)) e (counts-early x E)))
-
   -- the totals of a run of these calls
   pub schedule-exact : (b : Break) → s .rest ≡ some b → (calls : List ℕ) → length calls ≤ mostCalls → All (Place s) calls
       → scheduleF t (flBreak b) calls ≡ Option·map flTotals (clock s calls)
@@ -169,4 +135,4 @@ module _ (s : Sheet) (S : Sized s) (t : Tables) (I : Image s t) where
         time-exact (lastOf 0 calls) 0 (last-inside s 0 calls (depot-inside s S) i) (depot-inside s S),
         zero-add far,
       )
-      (finish-exact b rest-is n few far back (time-small s S (lastOf 0 calls) 0) (lastOf 0 calls) (1 + n) x (labels-most s S calls few) ∙ rw rest-is)
+      (finish-exact n few far back (time-small s S (lastOf 0 calls) 0) b (break-small b rest-is) (lastOf 0 calls) (1 + n) x (labels-most s S calls few) ∙ rw rest-is)

@@ -9,40 +9,23 @@ use lib.ListN.{length, getD, drop, drop-of-length-le}
 use lib.Seq.{drop-cons}
 use lib.Ieee as Ieee
 use lib.Ieee.{Float, binary64}
-use Rattle.basics.specs.Tests.{or-left, or-right}
-use Rattle.basics.specs.Options.{absent, present}
 use Rattle.definitions.specs.Sheet.{CustomerOf}
 use Rattle.definitions.specs.Run.{lastOf}
-use Rattle.evaluation.specs.Records.{ClockF, Tables}
-use Rattle.evaluation.specs.Serving.{earlierF}
-use Rattle.evaluation.specs.Clock.{pushF, aliveF, countsF, finishF}
+use Rattle.clock.specs.Records.{ClockF}
+use Rattle.clock.specs.Clock.{pushF, aliveF, finishF}
+use Rattle.clock.proofs.Gone.{Gone, not-alive, push-gone, finish-gone}
+use Rattle.evaluation.specs.Records.{Tables}
 use Rattle.evaluation.specs.Tables.{recordF, distanceF, timeF, legsF}
 use Rattle.evaluation.specs.Schedule.{tickF, clockFromF, endF}
 
 -- ---- labels that are gone
-
-pub record Gone (x : ClockF) : Type 0 where
-  pub no-before : x .before ≡ none
-  pub no-after : x .after ≡ none
-
-pub not-alive : (x : ClockF) → aliveF x ≡ false → Gone x
-not-alive x e =
-    record { no-before = absent (or-left (present (x .before)) (present (x .after)) e); no-after = absent (or-right (present (x .before)) (present (x .after)) e) }
-
-pub push-gone : (x : ClockF) (cid : ℕ) (c : CustomerOf Float) (travel : Float) → Gone x → Gone (pushF x cid c travel)
-unfolding pushF earlierF
-push-gone x cid c travel g = record { no-before = rw (g .no-before); no-after = rw (g .no-before, g .no-after) }
 
 pub clock-gone : (t : Tables) (x : ClockF) (calls : List ℕ) → Gone x → Gone (clockFromF t x calls)
 unfolding clockFromF
 clock-gone t x [] g = g
 clock-gone t x (c ∷ cs) g = clock-gone t (tickF t x c) cs (push-gone x c (recordF t c) (timeF t (x .prev) c) g)
 
-pub finish-gone : (distance back : Float) (x : ClockF) → Gone x → finishF distance back x ≡ none
-unfolding finishF countsF
-finish-gone distance back x g = rw (g .no-before, g .no-after)
-
--- no longer run has a way to place the break either
+-- no run that goes on from here has a way to place the break either
 pub end-gone : (t : Tables) (x : ClockF) (far : Float) (calls : List ℕ) → aliveF x ≡ false → endF t x far calls ≡ none
 unfolding endF
 end-gone t x far calls e = finish-gone _ _ (clockFromF t x calls) (clock-gone t x calls (not-alive x e))

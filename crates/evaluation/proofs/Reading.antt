@@ -1,15 +1,14 @@
--- Reading a call's record in the array of 64, and what it asks for. Assumes nothing.
+-- Reading a call's record in the array of 64. Assumes nothing.
 use Prim.Native.Nat.{ℕ, zero, suc, _<_}
 use native.Mathlib.Nat.{not-suc-le-zero, le-of-suc-le-suc}
 use mathlib.Core.Path.{_≡_, refl, sym, ap, subst, _∙_}
 use mathlib.Core.List.{List, [], _∷_, map}
 use lib.ListN.{length, getD}
 use lib.Ieee.{Float}
-use Rattle.definitions.specs.Sheet.{CustomerOf}
 use Rattle.models.specs.declared.customer.Customer.{Customer}
 use Rattle.models.specs.Records.{customerOf}
 use Rattle.evaluation.specs.Records.{lent}
-use Rattle.evaluation.specs.Tables.{recordIndex, blank, recordF, demandF}
+use Rattle.evaluation.specs.Tables.{recordIndex, blank, recordF}
 
 pub getD-of : {A B : Type 0} (f : A → B) (l : List A) (i : ℕ) (d : A) (e : B) → i < length l → f (getD l i d) ≡ getD (map f l) i e
 getD-of f [] i d e h = absurd (not-suc-le-zero h)
@@ -21,8 +20,3 @@ pub read-record : (customers : List Customer) (distances times : List Float) (si
 unfolding recordF
 read-record customers distances times size c i d long e h =
     getD-of customerOf customers i d blank (subst (λ (n : ℕ). i < n) (sym long) h) ∙ ap (λ (j : ℕ). getD (map customerOf customers) j blank) e
-
-pub read-demand : (customers : List Customer) (c i : ℕ) (d : Customer) → length customers ≡ 64 → (i ≡ recordIndex c) × (i < 64)
-    → getD customers i d .demand ≡ demandF (map customerOf customers) c
-unfolding recordF demandF
-read-demand customers c i d long e = ap (λ (x : CustomerOf Float). x .demand) (read-record customers [] [] 0 c i d long (e .0) (e .1))

@@ -28,18 +28,18 @@ use Rattle.whole.specs.Later.{later-fl}
 use Rattle.models.specs.Image.{flBreak}
 use Rattle.models.specs.Limits.{allowF}
 use Rattle.models.proofs.Exact.{Small, allow-exact}
-use Rattle.evaluation.specs.declared.schedule.Label.{Label}
+use Rattle.clock.specs.declared.schedule.Label.{Label}
+use Rattle.clock.specs.Serving.{breakStartF}
+use Rattle.clock.specs.Image.{flLabel, flTotals}
+use Rattle.clock.proofs.ServingExact.{through}
+use Rattle.clock.proofs.HomeExact.{ended, home-exact}
 use Rattle.evaluation.specs.declared.way.Way.{Way}
 use Rattle.evaluation.specs.Records.{Tables}
-use Rattle.evaluation.specs.Serving.{breakStartF}
-use Rattle.evaluation.specs.Clock.{begunF}
 use Rattle.evaluation.specs.Tables.{distanceF, timeF, legsF}
-use Rattle.evaluation.specs.Schedule.{clockFromF}
 use Rattle.evaluation.specs.Way.{startWay, wayOnF, throughF, wayF, homewardF, plainF}
 use Rattle.evaluation.specs.Route.{totalsF, allowedF, breakStartAtF, startF, feasibleF, pricedF, costF, evalF}
-use Rattle.evaluation.specs.Image.{flLabel, flTotals, flEvaluation, flCost, flLimits, flClock, Image}
-use Rattle.evaluation.proofs.ServingExact.{through}
-use Rattle.evaluation.proofs.ClockExact.{ended, home-exact, carried-early, carry-exact, distance-from-exact, time-exact, clock-exact, schedule-exact}
+use Rattle.evaluation.specs.Image.{flEvaluation, flCost, flLimits, Image}
+use Rattle.evaluation.proofs.ClockExact.{carried-early, carry-exact, distance-from-exact, time-exact, schedule-exact}
 
 -- an answer that goes on twice goes on once
 pub joined : {A B C : Type 0} (o : Option A) (f : A → Option B) (g : B → Option C) → ((o >>= f) >>= g) ≡ (o >>= λ a. f a >>= g)
@@ -224,13 +224,6 @@ module _ (s : Sheet) (S : Sized s) (t : Tables) (I : Image s t) where
 -- ---- by the limits of the Domain
 
 module _ (s : Sheet) (W : Within s) (t : Tables) (I : Image s t) (calls : List ℕ) (C : WithinCalls s calls) where
-  -- totals of a run, whatever the limits
-  pub totals-whole : totalsF t (Option·map flBreak (s .rest)) calls ≡ Option·map flTotals (clock s calls)
-  totals-whole = totals-exact s (sized s W) t I calls (few-calls s calls C) (calls-inside s calls C)
-
-  pub start-whole : (place : ℕ) → startF t (Option·map flBreak (s .rest)) place calls ≡ Option·map fl (startOf s (record { calls = calls; place = place }))
-  start-whole = start-exact s (sized s W) t I calls (few-calls s calls C) (calls-inside s calls C)
-
   pub eval-whole : evalF t (flLimits s) calls ≡ Option·map flEvaluation (routeEval s calls)
   eval-whole = eval-exact s (sized s W) t I calls (few-calls s calls C) (calls-inside s calls C)
 
@@ -239,9 +232,3 @@ module _ (s : Sheet) (W : Within s) (t : Tables) (I : Image s t) (calls : List �
 
   pub cost-whole : costF t (flLimits s) calls ≡ flCost (effectiveCost s calls)
   cost-whole = cost-exact s (sized s W) t I calls (few-calls s calls C) (calls-inside s calls C)
-
-  -- the clock over the calls, with both its labels
-  pub clock-whole : (b : Break) → s .rest ≡ some b → clockFromF t (begunF (flBreak b)) calls ≡ flClock b (lastOf 0 calls) (1 + length calls) (clockFrom s 1 0 begun calls)
-  clock-whole b rest-is =
-      clock-exact s (sized s W) t I b rest-is 0 1 0 begun calls (omega (arith, few-calls s calls C)) (depot-inside s (sized s W)) (calls-inside s calls C)
-      (record { before-early = start-early; after-early = tt })

@@ -1,4 +1,4 @@
--- Whole-number labels, totals and clocks, each number held in a float. Definitions only.
+-- A whole-number sheet and what its runs come to, each number held in a float. Definitions only.
 use Prim.Native.Nat.{ℕ}
 use mathlib.Core.Path.{_≡_}
 use mathlib.Core.Bool.{false}
@@ -6,25 +6,12 @@ use mathlib.Core.List.{map}
 use mathlib.Core.Option.{Option, none, some, Option·map}
 use lib.ListN.{take}
 use lib.Ieee.{Float, inf}
-use Rattle.definitions.specs.Sheet.{Break, Sheet}
-use Rattle.definitions.specs.Run as Whole
-use Rattle.definitions.specs.Clock.{Clock}
+use Rattle.definitions.specs.Sheet.{Sheet}
 use Rattle.definitions.specs.Evaluation.{Evaluation}
 use Rattle.whole.specs.Whole.{fl}
 use Rattle.models.specs.Image.{flBreak, flCustomer}
-use Rattle.evaluation.specs.declared.schedule.Label.{Label}
-use Rattle.evaluation.specs.declared.schedule.Scheduled.{Scheduled}
-use Rattle.evaluation.specs.Records.{ClockF, Tables, LimitsF, EvaluationF}
-
-abbrev pub flLabel : Whole.Label → Label
-flLabel l = record { time = fl (l .time); lateness = fl (l .lateness); cost = fl (l .pay); place = l .place }
-
-abbrev pub flTotals : Whole.Totals → Scheduled
-flTotals t = record { distance = fl (t .distance); duration = fl (t .duration); lateness = fl (t .lateness); cost = fl (t .pay); place = t .place }
-
--- with the break b, after the place a, before call number k
-abbrev pub flClock : Break → ℕ → ℕ → Clock → ClockF
-flClock b a k x = record { rest = flBreak b; before = Option·map flLabel (x .before); after = Option·map flLabel (x .after); prev = a; index = k }
+use Rattle.clock.specs.Image.{flTotals}
+use Rattle.evaluation.specs.Records.{Tables, LimitsF, EvaluationF}
 
 abbrev pub flEvaluation : Evaluation → EvaluationF
 flEvaluation e = record { totals = flTotals (e .totals); start = Option·map fl (e .start) }

@@ -1,12 +1,12 @@
--- What the code's structs and enums hold.
+-- What the code's structs and enums hold, and what is looked up for a call.
 pub mod Records
--- Serving a call and the break clock on floats, as the code has them.
-pub mod Serving
-pub mod Clock
 pub mod Tables
+-- The clock over the calls of a run, on floats, as the code has it.
 pub mod Schedule
 -- The way with no break, and the evaluations of a run, on floats.
 pub mod Way
 pub mod Route
--- Labels, totals and clocks of whole numbers, held in floats.
+-- Whether a run has to be asked for.
+pub mod Checks
+-- A sheet of whole numbers, and what its runs come to, held in floats.
 pub mod Image

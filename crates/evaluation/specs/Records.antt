@@ -6,49 +6,17 @@ use lib.Ieee.{Float}
 use Rattle.definitions.specs.Sheet.{BreakOf, CustomerOf}
 use Rattle.models.specs.declared.customer.Customer.{Customer}
 use Rattle.models.specs.declared.limits.RouteLimits.{RouteLimits}
-use Rattle.models.specs.Records.{customerOf, breakOf, restOf, limitOf}
-use Rattle.evaluation.specs.declared.schedule.Label.{Label}
-use Rattle.evaluation.specs.declared.schedule.Reached.{Reached}
-use Rattle.evaluation.specs.declared.schedule.Reached.the-variants.{Nowhere, At}
-use Rattle.evaluation.specs.declared.schedule.Ready.{Ready}
-use Rattle.evaluation.specs.declared.schedule.Ready.the-variants.{TooLate, From}
-use Rattle.evaluation.specs.declared.schedule.Scheduled.{Scheduled}
-use Rattle.evaluation.specs.declared.schedule.Finished.{Finished}
-use Rattle.evaluation.specs.declared.schedule.Finished.the-variants.{Impossible, Home}
-use Rattle.evaluation.specs.declared.schedule.BreakClock.{BreakClock}
+use Rattle.models.specs.Records.{customerOf, restOf, limitOf}
+use Rattle.clock.specs.declared.schedule.Scheduled.{Scheduled}
 use Rattle.evaluation.specs.declared.way.Way.{Way}
 use Rattle.evaluation.specs.declared.way.Driven.{Driven}
 use Rattle.evaluation.specs.declared.way.Driven.the-variants.{Failed, To}
 use Rattle.evaluation.specs.declared.route.Start.{Start}
 use Rattle.evaluation.specs.declared.route.Start.the-variants as Starts
+use Rattle.evaluation.specs.declared.route.Taken.{Taken}
 use Rattle.evaluation.specs.declared.route.RouteEval.{RouteEval}
 use Rattle.evaluation.specs.declared.route.Evaluated.{Evaluated}
 use Rattle.evaluation.specs.declared.route.Evaluated.the-variants.{NotAllowed, Allowed}
-
--- ---- the clock
-
-abbrev pub readyOf : Ready → Option Float
-readyOf TooLate = none
-readyOf (From t) = some t
-
-abbrev pub reachedOf : Reached → Option Label
-reachedOf Nowhere = none
-reachedOf (At l) = some l
-
-abbrev pub finishedOf : Finished → Option Scheduled
-finishedOf Impossible = none
-finishedOf (Home s) = some s
-
--- the break, the labels before and after it, the last place, and the number of the next call, from 1
-pub record ClockF : Type 0 where
-  pub rest : BreakOf Float
-  pub before : Option Label
-  pub after : Option Label
-  pub prev : ℕ
-  pub index : ℕ
-
-abbrev pub clockOf : BreakClock → ClockF
-clockOf x = record { rest = breakOf (x .rest); before = reachedOf (x .before); after = reachedOf (x .after); prev = x .prev; index = x .index }
 
 -- ---- what is lent
 
@@ -71,6 +39,14 @@ drivenOf (To d) = some d
 abbrev pub startOf : Start → Option Float
 startOf Starts.Unbroken = none
 startOf (Starts.At t) = some t
+
+-- the place of a run's break, from 1, or 0, and when it starts
+pub record TakenF : Type 0 where
+  pub place : ℕ
+  pub start : Option Float
+
+abbrev pub takenOf : Taken → TakenF
+takenOf b = record { place = b .place; start = startOf (b .start) }
 
 -- a run's totals, and when its break starts
 pub record EvaluationF : Type 0 where

@@ -9,9 +9,9 @@ use lib.Ieee.{Float, binary64, inf}
 use Rattle.basics.specs.Options.{_>>=_, given, present}
 use Rattle.definitions.specs.Sheet.{BreakOf}
 use Rattle.models.specs.Limits.{allowF}
-use Rattle.evaluation.specs.declared.schedule.Scheduled.{Scheduled}
-use Rattle.evaluation.specs.Records.{Tables, LimitsF, EvaluationF}
-use Rattle.evaluation.specs.Serving.{breakStartF}
+use Rattle.clock.specs.declared.schedule.Scheduled.{Scheduled}
+use Rattle.clock.specs.Serving.{breakStartF}
+use Rattle.evaluation.specs.Records.{Tables, TakenF, LimitsF, EvaluationF}
 use Rattle.evaluation.specs.Tables.{timeF}
 use Rattle.evaluation.specs.Schedule.{scheduleF}
 use Rattle.evaluation.specs.Way.{startWay, wayF, plainF}
@@ -40,6 +40,14 @@ unfoldable pub startF : Tables → Option (BreakOf Float) → ℕ → List ℕ �
 startF t none place calls = none
 startF t (some b) zero calls = none
 startF t (some b) (suc k) calls = breakStartAtF t b k calls
+
+-- the break of a run, by its totals: the place by the clock, and the start
+abbrev pub takenF : Tables → Option (BreakOf Float) → List ℕ → Option Scheduled → TakenF
+takenF t rest calls none = record { place = 0; start = none }
+takenF t rest calls (some h) = record { place = h .place; start = startF t rest (h .place) calls }
+
+unfoldable pub breakF : Tables → Option (BreakOf Float) → List ℕ → TakenF
+breakF t rest calls = takenF t rest calls (totalsF t rest calls)
 
 -- ---- the evaluations
 

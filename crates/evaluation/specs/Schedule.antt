@@ -7,9 +7,10 @@ use lib.Ieee.{Float, binary64}
 use Rattle.definitions.specs.Sheet.{BreakOf}
 use Rattle.definitions.specs.Run.{lastOf}
 use Rattle.whole.specs.Whole.{fl}
-use Rattle.evaluation.specs.declared.schedule.Scheduled.{Scheduled}
-use Rattle.evaluation.specs.Records.{ClockF, Tables}
-use Rattle.evaluation.specs.Clock.{begunF, pushF, finishF}
+use Rattle.clock.specs.declared.schedule.Scheduled.{Scheduled}
+use Rattle.clock.specs.Records.{ClockF}
+use Rattle.clock.specs.Clock.{begunF, pushF, finishF}
+use Rattle.evaluation.specs.Records.{Tables}
 use Rattle.evaluation.specs.Tables.{recordF, distanceF, timeF, legsF}
 
 -- one call more, looked up in the tables

@@ -1,5 +1,5 @@
 -- What is looked up for a call: its record, what it asks for, the distance and the travel time. Definitions only.
-use Prim.Native.Nat.{ℕ}
+use Prim.Native.Nat.{ℕ, zero, suc}
 use mathlib.Core.Bool.{cond}
 use mathlib.Core.List.{List, [], _∷_, map}
 use mathlib.Core.Option.{none}
@@ -37,8 +37,13 @@ abbrev pub askedF : List ℕ → ℕ → ℕ
 askedF demands c = getD demands (recordIndex c) 0
 
 -- and what calls ask for in all
-unfoldable pub loadF : List (CustomerOf Float) → List ℕ → ℕ
-loadF customers calls = sum (demandF customers) calls
+unfoldable pub loadF : List ℕ → List ℕ → ℕ
+loadF demands calls = sum (askedF demands) calls
+
+-- the place before call number k of a run, from 0: the call before it, or the depot
+unfoldable pub placeBefore : List ℕ → ℕ → ℕ
+placeBefore calls zero = 0
+placeBefore calls (suc k) = getD calls k 0
 
 abbrev pub distanceF : Tables → ℕ → ℕ → Float
 distanceF t a b = lookupF (t .distances) (t .size) a b

@@ -7,11 +7,11 @@ use lib.Ieee.{Float, binary64}
 use Rattle.basics.specs.Options.{_>>=_}
 use Rattle.definitions.specs.Sheet.{CustomerOf}
 use Rattle.whole.specs.Whole.{fl}
-use Rattle.evaluation.specs.declared.schedule.Scheduled.{Scheduled}
+use Rattle.clock.specs.declared.schedule.Scheduled.{Scheduled}
+use Rattle.clock.specs.Serving.{startLabel, serveF}
+use Rattle.clock.specs.Clock.{homeF}
 use Rattle.evaluation.specs.declared.way.Way.{Way}
 use Rattle.evaluation.specs.Records.{Tables}
-use Rattle.evaluation.specs.Serving.{startLabel, serveF}
-use Rattle.evaluation.specs.Clock.{homeF}
 use Rattle.evaluation.specs.Tables.{recordF, distanceF, timeF}
 
 -- before the first call

@@ -4,7 +4,7 @@ ghost use mathlib.Core.List.{map};
 ghost use Prim.Native.Nat.{_*_, _<_, _≤_};
 ghost use lib.ListN.{length};
 ghost use Rattle.models.specs.Records.{customerOf};
-ghost use Rattle.evaluation.specs.Tables.{demandsOf, askedF, demandF, loadF};
+ghost use Rattle.evaluation.specs.Tables.{demandsOf, askedF, loadF};
 use crate::schedule::record_index;
 use models::customer::Customer;
 use models::load::wide;
@@ -31,25 +31,16 @@ pub fn demand_at(demands: &[u32; 64], cid: usize) -> u64
     wide(demands[index])
 }
 
-// What a call asks for, from the records.
-pub fn demand_of(customers: [Customer; 64], cid: usize) -> u64
-    ensures { λ r. ⌜ (r ≡ demandF (map customerOf customers) cid) × (r < 4294967296) ⌝ }
-{
-    let index = record_index(cid);
-    let customer = customers[index];
-    wide(customer.demand)
-}
-
 // What the calls ask for in all.
-pub fn load_of(calls: &[usize], customers: [Customer; 64]) -> u64
+pub fn load_of(calls: &[usize], demands: &[u32; 64]) -> u64
     requires { ⌜ length (now calls) ≤ 128 ⌝ }
-    ensures { λ r. ⌜ (r ≡ loadF (map customerOf customers) (now (calls .entry))) × (r ≤ 128 * 4294967296) ⌝ }
+    ensures { λ r. ⌜ (r ≡ loadF (now (demands .entry)) (now (calls .entry))) × (r ≤ 128 * 4294967296) ⌝ }
 {
     let mut load: u64 = 0;
     let mut i = 0;
     while i < calls.len() {
         let cid = calls[i];
-        load += demand_of(customers, cid);
+        load += demand_at(demands, cid);
         i += 1;
     }
     load

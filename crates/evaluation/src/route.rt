@@ -2,14 +2,17 @@
 ghost use mathlib.Core.Path.{_≡_};
 ghost use lib.ListN.{getD};
 ghost use Rattle.models.specs.Records.{breakOf, restOf};
-ghost use Rattle.evaluation.specs.Records.{finishedOf, startOf, evaluatedOf, limitsOf, lent};
-ghost use Rattle.evaluation.specs.Route.{totalsF, allowedF, breakStartAtF, startF, evalF, feasibleF, costF};
-use crate::schedule::Finished;
+ghost use Rattle.clock.specs.Records.{finishedOf};
+ghost use Rattle.evaluation.specs.Records.{startOf, takenOf, evaluatedOf, limitsOf, lent};
+ghost use Rattle.evaluation.specs.Tables.{placeBefore};
+ghost use Rattle.evaluation.specs.Route.{totalsF, allowedF, breakStartAtF, startF, breakF, evalF, feasibleF, costF};
 use crate::schedule::schedule;
 use crate::way::Driven;
 use crate::way::Way;
 use crate::way::plain_from;
 use crate::way::way_through;
+use clock::schedule::Finished;
+use clock::schedule::break_start_at;
 use distance::matrix::travel_time;
 use models::count::fewer;
 use models::customer::Customer;
@@ -17,12 +20,17 @@ use models::limits::RouteLimits;
 use models::vehicle::Rest;
 use models::vehicle::VehicleBreak;
 use whole::infinity;
-use whole::later;
 
 // No break, or when it starts.
 pub enum Start {
     Unbroken,
     At(f64),
+}
+
+// The number of the call, from 1, at which a run takes its break, or 0, and when that starts.
+pub struct Taken {
+    pub place: usize,
+    pub start: Start,
 }
 
 // What `route_eval` reports of a run that is allowed. The place is that of the break, from 1, or 0.
@@ -121,6 +129,13 @@ pub fn call_at(route: &[usize], k: usize) -> usize
     if k < route.len() { route[k] } else { 0 }
 }
 
+// The place before call number k, from 0: the call before it, or the depot.
+pub fn place_before(route: &[usize], k: usize) -> usize
+    ensures { λ r. ⌜ r ≡ placeBefore (now (route .entry)) k ⌝ }
+{
+    if k == 0 { 0 } else { call_at(route, k - 1) }
+}
+
 // When the break starts that is taken at call number k, from 0: the calls before it are served without it.
 pub fn break_start(
     route: &[usize],
@@ -142,7 +157,7 @@ pub fn break_start(
     let prev = d.prev;
     let cid = call_at(route, k);
     let arrival = label.time + travel_time(distances, times, size, prev, cid);
-    Start::At(later(arrival, rest.earliest))
+    Start::At(break_start_at(rest, arrival))
 }
 
 // When the break of that place starts; a place of 0 is none.
@@ -164,6 +179,28 @@ pub fn start_of(
         return Start::Unbroken;
     }
     break_start(route, customers, distances, times, size, b, place - 1)
+}
+
+// The break of a run, where its clock puts it.
+pub fn break_of(
+    run: &[usize],
+    customers: [Customer; 64],
+    distances: &[f64],
+    times: &[f64],
+    size: usize,
+    rest: Rest,
+) -> Taken
+    ensures { λ r. ⌜ takenOf r ≡ breakF (lent customers (now (distances .entry)) (now (times .entry)) size) (restOf rest) (now (run .entry)) ⌝ }
+{
+    let Finished::Home(home) = totals(run, customers, distances, times, size, rest) else {
+        return Taken {
+            place: 0,
+            start: Start::Unbroken,
+        };
+    };
+    let place = home.place;
+    let start = start_of(run, customers, distances, times, size, rest, place);
+    Taken { place, start }
 }
 
 // What a run comes to, with its break, if it is allowed.

@@ -25,17 +25,18 @@ use Rattle.whole.specs.Whole.{fl, limit, fl-add, fl-sub, fl-mul}
 use Rattle.whole.specs.Later.{later-fl}
 use Rattle.models.specs.Image.{flWindow, flBreak, flCustomer}
 use Rattle.models.proofs.Exact.{late-exact}
+use Rattle.clock.specs.Clock.{begunF, finishF}
+use Rattle.clock.specs.Image.{flTotals}
+use Rattle.clock.proofs.ServingExact.{through}
 use Rattle.evaluation.specs.Records.{Tables}
-use Rattle.evaluation.specs.Clock.{begunF, finishF}
 use Rattle.evaluation.specs.Schedule.{clockFromF, endF}
 use Rattle.evaluation.specs.Tables as Lookup
-use Rattle.evaluation.specs.Tables.{recordF, timeF}
-use Rattle.evaluation.specs.Image.{flTotals, Image}
-use Rattle.evaluation.proofs.ServingExact.{through}
+use Rattle.evaluation.specs.Tables.{recordF, timeF, placeBefore}
+use Rattle.evaluation.specs.Image.{Image}
 use Rattle.evaluation.proofs.ClockExact.{record-exact, distance-exact, time-exact, distance-from-exact, schedule-exact}
 use Rattle.evaluation.proofs.RouteExact.{plain-clock}
 use Rattle.stretch.specs.declared.rows.Timed.{Timed}
-use Rattle.stretch.specs.Stretch.{joinedF, placeOf, wayOf}
+use Rattle.stretch.specs.Stretch.{joinedF, wayOf}
 use Rattle.stretch.specs.Runs.{chargeF, enterF, visitF, timedOf, clockOf, End, endOf, backTime}
 use Rattle.exact.specs.StretchExact.{place-last, place-inside, way-exact}
 
@@ -125,7 +126,7 @@ module _ (s : Sheet) (S : Sized s) (t : Tables) (I : Image s t) (st : List ℕ) 
       let c = getD st m 0 in
       let l = length-take-le m st (le-of-lt h) in
       rw (timed-exact m (le-of-lt h) (le-of-lt few))
-      (through (after m) flTimed _ flTimed (serve s none (1 + m) (placeOf st m) c) (λ x e. one x (subst (Holds (Early m)) e (after-early m (le-of-lt h) (le-of-lt few))) e)
+      (through (after m) flTimed _ flTimed (serve s none (1 + m) (placeBefore st m) c) (λ x e. one x (subst (Holds (Early m)) e (after-early m (le-of-lt h) (le-of-lt few))) e)
       ∙ ap (Option·map flTimed)
       (sym (ap (serveAll s 0 1 0 (some start)) (take-suc st m 0 h) ∙ serve-snoc s 1 0 (omega arith) (some start) (take m st) c
       ∙ ap₂ (λ (n a : ℕ). after m >>= serve s none (1 + n) a c) l (place-last s st m (le-of-lt h)))))
@@ -135,10 +136,10 @@ module _ (s : Sheet) (S : Sized s) (t : Tables) (I : Image s t) (st : List ℕ) 
       none-yet (suc m) x e z = absurd (suc-ne-zero m z)
 
       one : (x : Label) → Early m x → after m ≡ some x
-          → visitF (recordF t (getD st m 0)) (joinedF (fl (x .time)) (timeF t (placeOf st m) (getD st m 0)) (eqb m 0)) (fl (x .pay)) ≡ Option·map flTimed (serve s none (1 + m) (placeOf st m) (getD st m 0) x)
+          → visitF (recordF t (getD st m 0)) (joinedF (fl (x .time)) (timeF t (placeBefore st m) (getD st m 0)) (eqb m 0)) (fl (x .pay)) ≡ Option·map flTimed (serve s none (1 + m) (placeBefore st m) (getD st m 0) x)
       one x E e =
           let c = getD st m 0 in
-          let a = placeOf st m in
+          let a = placeBefore st m in
           let d = time s a c in
           let near = time-small s S a c in
           rw (record-exact s S t I c (call-inside s S st m inside), time-exact s S t I a c (place-inside s st S inside m) (call-inside s S st m inside), joined-time m (x .time) d (none-yet m x e) (omega (arith, E .time-most)) (omega (arith, near)))

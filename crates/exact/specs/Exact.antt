@@ -27,15 +27,15 @@ use Rattle.definitions.proofs.Least.{Reach, start, more, reach-append, best-of}
 use Rattle.distance.proofs.Exact.{lookup-exact}
 use Rattle.distance.specs.Lookup.{lookupF}
 use Rattle.whole.specs.Whole.{fl}
-use Rattle.stretch.specs.Tariff.{endsF, costF, distanceF}
+use Rattle.evaluation.proofs.ClockExact.{demand-exact}
 use Rattle.ga.specs.Answer.{ResultF, planF}
 use Rattle.ga.specs.Split as Split
 use Rattle.ga.specs.Split.{lightF, sorted, removalsF, splitF}
-use Rattle.stretch.specs.Stops.{Below64}
-use Rattle.stretch.specs.Runs.{Instance, tariff}
+use Rattle.stops.specs.Stops.{Below64}
+use Rattle.stretch.specs.Tariff.{endsF, costF, distanceF}
 use Rattle.ga.specs.SplitTw.{splitTwF}
 use Rattle.exact.specs.Image.{Image, flResult}
-use Rattle.evaluation.proofs.ClockExact.{demand-exact}
+use Rattle.stretch.specs.Runs.{Instance, tariff}
 use Rattle.ga.proofs.Sorting.{sorted-long}
 use Rattle.exact.specs.TableExact.{costFl, farFl, Setting, RunIs, cost-exact, distance-exact, ends-exact}
 use Rattle.exact.specs.SplitExact as SplitExact

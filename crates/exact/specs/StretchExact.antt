@@ -16,7 +16,8 @@ use Rattle.definitions.specs.Domain.{mostCalls}
 use Rattle.definitions.specs.Sheet.{Sheet, customer, distance}
 use Rattle.definitions.specs.Run.{lastOf, legsFrom, distanceFrom, load, fits}
 use Rattle.whole.specs.Whole.{fl, limit, fl-sum}
-use Rattle.stretch.specs.Stretch.{joinedF, placeOf, loadOf, fitsOf, goneOf, wayOf}
+use Rattle.evaluation.specs.Tables.{placeBefore}
+use Rattle.stretch.specs.Stretch.{joinedF, loadOf, fitsOf, goneOf, wayOf}
 
 -- one call more at the end of a run
 last-snoc : (a : ℕ) (l : List ℕ) (c : ℕ) → lastOf a (l ++ (c ∷ [])) ≡ c
@@ -31,15 +32,15 @@ module _ (s : Sheet) (st : List ℕ) where
   -- the way through the first m calls, in whole numbers
   unfoldable gone : ℕ → ℕ
   gone zero = 0
-  gone (suc m) = gone m + distance s (placeOf st m) (getD st m 0)
+  gone (suc m) = gone m + distance s (placeBefore st m) (getD st m 0)
 
-  pub place-last : (m : ℕ) → m ≤ length st → lastOf 0 (take m st) ≡ placeOf st m
-  unfolding placeOf
+  pub place-last : (m : ℕ) → m ≤ length st → lastOf 0 (take m st) ≡ placeBefore st m
+  unfolding placeBefore
   place-last zero h = refl
   place-last (suc m) h = ap (lastOf 0) (take-suc st m 0 h) ∙ last-snoc 0 (take m st) (getD st m 0)
 
-  gone-home : (m : ℕ) → m ≤ length st → gone m + distance s (placeOf st m) 0 ≡ distanceFrom s 0 (take m st)
-  unfolding gone placeOf
+  gone-home : (m : ℕ) → m ≤ length st → gone m + distance s (placeBefore st m) 0 ≡ distanceFrom s 0 (take m st)
+  unfolding gone placeBefore
   gone-home zero h = zero-add (distance s 0 0)
   gone-home (suc m) h =
       omega (
@@ -55,11 +56,11 @@ module _ (s : Sheet) (st : List ℕ) where
     gone-most : (m : ℕ) → gone m ≤ m * mostNumber
     unfolding gone
     gone-most zero = omega arith
-    gone-most (suc m) = omega (arith, gone-most m, distance-small s S (placeOf st m) (getD st m 0))
+    gone-most (suc m) = omega (arith, gone-most m, distance-small s S (placeBefore st m) (getD st m 0))
 
     module _ (inside : All (Place s) st) where
-      pub place-inside : (m : ℕ) → Place s (placeOf st m)
-      unfolding placeOf
+      pub place-inside : (m : ℕ) → Place s (placeBefore st m)
+      unfolding placeBefore
       place-inside zero = depot-inside s S
       place-inside (suc m) = call-inside s S st m inside
 
@@ -74,8 +75,8 @@ module _ (s : Sheet) (st : List ℕ) where
         unfolding goneOf gone
         gone-exact zero h = refl
         gone-exact (suc m) h =
-            ap₂ (λ (x y : Float). joinedF x y (eqb m 0)) (gone-exact m (omega arith)) (exact (placeOf st m) (getD st m 0) (place-inside m) (call-inside s S st m inside))
-            ∙ joined-exact m (gone m) _ (none m) (omega (arith, gone-most m, distance-small s S (placeOf st m) (getD st m 0)))
+            ap₂ (λ (x y : Float). joinedF x y (eqb m 0)) (gone-exact m (omega arith)) (exact (placeBefore st m) (getD st m 0) (place-inside m) (call-inside s S st m inside))
+            ∙ joined-exact m (gone m) _ (none m) (omega (arith, gone-most m, distance-small s S (placeBefore st m) (getD st m 0)))
           where
             none : (k : ℕ) → k ≡ 0 → gone k ≡ 0
             none zero e = refl
@@ -84,8 +85,8 @@ module _ (s : Sheet) (st : List ℕ) where
         pub way-exact : (m : ℕ) → m ≤ length st → m ≤ mostCalls → wayOf leg st m ≡ fl (distanceFrom s 0 (take m st))
         unfolding wayOf
         way-exact m h few =
-            ap₂ (λ (x y : Float). Ieee.add binary64 x y) (gone-exact m few) (exact (placeOf st m) 0 (place-inside m) (depot-inside s S))
-            ∙ fl-sum (gone m) (distance s (placeOf st m) 0) (omega (arith, gone-most m, distance-small s S (placeOf st m) 0))
+            ap₂ (λ (x y : Float). Ieee.add binary64 x y) (gone-exact m few) (exact (placeBefore st m) 0 (place-inside m) (depot-inside s S))
+            ∙ fl-sum (gone m) (distance s (placeBefore st m) 0) (omega (arith, gone-most m, distance-small s S (placeBefore st m) 0))
             ∙ ap fl (gone-home m h)
 
       -- ---- the load

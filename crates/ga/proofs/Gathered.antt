@@ -13,9 +13,8 @@ use lib.Ieee.{Float, nan}
 use Rattle.basics.specs.Tests.{by-test}
 use Rattle.models.specs.declared.customer.Customer.{Customer}
 use Rattle.models.specs.Records.{customerOf}
-use Rattle.evaluation.specs.Tables.{demandsOf, askedF}
+use Rattle.evaluation.specs.Tables.{demandsOf, askedF, placeBefore}
 use Rattle.evaluation.proofs.Demands.{asked}
-use Rattle.stretch.specs.Stretch.{placeOf}
 use Rattle.ga.specs.Split.{lent, planBy, splitF, LegsOf}
 
 -- ---- lists written from the front
@@ -39,7 +38,7 @@ split-by customers demands distances size capacity fixed tour e = ap (λ (d : �
 
 module _ (leg : ℕ → ℕ → Float) (calls : List ℕ) where
   abbrev into : ℕ → Float
-  into k = leg (placeOf calls k) (getD calls k 0)
+  into k = leg (placeBefore calls k) (getD calls k 0)
 
   abbrev back : ℕ → Float
   back k = leg (getD calls k 0) 0
@@ -49,19 +48,19 @@ pub record Laid (leg : ℕ → ℕ → Float) (calls : List ℕ) (ins backs : Li
   pub within : k ≤ length calls
   pub ins-long : length ins ≡ 128
   pub backs-long : length backs ≡ 128
-  pub is-prev : prev ≡ placeOf calls k
+  pub is-prev : prev ≡ placeBefore calls k
   pub ins-are : (j : ℕ) → j < k → getD ins j nan ≡ into leg calls j
   pub backs-are : (j : ℕ) → j < k → getD backs j nan ≡ back leg calls j
 
 module _ (leg : ℕ → ℕ → Float) (calls : List ℕ) where
   pub none-laid : (ins backs : List Float) → length ins ≡ 128 → length backs ≡ 128 → Laid leg calls ins backs 0 0
-  unfolding placeOf
+  unfolding placeBefore
   none-laid ins backs li lb =
       record { within = omega arith; ins-long = li; backs-long = lb; is-prev = refl; ins-are = λ j h. absurd (not-suc-le-zero h); backs-are = λ j h. absurd (not-suc-le-zero h) }
 
   pub one-laid : (ins backs : List Float) (prev k : ℕ) (x y : Float) → k < length calls → length calls ≤ 128 → x ≡ leg prev (getD calls k 0) → y ≡ leg (getD calls k 0) 0
       → Laid leg calls ins backs prev k → Laid leg calls (set ins k x) (set backs k y) (getD calls k 0) (k + 1)
-  unfolding placeOf
+  unfolding placeBefore
   one-laid ins backs prev k x y h few ex ey L =
       record {
         within = omega arith;
@@ -73,7 +72,7 @@ module _ (leg : ℕ → ℕ → Float) (calls : List ℕ) where
       }
 
   pub all-laid : (ins backs : List Float) (prev k : ℕ) → length calls ≤ k → length calls ≤ 128 → Laid leg calls ins backs prev k → LegsOf leg calls ins backs
-  unfolding placeOf
+  unfolding placeBefore
   all-laid ins backs prev k h few L =
       record {
         ins-long = omega (arith, L .ins-long);
@@ -84,8 +83,8 @@ module _ (leg : ℕ → ℕ → Float) (calls : List ℕ) where
 
   -- the leg into call m of a run along the calls
   pub leg-into : (ins backs : List Float) (out : Float) (m : ℕ) → LegsOf leg calls ins backs → m < length calls → out ≡ leg 0 (getD calls 0 0)
-      → cond (eqb m 0) out (getD ins m nan) ≡ leg (placeOf calls m) (getD calls m 0)
-  unfolding placeOf
+      → cond (eqb m 0) out (getD ins m nan) ≡ leg (placeBefore calls m) (getD calls m 0)
+  unfolding placeBefore
   leg-into ins backs out zero L h e = e
   leg-into ins backs out (suc m) L h e = rw (eqb·suc-zero m) (L .ins-are m h)
 

@@ -13,8 +13,8 @@ use Rattle.basics.specs.Tests.{by-test}
 use Rattle.cutting.specs.Tab.{cells}
 use Rattle.whole.specs.Whole.{fl}
 use Rattle.evaluation.specs.Records.{Tables}
+use Rattle.stops.specs.Stops.{WorkedOut, LegsAre}
 use Rattle.stretch.specs.Tariff.{Tariff, stretches, legalOf, runsOf, farsOf, Ended}
-use Rattle.stretch.specs.Stops.{WorkedOut, LegsAre}
 use Rattle.stretch.specs.Runs.{Instance, tariff}
 use Rattle.holding.specs.Refill.{Cleared, Reached, NotedRow, ReachedBelow, EarlyBelow, Noted, Refilled}
 use Rattle.holding.proofs.Refilling.{Refilling, refill-begins, refill-ends, refill-row, refill-passed}

@@ -12,14 +12,13 @@ use borrow.Author.Tests.{ltb-true, ltb-false}
 use Rattle.basics.specs.Tests.{by-test}
 use Rattle.basics.specs.Parts.{rest-is}
 use Rattle.evaluation.specs.Records.{Tables}
-use Rattle.evaluation.specs.Tables.{distanceF, timeF}
-use Rattle.stretch.specs.Stretch.{placeOf}
+use Rattle.evaluation.specs.Tables.{distanceF, timeF, placeBefore}
+use Rattle.stops.specs.Stops.{WorkedOut, Below64, LegsAre, LegsWritten}
 use Rattle.stretch.specs.Tariff.{Tariff, TableOf, Ended}
-use Rattle.stretch.specs.Stops.{WorkedOut, Below64, LegsAre, LegsWritten}
 use Rattle.stretch.specs.Runs.{Instance, tariff, Rowed}
 use Rattle.cutting.specs.Tab.{cells, length-tab}
-use Rattle.holding.specs.Refill.{NotedRow, FrontOf, ReachedBelow, EarlyBelow, LegsTo, Listed, Noted, Refilled}
 use Rattle.stretch.proofs.Along.{held-row}
+use Rattle.holding.specs.Refill.{NotedRow, FrontOf, ReachedBelow, EarlyBelow, LegsTo, Listed, Noted, Refilled}
 
 -- the part from i on, as it is lent
 pub below-rest : (held : List ℕ) (i : ℕ) → Below64 held → Below64 (take (length held - i) (drop i held))
@@ -30,13 +29,13 @@ below-rest held i b = subst (λ (l : List ℕ). (k : ℕ) → k < length l → g
     part k h = rw getD-drop (b (i + k) (omega (arith, length-drop i held)))
 
 -- the call before number i + k
-place-rest : (held : List ℕ) (i k : ℕ) → 0 < k → placeOf (drop i held) k ≡ placeOf held (i + k)
-unfolding placeOf
+place-rest : (held : List ℕ) (i k : ℕ) → 0 < k → placeBefore (drop i held) k ≡ placeBefore held (i + k)
+unfolding placeBefore
 place-rest held i zero h = absurd (clash h)
   where
     clash : 0 < 0 → ⊥
     clash h = omega arith
-place-rest held i (suc k) h = getD-drop i held k 0 ∙ ap (placeOf held) (sym (add-suc i k))
+place-rest held i (suc k) h = getD-drop i held k 0 ∙ ap (placeBefore held) (sym (add-suc i k))
 
 legs-rest : (t : Tables) (held : List ℕ) (legs times : List Float) (i : ℕ) → LegsAre t held legs times → LegsAre t (drop i held) (drop i legs) (drop i times)
 unfolding LegsAre

@@ -24,8 +24,8 @@ use Rattle.evaluation.specs.Tables as Lookup
 use Rattle.table.specs.Table.{DropCall}
 use Rattle.table.proofs.Writing.{front-written}
 use Rattle.table.proofs.Holding.{Holding, all-holding, call-goes}
+use Rattle.stops.specs.Stops.{Below64, LegsAre}
 use Rattle.stretch.specs.Tariff.{stretches, runsOf, farsOf, TableOf}
-use Rattle.stretch.specs.Stops.{Below64, LegsAre}
 use Rattle.stretch.specs.Runs.{Instance, tariff}
 use Rattle.holding.specs.Drops.{haveF, stuckF, dropFromF, dropsF}
 use Rattle.holding.specs.Refill.{LegsTo, NotedRow, FrontOf, ReachedBelow, EarlyBelow, Stayed}

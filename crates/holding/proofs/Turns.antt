@@ -17,10 +17,10 @@ use Rattle.distance.specs.Lookup.{lookupF}
 use Rattle.evaluation.specs.Records as Evaluation
 use Rattle.evaluation.specs.Records.{Tables}
 use Rattle.models.specs.declared.customer.Customer.{Customer}
-use Rattle.stretch.specs.declared.terms.Terms.{Terms}
+use Rattle.stops.specs.Stops.{Below64, WorkedOut, LegsAre, LegsWritten}
 use Rattle.table.specs.Table.{DropCall}
+use Rattle.stretch.specs.declared.terms.Terms.{Terms}
 use Rattle.stretch.specs.Tariff.{stretches, runsOf, farsOf, TableOf}
-use Rattle.stretch.specs.Stops.{Below64, WorkedOut, LegsAre, LegsWritten}
 use Rattle.stretch.specs.Runs.{Instance, over, tariff}
 use Rattle.holding.specs.Drops.{haveF}
 use Rattle.holding.specs.Refill.{NotedRow, ReachedBelow, LegsTo, Noted, Refilled, Unfilled, ListsOf, SomeLists, Holds}

@@ -16,9 +16,9 @@ use Rattle.whole.specs.Whole.{fl}
 use Rattle.models.specs.declared.customer.Customer.{Customer}
 use Rattle.evaluation.specs.Records as Records
 use Rattle.evaluation.specs.Records.{Tables}
+use Rattle.stops.specs.Stops.{WorkedOut, LegIs, LegsAre}
 use Rattle.stretch.specs.Tariff.{Tariff, stretches, runsOf, farsOf, TableOf, Ended}
 use Rattle.stretch.specs.declared.terms.Terms.{Terms}
-use Rattle.stretch.specs.Stops.{WorkedOut, LegIs, LegsAre}
 use Rattle.stretch.specs.Runs.{Instance, over, tariff}
 use Rattle.holding.specs.Drops.{dropsF}
 

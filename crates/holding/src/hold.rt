@@ -5,12 +5,12 @@ ghost use lib.ListN.{length, take};
 ghost use Rattle.basics.specs.Lists.{count};
 ghost use Rattle.definitions.specs.Sheet.{timeTable};
 ghost use Rattle.distance.specs.Lookup.{lookupF};
+ghost use Rattle.stops.specs.Stops.{Below64, LegsWritten};
 ghost use Rattle.stretch.specs.Runs.{over};
-ghost use Rattle.stretch.specs.Stops.{Below64, LegsWritten};
 ghost use Rattle.holding.specs.Refill.{LegsTo, Refilled, Unfilled, SomeLists, Holds};
 use crate::refill::noted_row;
 use crate::refill::refill;
-use stretch::stops::write_legs;
+use stops::stops::write_legs;
 use stretch::terms::Terms;
 use table::held::drop_call;
 use table::held::number;
@@ -156,7 +156,7 @@ pub fn hold(
     ensures { λ r. ⌜ r ≤ n ⌝ }
 {
     let mut positions = [0usize; 128];
-    number(&mut positions, n);
+    number(&mut positions, 1, n);
     let mut legs = [0.0; 128];
     let mut time_legs = [0.0; 128];
     write_legs(

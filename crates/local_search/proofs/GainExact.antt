@@ -14,7 +14,7 @@ use Rattle.bounds.specs.Inside.{Small}
 use Rattle.whole.specs.Whole.{fl, limit}
 use Rattle.whole.specs.Later.{later-fl}
 use Rattle.whole.specs.Difference.{diff-fl, fl-diff, diff-lt, diff-lt-fl}
-use Rattle.local_search.specs.Gain.{largestF, evenF, rowEvenF, symmetricF}
+use Rattle.local_search.specs.Gain.{largestF, legsEqualF, rowSymmetricF, symmetricF}
 
 -- ---- the largest distance
 
@@ -36,9 +36,9 @@ largest-exact most (x ∷ l) h a =
 -- ---- the way back
 
 -- a difference that is neither above nor below 0 is none
-even-same : (a b : ℕ) → a ≤ limit → b ≤ limit → evenF (fl a) (fl b) ≡ true → a ≡ b
-unfolding evenF
-even-same a b p q e =
+equal-same : (a b : ℕ) → a ≤ limit → b ≤ limit → legsEqualF (fl a) (fl b) ≡ true → a ≡ b
+unfolding legsEqualF
+equal-same a b p q e =
     let d = fl-diff a b p q in
     let up : Ieee.lt (fl 0) (Ieee.sub binary64 (fl a) (fl b)) ≡ ltb (0 + b) (a + 0) = rw (d, ← diff-fl 0) (diff-lt 0 0 a b zero-le zero-le p q) in
     let down : Ieee.lt (Ieee.sub binary64 (fl a) (fl b)) (fl 0) ≡ ltb a (0 + b) = rw d (diff-lt-fl a b 0 p q zero-le) in
@@ -65,9 +65,9 @@ module _ (leg : ℕ → ℕ → Float) (size : ℕ) (far : ℕ → ℕ → ℕ) 
   upward : (a b : ℕ) → a < b → b < size → far a b ≡ far b a
   unfolding symmetricF
   upward a b h l =
-      let row : rowEvenF leg size a ≡ true = all-counted (rowEvenF leg size) 0 size e a zero-le (omega arith) in
-      let one : evenF (leg a b) (leg b a) ≡ true = all-counted (λ (j : ℕ). evenF (leg a j) (leg j a)) (suc a) (size - suc a) row b (omega arith) (omega arith) in
-      even-same (far a b) (far b a) (small a b) (small b a) (rw (exact a b (omega arith) l, exact b a l (omega arith)) at one)
+      let row : rowSymmetricF leg size a ≡ true = all-counted (rowSymmetricF leg size) 0 size e a zero-le (omega arith) in
+      let one : legsEqualF (leg a b) (leg b a) ≡ true = all-counted (λ (j : ℕ). legsEqualF (leg a j) (leg j a)) (suc a) (size - suc a) row b (omega arith) (omega arith) in
+      equal-same (far a b) (far b a) (small a b) (small b a) (rw (exact a b (omega arith) l, exact b a l (omega arith)) at one)
 
   pub symmetric-same : (a b : ℕ) → a < size → b < size → far a b ≡ far b a
   symmetric-same a b p q =

@@ -1,5 +1,5 @@
 -- Sums over a list, one element at a time: what is left of it, on top of what is reckoned already. Assumes nothing.
-use Prim.Native.Nat.{ℕ, zero, suc, _+_, _-_, _<_, _≤_}
+use Prim.Native.Nat.{ℕ, _+_, _<_, _≤_}
 use native.Mathlib.Numerals.{add-one}
 use native.Mathlib.Omega.{arith}
 use mathlib.Core.Path.{_≡_, refl, sym}
@@ -11,7 +11,7 @@ use lib.Ieee.{Float, binary64, nan}
 use Rattle.whole.specs.Bits.{fl-zero}
 use Rattle.whole.specs.Later.{laterF}
 use Rattle.local_search.specs.Gain.{largestF}
-use Rattle.local_search.specs.Delta.{placeBefore, turnedLegsF, homeF, routeDistanceF}
+use Rattle.local_search.specs.Route.{homeF, routeDistanceF}
 
 -- ---- the largest distance
 
@@ -24,26 +24,7 @@ module _ (distances : List Float) (most : Float) where
   unfolding largestF
   largest-end k h = rw (drop-of-length-le distances h)
 
--- ---- the place before a call
-
-pub place-before : (route : List ℕ) (i : ℕ) → (i ≡ 0 → ⊥) → getD route (i - 1) 0 ≡ placeBefore route i
-unfolding placeBefore
-place-before route zero h = absurd (h refl)
-place-before route (suc k) h = let z : suc k - 1 ≡ k = omega arith in rw z
-
 module _ (leg : ℕ → ℕ → Float) where
-  -- ---- the legs of a stretch that is turned
-
-  module _ (segment : List ℕ) (sum : Float) (prev k : ℕ) where
-    pub turned-legs-turn : (back there : Float) → k < length segment → back ≡ leg (getD segment k 0) prev → there ≡ leg prev (getD segment k 0)
-        → turnedLegsF leg sum prev (drop k segment) ≡ turnedLegsF leg (Ieee.add binary64 sum (Ieee.sub binary64 back there)) (getD segment k 0) (drop (k + 1) segment)
-    unfolding turnedLegsF
-    turned-legs-turn back there h b t = rw (b, t, add-one k, drop-cons segment k 0 h)
-
-    pub turned-legs-end : length segment ≤ k → turnedLegsF leg sum prev (drop k segment) ≡ sum
-    unfolding turnedLegsF
-    turned-legs-end h = rw (drop-of-length-le segment h)
-
   -- ---- the distance of a run
 
   module _ (route : List ℕ) (far : Float) (prev k : ℕ) where

@@ -17,22 +17,22 @@ abbrev pub scaleF : List Float → Float
 scaleF distances = largestF (fl 0) distances
 
 -- the difference is neither above nor below 0
-unfoldable pub evenF : Float → Float → Bool
-evenF there back =
+unfoldable pub legsEqualF : Float → Float → Bool
+legsEqualF there back =
     let d = Ieee.sub binary64 there back in
     not (Ieee.lt (fl 0) d) && not (Ieee.lt d (fl 0))
 
 module _ (leg : ℕ → ℕ → Float) where
   -- the legs between place i and these
-  abbrev pub allEvenF : ℕ → List ℕ → Bool
-  allEvenF i js = all (λ j. evenF (leg i j) (leg j i)) js
+  abbrev pub allEqualF : ℕ → List ℕ → Bool
+  allEqualF i js = all (λ j. legsEqualF (leg i j) (leg j i)) js
 
   -- and each place after it, of so many
-  abbrev pub rowEvenF : ℕ → ℕ → Bool
-  rowEvenF size i = allEvenF i (count (suc i) (size - suc i))
+  abbrev pub rowSymmetricF : ℕ → ℕ → Bool
+  rowSymmetricF size i = allEqualF i (count (suc i) (size - suc i))
 
-  abbrev pub rowsEvenF : ℕ → List ℕ → Bool
-  rowsEvenF size is = all (rowEvenF size) is
+  abbrev pub rowsSymmetricF : ℕ → List ℕ → Bool
+  rowsSymmetricF size is = all (rowSymmetricF size) is
 
   unfoldable pub symmetricF : ℕ → Bool
-  symmetricF size = rowsEvenF size (count 0 size)
+  symmetricF size = rowsSymmetricF size (count 0 size)

@@ -1,35 +1,16 @@
 -- What an improver is told of a sheet besides its records and tables, on floats, as the code has it. Definitions only.
 use Prim.Native.Nat.{ℕ}
-use mathlib.Core.Bool.{Bool, _||_}
+use mathlib.Core.Bool.{Bool}
 use mathlib.Core.List.{List}
-use lib.ListN.{take}
 use lib.Ieee.{Float}
-use Rattle.basics.specs.Options.{present}
-use Rattle.basics.specs.Lists.{any}
-use Rattle.definitions.specs.Sheet.{CustomerOf}
+use Rattle.definitions.specs.Sheet.{CustomerOf, Sheet}
 use Rattle.whole.specs.Gain.{gainFloorF}
 use Rattle.distance.specs.Lookup.{lookupF}
-use Rattle.evaluation.specs.Records.{LimitsF, limitsOf}
+use Rattle.evaluation.specs.Records.{Tables, LimitsF, limitsOf}
+use Rattle.evaluation.specs.Checks.{checksNeededF}
+use Rattle.evaluation.specs.Image.{flLimits}
 use Rattle.local_search.specs.declared.search.Search.{Search}
 use Rattle.local_search.specs.Gain.{scaleF, symmetricF}
-
--- ---- whether `route_feasible` has to be asked
-
-abbrev pub windowed : {F : Type 0} → CustomerOf F → Bool
-windowed c = present (c .window)
-
-abbrev pub windowedAny : {F : Type 0} → List (CustomerOf F) → Bool
-windowedAny l = any windowed l
-
--- a limit or a break is set
-abbrev pub limitedF : LimitsF → Bool
-limitedF l = present (l .maxDistance) || (present (l .maxDuration) || present (l .rest))
-
--- or one of the first n customers has a window
-unfoldable pub checksNeededF : List (CustomerOf Float) → ℕ → LimitsF → Bool
-checksNeededF customers n limits = windowedAny (take n customers) || limitedF limits
-
--- ---- what is told
 
 pub record SearchF : Type 0 where
   pub limits : LimitsF
@@ -50,3 +31,7 @@ searchF customers distances size limits =
       symmetric = symmetricF (lookupF distances size) size;
       floor = gainFloorF (scaleF distances);
     }
+
+-- what it is told of a sheet of whole numbers, held in these tables
+abbrev pub told : Sheet → Tables → SearchF
+told s t = searchF (t .customers) (t .distances) (t .size) (flLimits s)

@@ -3,7 +3,7 @@ ghost use mathlib.Core.Path.{_≡_};
 ghost use Prim.Native.Nat.{_<_};
 ghost use Rattle.distance.specs.Lookup.{lookupF};
 ghost use Rattle.whole.specs.Gain.{gainFloorF};
-ghost use Rattle.local_search.specs.Gain.{scaleF, evenF, rowEvenF, symmetricF};
+ghost use Rattle.local_search.specs.Gain.{scaleF, legsEqualF, rowSymmetricF, symmetricF};
 use distance::matrix::get;
 use whole::later;
 
@@ -28,8 +28,8 @@ pub fn gain_floor(scale: f64) -> f64
 }
 
 // Whether the way back is as long as the way there: their difference is neither above nor below 0.
-pub fn even(there: f64, back: f64) -> bool
-    ensures { λ r. ⌜ r ≡ evenF there back ⌝ }
+pub fn legs_equal(there: f64, back: f64) -> bool
+    ensures { λ r. ⌜ r ≡ legsEqualF there back ⌝ }
 {
     let d = there - back;
     if 0.0 < d {
@@ -39,13 +39,13 @@ pub fn even(there: f64, back: f64) -> bool
 }
 
 // The same between place i and each place after it.
-pub fn row_even(distances: &[f64], size: usize, i: usize) -> bool
+pub fn row_symmetric(distances: &[f64], size: usize, i: usize) -> bool
     requires { ⌜ i < size ⌝ }
-    ensures { λ r. ⌜ r ≡ rowEvenF (lookupF (now (distances .entry)) size) size i ⌝ }
+    ensures { λ r. ⌜ r ≡ rowSymmetricF (lookupF (now (distances .entry)) size) size i ⌝ }
 {
     let mut j = i + 1;
     while j < size {
-        if !even(get(distances, size, i, j), get(distances, size, j, i)) {
+        if !legs_equal(get(distances, size, i, j), get(distances, size, j, i)) {
             return false;
         }
         j += 1;
@@ -59,7 +59,7 @@ pub fn symmetric(distances: &[f64], size: usize) -> bool
 {
     let mut i = 0;
     while i < size {
-        if !row_even(distances, size, i) {
+        if !row_symmetric(distances, size, i) {
             return false;
         }
         i += 1;

@@ -1,6 +1,5 @@
-// The improvers of runs, and what they are told of a sheet.
-pub mod begun;
+// What the improvers of runs stand on: the least gain that counts, what they are told of a sheet, the distance of a run, and a run whose first calls are fixed.
 pub mod gain;
-pub mod reverse;
+pub mod prefix;
+pub mod route;
 pub mod search;
-pub mod two_opt;

@@ -14,10 +14,10 @@ use borrow.Author.Tests.{leb-true, leb-false, eq-eqb, ne-eqb}
 use Rattle.basics.specs.Tests.{by-test}
 use Rattle.definitions.specs.Sheet.{BreakOf, CustomerOf}
 use Rattle.definitions.specs.Marker.{differ}
-use Rattle.evaluation.specs.declared.schedule.Label.{Label}
+use Rattle.clock.specs.declared.schedule.Label.{Label}
+use Rattle.clock.specs.Serving.{serveF}
+use Rattle.clock.specs.Clock.{homeF}
 use Rattle.evaluation.specs.Records.{Tables}
-use Rattle.evaluation.specs.Serving.{serveF}
-use Rattle.evaluation.specs.Clock.{homeF}
 use Rattle.evaluation.specs.Tables.{recordF, distanceF, timeF}
 use Rattle.marker.specs.declared.walk.Walked.the-variants.{Stopped, Home}
 use Rattle.marker.specs.Walking.{breakAtF, callFaultF, walkF}

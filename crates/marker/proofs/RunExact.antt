@@ -2,7 +2,7 @@
 use Prim.Native.Nat.{ℕ, zero, suc, _+_, _≤_}
 use native.Mathlib.Omega.{arith}
 use native.Mathlib.Nat.{zero-add}
-use mathlib.Core.Path.{_≡_, refl, ap₂}
+use mathlib.Core.Path.{_≡_, refl, ap₂, _∙_}
 use mathlib.Core.List.{List, [], _∷_}
 use mathlib.Core.Option.{Option, none, some, Option·map}
 use lib.ListN.{length}
@@ -22,9 +22,11 @@ use Rattle.bounds.specs.CostBounds.{price-room}
 use Rattle.whole.specs.Whole.{fl, limit, fl-le, fl-sum}
 use Rattle.models.specs.Image.{flBreak}
 use Rattle.models.proofs.Exact.{Small, limit-exact, within-exact}
-use Rattle.evaluation.specs.Serving.{startLabel}
-use Rattle.evaluation.specs.Tables.{loadF}
-use Rattle.evaluation.specs.Image.{flTotals, flLimits}
+use Rattle.clock.specs.Serving.{startLabel}
+use Rattle.clock.specs.Image.{flTotals}
+use Rattle.evaluation.specs.Tables.{demandsOf, loadF}
+use Rattle.evaluation.specs.Image.{flLimits}
+use Rattle.evaluation.proofs.Demands.{asked}
 use Rattle.evaluation.proofs.ClockExact.{demand-exact}
 use Rattle.marker.specs.declared.walk.Walked.{Walked}
 use Rattle.marker.specs.declared.run.Marked.{Marked}
@@ -40,10 +42,10 @@ runOf calls place = record { calls = calls; place = place }
 -- ---- load
 
 module _ (s : Sheet) (S : Sized s) (G : Ground) (I : Image s G) where
-  load-exact : (calls : List ℕ) → All (Place s) calls → loadF (G .tables .customers) calls ≡ load s calls
+  load-exact : (calls : List ℕ) → All (Place s) calls → loadF (demandsOf (G .tables .customers)) calls ≡ load s calls
   unfolding loadF
   load-exact [] i = refl
-  load-exact (c ∷ cs) i = ap₂ _+_ (demand-exact s S (G .tables .customers) (I .tables-hold .records-are) c (i .0)) (load-exact cs (i .1))
+  load-exact (c ∷ cs) i = ap₂ _+_ (asked (G .tables .customers) c ∙ demand-exact s S (G .tables .customers) (I .tables-hold .records-are) c (i .0)) (load-exact cs (i .1))
 
 -- ---- totals
 

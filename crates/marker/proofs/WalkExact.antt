@@ -25,12 +25,14 @@ use Rattle.whole.specs.Later.{later-fl}
 use Rattle.models.specs.Image.{flWindow, flBreak, flCustomer}
 use Rattle.models.specs.Window.{dueF}
 use Rattle.models.proofs.Exact.{due-exact}
+use Rattle.clock.specs.Serving.{breakStartF, serveF}
+use Rattle.clock.specs.Image.{flLabel, flTotals}
+use Rattle.clock.proofs.ServingExact.{ready-exact}
+use Rattle.clock.proofs.HomeExact.{ended, home-exact}
 use Rattle.evaluation.specs.Records.{Tables}
-use Rattle.evaluation.specs.Serving.{breakStartF, serveF}
 use Rattle.evaluation.specs.Tables.{recordF, timeF}
-use Rattle.evaluation.specs.Image.{flLabel, flTotals, Image}
-use Rattle.evaluation.proofs.ServingExact.{ready-exact}
-use Rattle.evaluation.proofs.ClockExact.{ended, home-exact, record-exact, distance-exact, time-exact, carry-exact}
+use Rattle.evaluation.specs.Image.{Image}
+use Rattle.evaluation.proofs.ClockExact.{record-exact, distance-exact, time-exact, carry-exact}
 use Rattle.marker.specs.declared.verdict.Verdict.the-variants.{BreakTooLate, WindowMissed}
 use Rattle.marker.specs.declared.walk.Walked.{Walked}
 use Rattle.marker.specs.declared.walk.Walked.the-variants.{Stopped, Home}

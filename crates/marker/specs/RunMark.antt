@@ -13,11 +13,11 @@ use Rattle.models.specs.declared.customer.Customer.{Customer}
 use Rattle.models.specs.declared.head.Head.{Head}
 use Rattle.models.specs.Limits.{limitF, withinF}
 use Rattle.models.specs.Load.{fitsLoad}
-use Rattle.evaluation.specs.declared.schedule.Scheduled.{Scheduled}
+use Rattle.clock.specs.declared.schedule.Scheduled.{Scheduled}
+use Rattle.clock.specs.Serving.{startLabel}
+use Rattle.clock.specs.Clock.{excusedF}
 use Rattle.evaluation.specs.Records.{Tables, LimitsF, lent, limitsOf}
-use Rattle.evaluation.specs.Serving.{startLabel}
-use Rattle.evaluation.specs.Clock.{excusedF}
-use Rattle.evaluation.specs.Tables.{loadF}
+use Rattle.evaluation.specs.Tables.{demandsOf, loadF}
 use Rattle.marker.specs.declared.verdict.Verdict.the-variants.{Overload, BreakMissing, TooFar, TooLong}
 use Rattle.marker.specs.declared.walk.Walked.{Walked}
 use Rattle.marker.specs.declared.walk.Walked.the-variants.{Stopped, Home}
@@ -67,7 +67,7 @@ walkMarkF limits fixed n place calls (Home t) = totalsMarkF limits fixed n place
 -- run n: load, the calls, the totals
 unfoldable pub runMarkF : Ground → ℕ → List ℕ → ℕ → Marked
 runMarkF G n calls place =
-    let load = loadF (G .tables .customers) calls in
+    let load = loadF (demandsOf (G .tables .customers)) calls in
     cond (fitsLoad load (G .capacity))
     (walkMarkF (G .limits) (G .fixed) n place (length calls) (walkF (G .tables) (G .limits .rest) n place 1 (fl 0) 0 startLabel calls))
     (Faulty (Overload n load (G .capacity)))

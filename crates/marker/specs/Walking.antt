@@ -10,10 +10,10 @@ use Rattle.basics.specs.Options.{valueOr}
 use Rattle.definitions.specs.Sheet.{BreakOf, CustomerOf}
 use Rattle.whole.specs.Whole.{fl}
 use Rattle.models.specs.Window.{dueF}
-use Rattle.evaluation.specs.declared.schedule.Label.{Label}
+use Rattle.clock.specs.declared.schedule.Label.{Label}
+use Rattle.clock.specs.Serving.{breakStartF, readyF, serveF}
+use Rattle.clock.specs.Clock.{homeF}
 use Rattle.evaluation.specs.Records.{Tables}
-use Rattle.evaluation.specs.Serving.{breakStartF, readyF, serveF}
-use Rattle.evaluation.specs.Clock.{homeF}
 use Rattle.evaluation.specs.Tables.{recordF, distanceF, timeF}
 use Rattle.marker.specs.declared.verdict.Verdict.{Verdict}
 use Rattle.marker.specs.declared.verdict.Verdict.the-variants.{BreakTooLate, WindowMissed}

@@ -1,17 +1,21 @@
 // The mark of a cutting: its calls against those that the planner serves, its runs one by one, and its cost against the planner's.
 ghost use mathlib.Core.Path.{_≡_};
 ghost use mathlib.Core.Bool.{false};
+ghost use mathlib.Core.List.{map};
 ghost use Prim.Native.Nat.{_≤_};
 ghost use lib.ListN.{length};
 ghost use Rattle.whole.specs.Whole.{fl};
 ghost use Rattle.definitions.specs.Marker.{differ, withPlaces};
 ghost use Rattle.definitions.specs.RunList.{runsOf};
 ghost use Rattle.definitions.specs.Refusals.{endsFall};
+ghost use Rattle.models.specs.Records.{customerOf};
+ghost use Rattle.evaluation.specs.Tables.{demandsOf};
 ghost use Rattle.marker.specs.RunMark.{groundOf};
 ghost use Rattle.marker.specs.Marks.{differenceOf, againstF, runsMarkF, markF};
 use crate::run::Marked;
 use crate::run::mark_run;
 use crate::verdict::Verdict;
+use evaluation::load::demands_of;
 use models::count::fewer;
 use models::customer::Customer;
 use models::head::Head;
@@ -47,11 +51,12 @@ pub fn mark_runs(
     ends: &[usize],
     places: &[usize],
     customers: [Customer; 64],
+    demands: &[u32; 64],
     distances: &[f64],
     times: &[f64],
     head: Head,
 ) -> Marked
-    requires { ⌜ (length (now calls) ≤ 128) × (length (now ends) ≤ length (now places)) ⌝ }
+    requires { ⌜ (length (now calls) ≤ 128) × (length (now ends) ≤ length (now places)) × (now demands ≡ demandsOf (map customerOf customers)) ⌝ }
     requires { ⌜ endsFall 0 (now ends) (length (now calls)) ≡ false ⌝ }
     ensures { λ r. ⌜ r ≡ runsMarkF (groundOf customers (now (distances .entry)) (now (times .entry)) head) 1 (fl 0) (withPlaces (runsOf (now (calls .entry)) (now (ends .entry))) (now (places .entry))) ⌝ }
 {
@@ -62,7 +67,16 @@ pub fn mark_runs(
         let e = ends[k];
         let place = places[k];
         k += 1;
-        let marked = mark_run(k, &calls[p..e], place, customers, distances, times, head);
+        let marked = mark_run(
+            k,
+            &calls[p..e],
+            place,
+            customers,
+            demands,
+            distances,
+            times,
+            head,
+        );
         let Marked::Costs(cost) = marked else {
             return marked;
         };
@@ -104,7 +118,17 @@ pub fn mark(
     if let Difference::At(position) = differ(calls, served) {
         return Verdict::OtherCalls { position };
     }
-    match mark_runs(calls, ends, places, customers, distances, times, head) {
+    let demands = demands_of(customers);
+    match mark_runs(
+        calls,
+        ends,
+        places,
+        customers,
+        &demands,
+        distances,
+        times,
+        head,
+    ) {
         Marked::Faulty(v) => v,
         Marked::Costs(total) => against(cost, total),
     }

@@ -1,17 +1,19 @@
 // The mark of one run: load, the walk through its calls and its totals are tested in this order.
 ghost use mathlib.Core.Path.{_≡_};
+ghost use mathlib.Core.List.{map};
 ghost use Prim.Native.Nat.{_≤_};
 ghost use lib.ListN.{length};
-ghost use Rattle.models.specs.Records.{restOf};
+ghost use Rattle.models.specs.Records.{customerOf, restOf};
 ghost use Rattle.evaluation.specs.Records.{limitsOf};
+ghost use Rattle.evaluation.specs.Tables.{demandsOf};
 ghost use Rattle.marker.specs.RunMark.{groundOf, placedF, totalsMarkF, runMarkF};
 use crate::verdict::Verdict;
 use crate::walk::Walked;
 use crate::walk::break_or;
 use crate::walk::walk;
+use clock::schedule::Scheduled;
+use clock::schedule::excused;
 use evaluation::load::load_of;
-use evaluation::schedule::Scheduled;
-use evaluation::schedule::excused;
 use models::customer::Customer;
 use models::head::Head;
 use models::limits::RouteLimits;
@@ -79,20 +81,22 @@ pub fn mark_totals(
     Marked::Costs(fixed + distance + totals.cost)
 }
 
-// The first fault of run number `run` with its break place, or its cost.
+// The first fault of run number `run` with its break place, or its cost. The demands are those of the customers.
 pub fn mark_run(
     run: usize,
     calls: &[usize],
     place: usize,
     customers: [Customer; 64],
+    demands: &[u32; 64],
     distances: &[f64],
     times: &[f64],
     head: Head,
 ) -> Marked
     requires { ⌜ length (now calls) ≤ 128 ⌝ }
+    requires { ⌜ now demands ≡ demandsOf (map customerOf customers) ⌝ }
     ensures { λ r. ⌜ r ≡ runMarkF (groundOf customers (now (distances .entry)) (now (times .entry)) head) run (now (calls .entry)) place ⌝ }
 {
-    let load = load_of(calls, customers);
+    let load = load_of(calls, demands);
     let capacity = head.capacity;
     if !fits(load, capacity) {
         return Marked::Faulty(Verdict::Overload {

@@ -2,24 +2,24 @@
 ghost use mathlib.Core.Path.{_≡_};
 ghost use Rattle.whole.specs.Whole.{fl};
 ghost use Rattle.models.specs.Records.{customerOf, breakOf, restOf};
+ghost use Rattle.clock.specs.Serving.{startLabel};
 ghost use Rattle.evaluation.specs.Records.{lent};
-ghost use Rattle.evaluation.specs.Serving.{startLabel};
 ghost use Rattle.marker.specs.Walking.{breakAtF, breakOrF, callFaultF, walkF};
 use crate::verdict::Verdict;
+use clock::schedule::Label;
+use clock::schedule::Reached;
+use clock::schedule::Ready;
+use clock::schedule::Scheduled;
+use clock::schedule::break_start_at;
+use clock::schedule::ready_at;
+use clock::schedule::serve;
 use distance::matrix::get;
 use distance::matrix::travel_time;
-use evaluation::schedule::Label;
-use evaluation::schedule::Reached;
-use evaluation::schedule::Ready;
-use evaluation::schedule::Scheduled;
-use evaluation::schedule::ready_at;
 use evaluation::schedule::record_index;
-use evaluation::schedule::serve;
 use models::customer::Customer;
 use models::customer::due_or_zero;
 use models::vehicle::Rest;
 use models::vehicle::VehicleBreak;
-use whole::later;
 
 // Stopped by a fault at a call, or home with the run's totals.
 pub enum Walked {
@@ -66,7 +66,7 @@ pub fn call_fault(
                 run,
                 place: k,
                 customer: cid,
-                start: later(arrival, b.earliest),
+                start: break_start_at(b, arrival),
                 latest: b.latest,
             }
         }

@@ -20,7 +20,7 @@ use Rattle.report.proofs.PlanExact.{plan-whole}
 use Rattle.report.proofs.PlanRoom.{plan-rises, plan-room}
 use Rattle.ga.specs.declared.split.SplitResult.{SplitResult}
 use Rattle.ga.specs.Answer.{ResultF, Counted}
-use Rattle.stretch.specs.Stops.{Below64}
+use Rattle.stops.specs.Stops.{Below64}
 use Rattle.stretch.specs.Runs.{lent}
 use Rattle.ga.specs.SplitTw.{splitTwF}
 use Rattle.exact.specs.Image.{flResult}

@@ -28,6 +28,7 @@ use Rattle.bounds.specs.Bounds.{start-most}
 use Rattle.bounds.specs.CostBounds.{arc-priced, plan-fits}
 use Rattle.models.specs.Image.{flBreak}
 use Rattle.evaluation.specs.Records.{Tables}
+use Rattle.evaluation.specs.Route.{breakF}
 use Rattle.evaluation.specs.Image.{Image}
 use Rattle.evaluation.proofs.RouteExact.{totals-exact, start-exact}
 use Rattle.report.specs.declared.shown.Shown.{Shown}
@@ -57,7 +58,7 @@ module _ (s : Sheet) (S : Sized s) (t : Tables) (I : Image s t) where
     started (suc k) (some v) e = rw (whole-part-fl v (omega (arith, start-most s S (r .calls) (suc k) few v e))) refl
 
     shown-by-clock : holds (clock s (r .calls)) (λ u. eqb (u .place) (r .place)) ≡ true → restText (r .place) (startOf s r) ≡ restText (by (r .calls) .place) (startIf (by (r .calls) .place) (by (r .calls) .start))
-    unfolding shownF
+    unfolding shownF breakF
     shown-by-clock h =
         let u = held (clock s (r .calls)) (λ u. eqb (u .place) (r .place)) h in
         let p : u .0 .place ≡ r .place = eqb-true (u .0 .place) (r .place) (u .2) in

@@ -5,16 +5,17 @@ use mathlib.Core.Option.{Option, some}
 use lib.Ieee.{Float}
 use Rattle.basics.specs.Options.{_>>=_, valueOr}
 use Rattle.definitions.specs.Sheet.{BreakOf}
-use Rattle.evaluation.specs.Records.{Tables}
-use Rattle.evaluation.specs.Route.{totalsF, startF}
+use Rattle.evaluation.specs.Records.{Tables, TakenF}
+use Rattle.evaluation.specs.Route.{breakF}
 use Rattle.report.specs.declared.shown.Shown.{Shown}
 use Rattle.report.specs.Number.{wholePart}
 
 abbrev pub noBreak : Shown
 noBreak = record { place = 0; start = 0 }
 
--- the place by the clock, and the start
+-- a break that starts, with its start as a whole number
+abbrev pub shown : TakenF → Shown
+shown b = valueOr noBreak (b .start >>= λ x. some (record { place = b .place; start = wholePart x }))
+
 unfoldable pub shownF : Tables → Option (BreakOf Float) → List ℕ → Shown
-shownF t rest calls =
-    valueOr noBreak
-    (totalsF t rest calls >>= λ h. startF t rest (h .place) calls >>= λ x. some (record { place = h .place; start = wholePart x }))
+shownF t rest calls = shown (breakF t rest calls)

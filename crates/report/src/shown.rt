@@ -5,9 +5,7 @@ ghost use Rattle.evaluation.specs.Records.{lent};
 ghost use Rattle.report.specs.Shown.{shownF};
 use crate::number::whole_part;
 use evaluation::route::Start;
-use evaluation::route::start_of;
-use evaluation::route::totals;
-use evaluation::schedule::Finished;
+use evaluation::route::break_of;
 use models::customer::Customer;
 use models::vehicle::Rest;
 
@@ -28,15 +26,13 @@ pub fn break_shown(
 ) -> Shown
     ensures { λ r. ⌜ r ≡ shownF (lent customers (now (distances .entry)) (now (times .entry)) size) (restOf rest) (now (run .entry)) ⌝ }
 {
-    let Finished::Home(home) = totals(run, customers, distances, times, size, rest) else {
-        return Shown { place: 0, start: 0 };
-    };
-    let place = home.place;
-    let Start::At(time) = start_of(run, customers, distances, times, size, rest, place) else {
-        return Shown { place: 0, start: 0 };
-    };
-    Shown {
-        place,
-        start: whole_part(time),
+    let b = break_of(run, customers, distances, times, size, rest);
+    let start = b.start;
+    match start {
+        Start::Unbroken => Shown { place: 0, start: 0 },
+        Start::At(time) => Shown {
+            place: b.place,
+            start: whole_part(time),
+        },
     }
 }

@@ -18,11 +18,11 @@ use evaluation::route::effective_cost;
 use evaluation::route::route_feasible;
 use lists::runs::ends_fall;
 use local_search::search::search_of;
-use local_search::two_opt::two_opt_improve;
 use models::count::fewer;
 use plan_listing::held::Loaded;
 use ranges::customers::Test;
 use ranges::customers::any_fits;
+use two_opt::two_opt::two_opt_improve;
 use visits::evaluator::build_route;
 
 // The visits of a run.

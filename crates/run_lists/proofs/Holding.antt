@@ -13,6 +13,7 @@ use Rattle.basics.specs.Tests.{not-false, or-left, or-right, or-false}
 use Rattle.definitions.specs.Refusals.{endsFall}
 use Rattle.definitions.specs.RunList.{runsOf, callsOf, endsFrom, endsOf}
 use Rattle.definitions.proofs.RunListLaws.{RiseTo, runs-back, calls-back, ends-back, ends-many}
+use Rattle.evaluation.specs.Tables.{placeBefore}
 use Rattle.run_lists.specs.declared.runs.Runs.{Runs}
 use Rattle.run_lists.specs.RunLists.{room, Front, startIn, runsIn, Sound, runAt}
 use Rattle.run_lists.proofs.Fronts.{front-at}
@@ -104,7 +105,7 @@ ends-at p (r ∷ rs) zero h = ap (λ (l : List ℕ). p + length l) (sym (append-
 ends-at p (r ∷ rs) (suc j) h = ends-at (p + length r) rs j (le-of-suc-le-suc h) ∙ omega (arith, length-append r (callsOf (take (suc j) rs)))
 
 pub start-is : (rs : List (List ℕ)) (r : Runs) → Held rs r → (k : ℕ) → k ≤ length rs → startIn (r .ends) k ≡ startAt rs k
-unfolding startAt
+unfolding startAt placeBefore
 start-is rs r H zero h = refl
 start-is rs r H (suc j) h = front-at (H .ends-front) j 0 (omega (arith, ends-many 0 rs)) ∙ ends-at 0 rs j h ∙ zero-add _
 

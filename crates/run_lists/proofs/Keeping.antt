@@ -13,6 +13,7 @@ use borrow.Author.Tests.{lt-ltb, le-ltb}
 use Rattle.definitions.specs.RunList.{callsOf, endsOf}
 use Rattle.definitions.specs.Elimination.{nonEmpty}
 use Rattle.definitions.proofs.RunListLaws.{ends-many}
+use Rattle.evaluation.specs.Tables.{placeBefore}
 use Rattle.run_lists.specs.declared.runs.Runs.{Runs}
 use Rattle.run_lists.specs.RunLists.{room, Front, runsIn, Sound, runAt}
 use Rattle.run_lists.proofs.Fronts.{front-same}
@@ -115,6 +116,7 @@ kept-all r S i n prev kept K h =
 
 -- what the loop reads
 pub end-read : (r : Runs) (S : Sound r) (i : ℕ) → i < r .count → (i < length (runsIn r)) × (length (runsIn r) ≤ room) × (getD (r .ends) i 0 ≡ startAt (runsIn r) (suc i))
+unfolding placeBefore
 end-read r S i h =
     let b : i < length (runsIn r) = subst (λ (n : ℕ). i < n) (held r S .count-is) h in
     (b, subst (λ (n : ℕ). n ≤ room) (held r S .count-is) (S .runs-fit), start-is (runsIn r) r (held r S) (suc i) b)

@@ -6,6 +6,7 @@ use mathlib.Core.List.{List, [], _∷_, _++_}
 use lib.ListN.{length, getD, take, drop}
 use Rattle.definitions.specs.RunList.{runsOf}
 use Rattle.definitions.specs.Refusals.{endsFall}
+use Rattle.evaluation.specs.Tables.{placeBefore}
 use Rattle.run_lists.specs.declared.runs.Runs.{Runs}
 
 -- as many calls, and as many run ends, as a run list has room for
@@ -20,8 +21,7 @@ pub record Front {A : Type 0} (l a : List A) : Type 0 where
 
 -- where run k starts: the end of the run before it
 abbrev pub startIn : List ℕ → ℕ → ℕ
-startIn ends zero = 0
-startIn ends (suc k) = getD ends k 0
+startIn ends k = placeBefore ends k
 
 abbrev pub runsIn : Runs → List (List ℕ)
 runsIn r = runsOf (take (r .many) (r .calls)) (take (r .count) (r .ends))

@@ -25,11 +25,12 @@ use Rattle.definitions.proofs.Promised.{promised}
 use Rattle.bounds.specs.Inside.{Sized, Place}
 use Rattle.models.specs.Image.{flBreak}
 use Rattle.evaluation.specs.Records.{Tables}
+use Rattle.evaluation.specs.Route.{breakF}
 use Rattle.evaluation.specs.Image.{Image}
 use Rattle.evaluation.proofs.RouteExact.{totals-exact, start-exact}
 use Rattle.report.proofs.PlanRuns.{all-both, runs-are, placed-are, served-few, served-inside}
-use Rattle.sheet_plan.specs.declared.breaks.Taken.{Taken}
-use Rattle.sheet_plan.specs.Breaks.{breakF}
+use Rattle.sheet_plan.specs.declared.breaks.Figures.{Figures}
+use Rattle.sheet_plan.specs.Breaks.{figuresF}
 use Rattle.sheet_plan.specs.Plan.{startsOf}
 
 value-fl : (o : Option ℕ) → valueOr (fl 0) (Option·map fl o) ≡ fl (valueOr 0 o)
@@ -37,7 +38,7 @@ value-fl none = refl
 value-fl (some n) = refl
 
 -- the break of a run at its place
-abbrev taken : Sheet → Run → Taken
+abbrev taken : Sheet → Run → Figures
 taken s r = record { place = r .place; start = fl (valueOr 0 (startOf s r)) }
 
 taken-places : (s : Sheet) (runs : List Run) → map (λ b. b .place) (map (taken s) runs) ≡ map (λ r. r .place) runs
@@ -49,11 +50,11 @@ taken-starts s [] = refl
 taken-starts s (r ∷ rs) = ap (λ (l : List Float). fl (valueOr 0 (startOf s r)) ∷ l) (taken-starts s rs)
 
 module _ (s : Sheet) (S : Sized s) (t : Tables) (I : Image s t) where
-  abbrev by : List ℕ → Taken
-  by = breakF t (Option·map flBreak (s .rest))
+  abbrev by : List ℕ → Figures
+  by = figuresF t (Option·map flBreak (s .rest))
 
   by-clock : (r : Run) → length (r .calls) ≤ mostCalls → All (Place s) (r .calls) → holds (clock s (r .calls)) (λ u. eqb (u .place) (r .place)) ≡ true → by (r .calls) ≡ taken s r
-  unfolding breakF
+  unfolding figuresF breakF
   by-clock r few i h =
       let u = held (clock s (r .calls)) (λ u. eqb (u .place) (r .place)) h in
       let p : u .0 .place ≡ r .place = eqb-true (u .0 .place) (r .place) (u .2) in
@@ -65,7 +66,7 @@ module _ (s : Sheet) (S : Sized s) (t : Tables) (I : Image s t) where
       let b = both (holds (clock s (r .calls)) (λ u. eqb (u .place) (r .place))) (byClock s rs) h in
       let a = all-both (Place s) (r .calls) (joined rs) i in
       let n = length-append (r .calls) (joined rs) in
-      ap₂ (λ (x : Taken) (l : List Taken). x ∷ l) (by-clock r (omega arith) (a .0) (b .0)) (all-by-clock rs (omega arith) (a .1) (b .1))
+      ap₂ (λ (x : Figures) (l : List Figures). x ∷ l) (by-clock r (omega arith) (a .0) (b .0)) (all-by-clock rs (omega arith) (a .1) (b .1))
 
   module _ (tour : List ℕ) (few : length tour ≤ mostCalls) (i : All (Place s) tour) where
     abbrev plan : Result
@@ -80,10 +81,10 @@ module _ (s : Sheet) (S : Sized s) (t : Tables) (I : Image s t) where
         ∙ all-by-clock (P .runs) (served-few s tour S few) (served-inside s tour S i) (P .clocked)
 
     pub places-found : map (λ b. b .place) (map by (runsOf (plan .served) (plan .ends))) ≡ plan .places
-    places-found = ap (λ (l : List Taken). map (λ b. b .place) l) breaks-are ∙ taken-places s (P .runs) ∙ P .places-are
+    places-found = ap (λ (l : List Figures). map (λ b. b .place) l) breaks-are ∙ taken-places s (P .runs) ∙ P .places-are
 
     pub starts-found : map (λ b. b .start) (map by (runsOf (plan .served) (plan .ends))) ≡ map fl (startsOf s plan)
     starts-found =
-        ap (λ (l : List Taken). map (λ b. b .start) l) breaks-are
+        ap (λ (l : List Figures). map (λ b. b .start) l) breaks-are
         ∙ taken-starts s (P .runs)
         ∙ ap (λ (rs : List Run). map fl (map (λ r. valueOr 0 (startOf s r)) rs)) (sym (placed-are s tour))

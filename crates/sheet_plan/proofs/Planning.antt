@@ -20,16 +20,16 @@ use Rattle.report.proofs.PlanRoom.{few-ends, served-and-dropped}
 use Rattle.plan_listing.specs.Held.{InMemory}
 use Rattle.plan_listing.specs.Cut.{CutLeft}
 use Rattle.plan_listing.proofs.Planned.{served-are, ends-are}
-use Rattle.sheet_plan.specs.declared.breaks.Taken.{Taken}
-use Rattle.sheet_plan.specs.Breaks.{breakF}
+use Rattle.sheet_plan.specs.declared.breaks.Figures.{Figures}
+use Rattle.sheet_plan.specs.Breaks.{figuresF}
 use Rattle.sheet_plan.specs.Plan.{startsOf, plan, Left}
 use Rattle.sheet_plan.proofs.BreaksFound.{places-found, starts-found}
 
 module _ (s : Sheet) (tour : List ℕ) (head : Head) (customers : List Customer) (distances times : List Float) (H : InMemory s tour head customers distances times)
     {r : SplitResult} {served₀ ends₀ dropped₀ served ends dropped : List ℕ} (C : CutLeft (splitTw s tour) r served₀ ends₀ dropped₀ served ends dropped) where
   -- the breaks of the runs
-  abbrev breaks : List Taken
-  breaks = map (breakF (lent customers distances times (head .places)) (restOf (head .limits .rest))) (runsOf (take (r .served) served) (take (r .runs) ends))
+  abbrev breaks : List Figures
+  breaks = map (figuresF (lent customers distances times (head .places)) (restOf (head .limits .rest))) (runsOf (take (r .served) served) (take (r .runs) ends))
 
   places-are : map (λ b. b .place) breaks ≡ splitTw s tour .places
   places-are =

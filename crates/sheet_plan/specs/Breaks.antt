@@ -1,20 +1,17 @@
--- The break of a run on floats, as the code finds it. Definitions only.
+-- The break of a run on floats, in numbers alone. Definitions only.
 use Prim.Native.Nat.{ℕ}
 use mathlib.Core.List.{List}
-use mathlib.Core.Option.{Option, none, some}
+use mathlib.Core.Option.{Option}
 use lib.Ieee.{Float}
 use Rattle.basics.specs.Options.{valueOr}
 use Rattle.whole.specs.Whole.{fl}
 use Rattle.definitions.specs.Sheet.{BreakOf}
-use Rattle.evaluation.specs.declared.schedule.Scheduled.{Scheduled}
-use Rattle.evaluation.specs.Records.{Tables}
-use Rattle.evaluation.specs.Route.{totalsF, startF}
-use Rattle.sheet_plan.specs.declared.breaks.Taken.{Taken}
+use Rattle.evaluation.specs.Records.{Tables, TakenF}
+use Rattle.evaluation.specs.Route.{breakF}
+use Rattle.sheet_plan.specs.declared.breaks.Figures.{Figures}
 
--- the place by the clock, and the start
-abbrev pub takenF : Tables → Option (BreakOf Float) → List ℕ → Option Scheduled → Taken
-takenF t rest calls none = record { place = 0; start = fl 0 }
-takenF t rest calls (some h) = record { place = h .place; start = valueOr (fl 0) (startF t rest (h .place) calls) }
+abbrev pub figures : TakenF → Figures
+figures b = record { place = b .place; start = valueOr (fl 0) (b .start) }
 
-unfoldable pub breakF : Tables → Option (BreakOf Float) → List ℕ → Taken
-breakF t rest calls = takenF t rest calls (totalsF t rest calls)
+unfoldable pub figuresF : Tables → Option (BreakOf Float) → List ℕ → Figures
+figuresF t rest calls = figures (breakF t rest calls)

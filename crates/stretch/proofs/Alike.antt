@@ -6,15 +6,16 @@ use mathlib.Core.List.{List}
 use lib.ListN.{getD, take}
 use lib.Seq.{getD-take}
 use Rattle.evaluation.specs.Records.{Tables}
-use Rattle.stretch.specs.Stretch.{placeOf, loadOf}
+use Rattle.evaluation.specs.Tables.{placeBefore}
+use Rattle.stretch.specs.Stretch.{loadOf}
 use Rattle.stretch.specs.Runs.{timedOf}
 
 module _ (m : ℕ) (st st' : List ℕ) (e : take m st ≡ take m st') where
   pub call-alike : (k : ℕ) → k < m → getD st k 0 ≡ getD st' k 0
   call-alike k h = sym (getD-take m st k 0 h) ∙ ap (λ (l : List ℕ). getD l k 0) e ∙ getD-take m st' k 0 h
 
-  pub place-alike : (k : ℕ) → k ≤ m → placeOf st k ≡ placeOf st' k
-  unfolding placeOf
+  pub place-alike : (k : ℕ) → k ≤ m → placeBefore st k ≡ placeBefore st' k
+  unfolding placeBefore
   place-alike zero h = refl
   place-alike (suc k) h = call-alike k h
 

@@ -17,7 +17,8 @@ use Rattle.cutting.specs.Carried.{Filling, RowDone, outset, finished, passed, o
 use Rattle.whole.specs.Whole.{fl}
 use Rattle.table.specs.Table.{Offered}
 use Rattle.models.specs.Load.{fitsLoad}
-use Rattle.stretch.specs.Stretch.{fitsOf, joinedF, placeOf, loadOf, goneOf, wayOf}
+use Rattle.evaluation.specs.Tables.{placeBefore}
+use Rattle.stretch.specs.Stretch.{fitsOf, joinedF, loadOf, goneOf, wayOf}
 use Rattle.stretch.specs.Tariff.{Tariff, legalOf, farOf, priceOf, runsOf, farsOf, RowOf, Ended, stretches}
 use Rattle.stretch.proofs.Fitting.{none-over, none-past, fits-here}
 
@@ -30,12 +31,12 @@ pub record Along (T : Tariff) (st : List ℕ) (i : ℕ) (costs fars : List Float
   pub is-load : load ≡ loadOf (T .demand) st m
   pub fits : load ≤ T .capacity
   pub is-gone : gone ≡ goneOf (T .leg) st m
-  pub is-prev : prev ≡ placeOf st m
+  pub is-prev : prev ≡ placeBefore st m
   pub filling : Filling (runsOf T (λ _. st)) (farsOf T (λ _. st)) i costs fars preds (i + m) cost far pred
 
 -- the place is that of the first m calls
 pub in-place : {T : Tariff} {st : List ℕ} {i : ℕ} {costs fars : List Float} {preds : List ℕ} {base before : Float} {cost far : List Float} {pred : List ℕ} {load : ℕ} {gone : Float} {prev m : ℕ}
-    → Along T st i costs fars preds base before cost far pred load gone prev m → Along T st i costs fars preds base before cost far pred load gone (placeOf st m) m
+    → Along T st i costs fars preds base before cost far pred load gone prev m → Along T st i costs fars preds base before cost far pred load gone (placeBefore st m) m
 in-place A =
     record {
       is-base = A .is-base;
@@ -53,7 +54,7 @@ module _ (T : Tariff) (st : List ℕ) (i : ℕ) (costs fars : List Float) (preds
   pub setout : (gone : Float) → gone ≡ fl 0 → length costs ≡ cells → length fars ≡ cells → length preds ≡ cells
       → base ≡ add binary64 (getD costs i nan) (T .fixed) → before ≡ getD fars i nan
       → Along T st i costs fars preds base before costs fars preds 0 gone 0 0
-  unfolding loadOf placeOf goneOf
+  unfolding loadOf placeBefore goneOf
   setout gone g lc lf lp b w =
       record {
         is-base = b;
@@ -107,7 +108,7 @@ module _ (T : Tariff) (st : List ℕ) (i : ℕ) (costs fars : List Float) (preds
       gone-is = rw (eg, el, A .is-gone, A .is-prev) refl
 
       pub far-is : (home : Float) → home ≡ T .leg (getD st m 0) 0 → add binary64 gone' home ≡ wayOf (T .leg) st (suc m)
-      unfolding wayOf placeOf
+      unfolding wayOf placeBefore
       far-is home eh = rw (gone-is, eh) refl
 
       fits-next : fitsOf (T .demand) (T .capacity) st (suc m) ≡ true
@@ -117,7 +118,7 @@ module _ (T : Tariff) (st : List ℕ) (i : ℕ) (costs fars : List Float) (preds
       Next cost' far' pred' = Along T st i costs fars preds base before cost' far' pred' (load + d) gone' (getD st m 0) (m + 1)
 
       next : (cost' far' : List Float) (pred' : List ℕ) → Filling (runsOf T (λ _. st)) (farsOf T (λ _. st)) i costs fars preds (i + (m + 1)) cost' far' pred' → Next cost' far' pred'
-      unfolding placeOf
+      unfolding placeBefore
       next cost' far' pred' F =
           record {
             is-base = A .is-base;
@@ -126,7 +127,7 @@ module _ (T : Tariff) (st : List ℕ) (i : ℕ) (costs fars : List Float) (preds
             is-load = load-is ∙ ap (loadOf (T .demand) st) (sym (add-one m));
             fits = leb-true (load + d) (T .capacity) ef;
             is-gone = gone-is ∙ ap (goneOf (T .leg) st) (sym (add-one m));
-            is-prev = ap (placeOf st) (sym (add-one m));
+            is-prev = ap (placeBefore st) (sym (add-one m));
             filling = F;
           }
 

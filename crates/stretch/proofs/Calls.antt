@@ -9,23 +9,22 @@ use lib.Dec.{eqb}
 use lib.Ieee.{Float, nan}
 use borrow.Author.Tests.{ne-eqb}
 use Rattle.evaluation.specs.Records.{Tables}
-use Rattle.evaluation.specs.Tables.{recordF, demandF, distanceF, timeF}
-use Rattle.stretch.specs.Stretch.{placeOf}
-use Rattle.stretch.specs.Stops.{StopF, stopIn, stopAt, WorkedOut, Below64, LegsAre}
+use Rattle.evaluation.specs.Tables.{recordF, demandF, distanceF, timeF, placeBefore}
+use Rattle.stops.specs.Stops.{StopF, stopIn, stopAt, WorkedOut, Below64, LegsAre}
 
 -- call number m of st, with the leg to it
 pub record CallIs (t : Tables) (st : List ℕ) (m : ℕ) (s : StopF) (leg travel : Float) : Type 0 where
   pub demand-is : s .customer .demand ≡ demandF (t .customers) (getD st m 0)
   pub record-is : s .customer ≡ recordF t (getD st m 0)
-  pub leg-is : leg ≡ distanceF t (placeOf st m) (getD st m 0)
-  pub travel-is : travel ≡ timeF t (placeOf st m) (getD st m 0)
+  pub leg-is : leg ≡ distanceF t (placeBefore st m) (getD st m 0)
+  pub travel-is : travel ≡ timeF t (placeBefore st m) (getD st m 0)
   pub home-is : s .back ≡ distanceF t (getD st m 0) 0
   pub back-is : s .timeBack ≡ timeF t (getD st m 0) 0
 
 -- the leg out of the depot to the first call, and else one of the legs
-leg-to : (leg : ℕ → ℕ → Float) (st : List ℕ) (legs : List Float) (m : ℕ) (out x : Float) → (0 < m → getD legs m nan ≡ leg (placeOf st m) (getD st m 0)) → out ≡ leg 0 (getD st m 0)
-    → x ≡ cond (eqb m 0) out (getD legs m nan) → x ≡ leg (placeOf st m) (getD st m 0)
-unfolding placeOf
+leg-to : (leg : ℕ → ℕ → Float) (st : List ℕ) (legs : List Float) (m : ℕ) (out x : Float) → (0 < m → getD legs m nan ≡ leg (placeBefore st m) (getD st m 0)) → out ≡ leg 0 (getD st m 0)
+    → x ≡ cond (eqb m 0) out (getD legs m nan) → x ≡ leg (placeBefore st m) (getD st m 0)
+unfolding placeBefore
 leg-to leg st legs zero out x L eo e = e ∙ eo
 leg-to leg st legs (suc m) out x L eo e = (rw (ne-eqb (suc m) 0 (λ z. omega arith)) at e) ∙ L (omega arith)
 

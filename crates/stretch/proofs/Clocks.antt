@@ -13,14 +13,15 @@ use lib.Ieee.{Float, binary64, add}
 use Rattle.basics.specs.Options.{_>>=_}
 use Rattle.definitions.specs.Sheet.{BreakOf}
 use Rattle.models.specs.Limits.{allowF}
+use Rattle.clock.specs.Clock.{begunF, aliveF, finishF}
+use Rattle.clock.specs.declared.schedule.Scheduled.{Scheduled}
+use Rattle.clock.proofs.Gone.{Gone, not-alive, finish-gone}
 use Rattle.evaluation.specs.Records.{Tables}
-use Rattle.evaluation.specs.Clock.{begunF, aliveF, finishF}
-use Rattle.evaluation.specs.Tables.{distanceF, recordF, timeF}
+use Rattle.evaluation.specs.Tables.{distanceF, recordF, timeF, placeBefore}
 use Rattle.evaluation.specs.Schedule.{tickF, clockFromF}
-use Rattle.evaluation.specs.declared.schedule.Scheduled.{Scheduled}
-use Rattle.evaluation.proofs.Growing.{Gone, not-alive, clock-gone, clock-append, clock-grown, finish-gone}
+use Rattle.evaluation.proofs.Growing.{clock-gone, clock-append, clock-grown}
 use Rattle.stretch.specs.declared.rows.Timed.{Timed}
-use Rattle.stretch.specs.Stretch.{joinedF, placeOf, wayOf}
+use Rattle.stretch.specs.Stretch.{joinedF, wayOf}
 use Rattle.stretch.specs.Runs.{Instance, visitF, timedOf, clockOf, End, backTime, endOf, allowedF, payF}
 
 -- what the break clock reports of a run, as its end
@@ -50,7 +51,7 @@ module _ (t : Tables) (st : List ℕ) where
   -- ---- without a break
 
   pub timed-more : (m : ℕ) (x : Timed) → timedOf t st m ≡ some x
-      → timedOf t st (suc m) ≡ visitF (recordF t (getD st m 0)) (joinedF (x .time) (timeF t (placeOf st m) (getD st m 0)) (eqb m 0)) (x .«late_cost»)
+      → timedOf t st (suc m) ≡ visitF (recordF t (getD st m 0)) (joinedF (x .time) (timeF t (placeBefore st m) (getD st m 0)) (eqb m 0)) (x .«late_cost»)
   unfolding timedOf
   timed-more m x e = rw e
 

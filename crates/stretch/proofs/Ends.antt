@@ -11,7 +11,7 @@ use lib.Ieee.{Float}
 use borrow.Author.Tests.{leb-false}
 use Rattle.definitions.specs.Sheet.{BreakOf}
 use Rattle.models.specs.Load.{fitsLoad}
-use Rattle.evaluation.specs.Clock.{begunF, aliveF}
+use Rattle.clock.specs.Clock.{begunF, aliveF}
 use Rattle.evaluation.specs.Schedule.{clockFromF}
 use Rattle.stretch.specs.Stretch.{loadOf, fitsOf}
 use Rattle.stretch.specs.Tariff.{Tariff, legalOf, RowOf, Ended}

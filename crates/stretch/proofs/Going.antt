@@ -7,8 +7,8 @@ use lib.ListN.{length}
 use lib.Ieee.{Float}
 use Rattle.definitions.specs.Sheet.{BreakOf}
 use Rattle.evaluation.specs.Records.{Tables}
+use Rattle.stops.specs.Stops.{WorkedOut, LegsAre}
 use Rattle.stretch.specs.declared.terms.Terms.{Terms}
-use Rattle.stretch.specs.Stops.{WorkedOut, LegsAre}
 use Rattle.stretch.specs.Runs.{overBy, Rowed}
 
 -- what the loop of a row keeps after m calls: what needs no tables, and the rest for whatever tables the lists are worked out from

@@ -8,9 +8,7 @@ pub mod Alike
 pub mod Local
 pub mod Clocks
 pub mod Ends
--- A place, the legs and a call in the lists of numbers.
-pub mod Places
-pub mod Legs
+-- A call in the lists of numbers.
 pub mod Calls
 -- What a row keeps: over number lists, without a break and with one.
 pub mod Going

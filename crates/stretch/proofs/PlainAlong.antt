@@ -11,11 +11,12 @@ use lib.Ieee.{Float, binary64, add}
 use Rattle.models.specs.Limits.{allowF}
 use Rattle.whole.specs.Whole.{fl}
 use Rattle.table.specs.Table.{Offered}
-use Rattle.stretch.specs.declared.rows.Timed.{Timed}
+use Rattle.evaluation.specs.Tables.{placeBefore}
 use Rattle.models.specs.Load.{fitsLoad}
-use Rattle.stretch.specs.Stretch.{joinedF, placeOf}
+use Rattle.stops.specs.Stops.{StopF}
+use Rattle.stretch.specs.declared.rows.Timed.{Timed}
+use Rattle.stretch.specs.Stretch.{joinedF}
 use Rattle.stretch.specs.Tariff.{RowOf, Ended}
-use Rattle.stretch.specs.Stops.{StopF}
 use Rattle.stretch.specs.Runs.{Instance, tariff, visitF, timedOf, End, endOf, allowedF}
 use Rattle.stretch.proofs.Along.{Along, stopped, in-place, far-is, over, onward}
 use Rattle.stretch.proofs.Clocks.{allowed-is, pay-is, timed-more, end-timed}
@@ -24,7 +25,7 @@ use Rattle.stretch.proofs.Calls.{CallIs}
 
 pub record PlainAlong (I : Instance) (st : List ℕ) (i : ℕ) (costs fars : List Float) (preds : List ℕ) (base before : Float)
     (cost far : List Float) (pred : List ℕ) (load : ℕ) (gone time late : Float) (m : ℕ) : Type 0 where
-  pub along : Along (tariff I) st i costs fars preds base before cost far pred load gone (placeOf st m) m
+  pub along : Along (tariff I) st i costs fars preds base before cost far pred load gone (placeBefore st m) m
   pub timed : timedOf (I .tables) st m ≡ some (record { time = time; «late_cost» = late })
 
 -- before the first call
@@ -52,7 +53,7 @@ module _ (I : Instance) (unbroken : I .limits .rest ≡ none) (st : List ℕ) (i
   pub shut : visitF (s .customer) arrival late ≡ none → RowOf (tariff I) st i costs fars preds cost far pred × Ended (tariff I) st m
   shut e =
       let E = shut-over I st m (A .along .within) unbroken (timed-is ∙ e) in
-      (stopped (tariff I) st i costs fars preds base before cost far pred load gone (placeOf st m) m (A .along) b E, E)
+      (stopped (tariff I) st i costs fars preds base before cost far pred load gone (placeBefore st m) m (A .along) b E, E)
 
   -- a call that is served
   module _ (v : Timed) (ev : visitF (s .customer) arrival late ≡ some v) where
@@ -63,7 +64,7 @@ module _ (I : Instance) (unbroken : I .limits .rest ≡ none) (st : List ℕ) (i
     ending = endsAt (s .timeBack)
 
     end-is : endOf (I .tables) st (suc m) (I .limits .rest) ≡ some ending
-    unfolding placeOf
+    unfolding placeBefore
     end-is = ap (endOf (I .tables) st (suc m)) unbroken ∙ end-timed (I .tables) st (suc m) v (timed-is ∙ ev) ∙ ap (λ (x : Float). some (endsAt x)) (sym (C .back-is))
 
     abbrev allows : Bool
@@ -73,7 +74,7 @@ module _ (I : Instance) (unbroken : I .limits .rest ≡ none) (st : List ℕ) (i
     allows-is =
         allowed-is I st (suc m) ending end-is
         ∙ ap (λ (x : Float). allowF (I .limits .maxDistance) (I .limits .maxDuration) x (add binary64 (v .time) (s .timeBack)))
-        (sym (far-is (tariff I) st i costs fars preds base before cost far pred load gone (placeOf st m) m (A .along) d leg gone' b short ed ef (C .leg-is) eg (s .back) (C .home-is)))
+        (sym (far-is (tariff I) st i costs fars preds base before cost far pred load gone (placeBefore st m) m (A .along) d leg gone' b short ed ef (C .leg-is) eg (s .back) (C .home-is)))
 
     abbrev Next : List Float → List Float → List ℕ → Type 0
     Next cost' far' pred' = PlainAlong I st i costs fars preds base before cost' far' pred' (load + d) gone' (v .time) (v .«late_cost») (m + 1)
@@ -89,7 +90,7 @@ module _ (I : Instance) (unbroken : I .limits .rest ≡ none) (st : List ℕ) (i
     pub skip : allows ≡ false → Next cost far pred
     skip z =
         next cost far pred
-        (over (tariff I) st i costs fars preds base before cost far pred load gone (placeOf st m) m (A .along) d leg gone' b short ed ef (C .leg-is) eg (allows-is ∙ z))
+        (over (tariff I) st i costs fars preds base before cost far pred load gone (placeBefore st m) m (A .along) d leg gone' b short ed ef (C .leg-is) eg (allows-is ∙ z))
 
     -- within the limits
     pub put : (cost' far' : List Float) (pred' : List ℕ) → allows ≡ true
@@ -97,5 +98,5 @@ module _ (I : Instance) (unbroken : I .limits .rest ≡ none) (st : List ℕ) (i
         → Next cost' far' pred'
     put cost' far' pred' z O =
         next cost' far' pred'
-        (onward (tariff I) st i costs fars preds base before cost far pred load gone (placeOf st m) m (A .along) d leg gone' b short ed ef (C .leg-is) eg (s .back) _ cost' far' pred' (C .home-is) (allows-is ∙ z)
+        (onward (tariff I) st i costs fars preds base before cost far pred load gone (placeBefore st m) m (A .along) d leg gone' b short ed ef (C .leg-is) eg (s .back) _ cost' far' pred' (C .home-is) (allows-is ∙ z)
         (ap (add binary64 (add binary64 base (add binary64 gone' (s .back)))) (sym (pay-is I st (suc m) ending end-is))) O)

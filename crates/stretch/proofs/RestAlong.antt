@@ -10,16 +10,16 @@ use lib.Dec.{eqb}
 use lib.Ieee.{Float, binary64, add}
 use Rattle.definitions.specs.Sheet.{BreakOf, CustomerOf}
 use Rattle.models.specs.Limits.{allowF}
-use Rattle.evaluation.specs.Records.{ClockF}
-use Rattle.evaluation.specs.Clock.{begunF, pushF, aliveF, finishF}
-use Rattle.evaluation.specs.Tables.{distanceF, recordF, timeF}
+use Rattle.clock.specs.Records.{ClockF}
+use Rattle.clock.specs.Clock.{begunF, pushF, aliveF, finishF}
+use Rattle.clock.specs.declared.schedule.Scheduled.{Scheduled}
+use Rattle.evaluation.specs.Tables.{distanceF, recordF, timeF, placeBefore}
 use Rattle.evaluation.specs.Schedule.{clockFromF}
-use Rattle.evaluation.specs.declared.schedule.Scheduled.{Scheduled}
 use Rattle.table.specs.Table.{Offered}
 use Rattle.models.specs.Load.{fitsLoad}
-use Rattle.stretch.specs.Stretch.{joinedF, placeOf, wayOf}
+use Rattle.stops.specs.Stops.{StopF}
+use Rattle.stretch.specs.Stretch.{joinedF, wayOf}
 use Rattle.stretch.specs.Tariff.{RowOf, Ended}
-use Rattle.stretch.specs.Stops.{StopF}
 use Rattle.stretch.specs.Runs.{Instance, tariff, clockOf, End, backTime, endOf, allowedF}
 use Rattle.stretch.proofs.Along.{Along, stopped, far-is, over, onward}
 use Rattle.stretch.proofs.Clocks.{not-ended, allowed-is, pay-is, clock-more, ended, end-finished}
@@ -87,7 +87,7 @@ module _ (I : Instance) (rest : BreakOf Float) (broken : I .limits .rest ≡ som
     total-is = far-is (tariff I) st i costs fars preds base before cost far pred load gone (clock .prev) m (A .along) d leg gone' b short ed ef el eg (s .back) (C .home-is)
 
     finish-is : finishF (wayOf (distanceF (I .tables)) st (suc m)) (backTime (I .tables) st (suc m)) (clockOf (I .tables) st rest (suc m)) ≡ o
-    unfolding placeOf
+    unfolding placeBefore
     finish-is = sym (eo ∙ rw (total-is, C .back-is, clock-is) refl)
 
     end-is : endOf (I .tables) st (suc m) (I .limits .rest) ≡ ended o

@@ -16,19 +16,20 @@ use Rattle.models.specs.Limits.{allowF}
 use Rattle.models.specs.Window.{lateF}
 use Rattle.whole.specs.Whole.{fl}
 use Rattle.whole.specs.Later.{laterF}
-use Rattle.evaluation.specs.Records.{Tables, LimitsF, ClockF}
+use Rattle.clock.specs.Records.{ClockF}
+use Rattle.clock.specs.Clock.{begunF, finishF}
+use Rattle.evaluation.specs.Records.{Tables, LimitsF}
 use Rattle.evaluation.specs.Records as Evaluation
-use Rattle.evaluation.specs.Clock.{begunF, finishF}
 use Rattle.evaluation.specs.Tables as Lookup
-use Rattle.evaluation.specs.Tables.{recordF, demandF, timeF}
+use Rattle.evaluation.specs.Tables.{recordF, demandF, timeF, placeBefore}
 use Rattle.evaluation.specs.Schedule.{clockFromF}
+use Rattle.stops.specs.Stops.{WorkedOut, LegsAre}
 use Rattle.stretch.specs.declared.terms.Terms.{Terms}
 use Rattle.stretch.specs.declared.rows.Timed.{Timed}
 use Rattle.stretch.specs.declared.rows.Visited.{Visited}
 use Rattle.stretch.specs.declared.rows.Visited.the-variants.{Shut, Open}
-use Rattle.stretch.specs.Stretch.{joinedF, placeOf, wayOf}
+use Rattle.stretch.specs.Stretch.{joinedF, wayOf}
 use Rattle.stretch.specs.Tariff.{Tariff, RowOf, Ended}
-use Rattle.stretch.specs.Stops.{WorkedOut, LegsAre}
 
 -- ---- what is lent
 
@@ -83,7 +84,7 @@ module _ (t : Tables) (st : List ℕ) where
   unfoldable pub timedOf : ℕ → Option Timed
   timedOf zero = some (record { time = fl 0; «late_cost» = fl 0 })
   timedOf (suc m) =
-      timedOf m >>= λ x. visitF (recordF t (getD st m 0)) (joinedF (x .time) (timeF t (placeOf st m) (getD st m 0)) (eqb m 0)) (x .«late_cost»)
+      timedOf m >>= λ x. visitF (recordF t (getD st m 0)) (joinedF (x .time) (timeF t (placeBefore st m) (getD st m 0)) (eqb m 0)) (x .«late_cost»)
 
   -- with one
   unfoldable pub clockOf : BreakOf Float → ℕ → ClockF
@@ -97,7 +98,7 @@ pub record End : Type 0 where
 module _ (t : Tables) (st : List ℕ) (m : ℕ) where
   -- the leg home is the last
   abbrev pub backTime : Float
-  backTime = timeF t (placeOf st m) 0
+  backTime = timeF t (placeBefore st m) 0
 
   unfoldable pub endOf : Option (BreakOf Float) → Option End
   endOf none = timedOf t st m >>= λ x. some (record { duration = Ieee.add binary64 (x .time) backTime; pay = x .«late_cost» })

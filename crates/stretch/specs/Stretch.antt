@@ -1,4 +1,4 @@
--- A stretch of calls, call by call: where the bus is after m of them, what they ask for, and how far it is. Definitions only, over what a call asks for and over the legs.
+-- A stretch of calls, call by call: what the first m of them ask for, and how far it is. Definitions only, over what a call asks for and over the legs.
 use Prim.Native.Nat.{ℕ, zero, suc, _+_}
 use mathlib.Core.Bool.{Bool, cond, _&&_}
 use mathlib.Core.List.{List}
@@ -7,15 +7,11 @@ use lib.Dec.{leb, eqb}
 use lib.Ieee.{Float, binary64, add}
 use Rattle.models.specs.Load.{fitsLoad}
 use Rattle.whole.specs.Whole.{fl}
+use Rattle.evaluation.specs.Tables.{placeBefore}
 
 -- a leg after those that are gone; the first leg stands alone
 abbrev pub joinedF : Float → Float → Bool → Float
 joinedF gone leg first = cond first leg (add binary64 gone leg)
-
--- where the bus is after the first m calls of st; the depot is 0
-unfoldable pub placeOf : List ℕ → ℕ → ℕ
-placeOf st zero = 0
-placeOf st (suc m) = getD st m 0
 
 -- what the first m calls of st ask for
 unfoldable pub loadOf : (ℕ → ℕ) → List ℕ → ℕ → ℕ
@@ -29,8 +25,8 @@ fitsOf demand capacity st m = leb m (length st) && fitsLoad (loadOf demand st m)
 -- the way from the depot through the first m calls of st, added leg by leg
 unfoldable pub goneOf : (ℕ → ℕ → Float) → List ℕ → ℕ → Float
 goneOf leg st zero = fl 0
-goneOf leg st (suc m) = joinedF (goneOf leg st m) (leg (placeOf st m) (getD st m 0)) (eqb m 0)
+goneOf leg st (suc m) = joinedF (goneOf leg st m) (leg (placeBefore st m) (getD st m 0)) (eqb m 0)
 
 -- and home
 unfoldable pub wayOf : (ℕ → ℕ → Float) → List ℕ → ℕ → Float
-wayOf leg st m = add binary64 (goneOf leg st m) (leg (placeOf st m) 0)
+wayOf leg st m = add binary64 (goneOf leg st m) (leg (placeBefore st m) 0)

@@ -51,8 +51,7 @@ count-snoc a (suc n) = ap (λ (l : List ℕ). a ∷ l) (count-snoc (suc a) n ∙
     shift : (a n : ℕ) → suc a + n ≡ a + suc n
     shift a n = omega arith
 
-pub numbered-more : (old : List ℕ) (k : ℕ) → k < length old → set (written (count 1 k) old) k (k + 1) ≡ written (count 1 (k + 1)) old
-numbered-more old k h =
-    let e : k + 1 ≡ 1 + k = omega arith in
-    written-more (count 1 k) old k (k + 1) (length-count 1 k) h
-    ∙ ap (λ (l : List ℕ). written l old) (ap (λ (x : ℕ). count 1 k ++ (x ∷ [])) e ∙ sym (count-snoc 1 k) ∙ ap (count 1) (sym (add-one k)))
+pub numbered-more : (old : List ℕ) (from k : ℕ) → k < length old → set (written (count from k) old) k (from + k) ≡ written (count from (k + 1)) old
+numbered-more old from k h =
+    written-more (count from k) old k (from + k) (length-count from k) h
+    ∙ ap (λ (l : List ℕ). written l old) (sym (count-snoc from k) ∙ ap (count from) (sym (add-one k)))

@@ -1,6 +1,6 @@
 // The calls that a cutting holds, with their positions in the tour, and lists written at the front of lent ones.
 ghost use mathlib.Core.Path.{_≡_};
-ghost use Prim.Native.Nat.{_-_, _<_, _≤_};
+ghost use Prim.Native.Nat.{_+_, _-_, _<_, _≤_};
 ghost use lib.ListN.{length, take};
 ghost use Rattle.basics.specs.Lists.{without, count};
 ghost use Rattle.definitions.specs.Room.{written};
@@ -49,14 +49,14 @@ pub fn write_front(from: &[usize], to: &mut [usize])
     }
 }
 
-// Writes the numbers from 1 to n at the front.
-pub fn number(to: &mut [usize], n: usize)
-    requires { ⌜ n ≤ length (now to) ⌝ }
-    ensures { λ _. ⌜ now (to .exit) ≡ written (count 1 n) (now (to .entry)) ⌝ }
+// Writes n numbers at the front, counted from `from` on.
+pub fn number(to: &mut [usize], from: usize, n: usize)
+    requires { ⌜ (n ≤ length (now to)) × (from + n < 0xFFFF_FFFF_FFFF_FFFF) ⌝ }
+    ensures { λ _. ⌜ now (to .exit) ≡ written (count from n) (now (to .entry)) ⌝ }
 {
     let mut k = 0;
     while k < n {
-        to[k] = k + 1;
+        to[k] = from + k;
         k += 1;
     }
 }

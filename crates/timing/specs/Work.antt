@@ -11,13 +11,13 @@ use Rattle.definitions.specs.RunList.{runsOf}
 use Rattle.models.specs.Image.{flCustomer}
 use Rattle.evaluation.specs.Image.{flLimits}
 use Rattle.sheet.specs.Parts.{depots}
-use Rattle.stretch.specs.Stops.{Below64}
+use Rattle.stops.specs.Stops.{Below64}
 use Rattle.stretch.specs.Runs.{Instance, lent}
 use Rattle.ga.specs.SplitTw.{splitTwF}
 use Rattle.ga.specs.Split as Split
 use Rattle.ga.specs.Split.{splitF}
 use Rattle.local_search.specs.Search.{SearchF, searchF}
-use Rattle.local_search.specs.TwoOpt.{improvedDistanceF}
+use Rattle.two_opt.specs.TwoOpt.{improvedDistanceF}
 use Rattle.elimination.specs.Insertion.{TermsF}
 use Rattle.elimination.specs.Elimination.{eliminatedF}
 use Rattle.plan_listing.specs.declared.held.Loaded.{Loaded}

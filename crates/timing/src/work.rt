@@ -10,11 +10,11 @@ use elimination::route_elimination::eliminate_routes;
 use ga::split::split;
 use ga::split_tw::split_tw;
 use local_search::search::search_of;
-use local_search::two_opt::two_opt_improve;
 use plan_listing::held::Loaded;
 use plan_listing::held::load;
 use sheet::read::Reading;
 use sheet::read::read;
+use two_opt::two_opt::two_opt_improve;
 
 pub enum Work {
     SplitTw,

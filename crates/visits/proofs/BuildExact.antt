@@ -27,10 +27,11 @@ use Rattle.whole.specs.Whole.{fl, limit, fl-add, fl-lt}
 use Rattle.whole.specs.Numbers.{not-ltb}
 use Rattle.models.specs.Image.{flBreak}
 use Rattle.models.proofs.Exact.{limit-exact}
+use Rattle.clock.specs.Image.{flTotals}
 use Rattle.evaluation.specs.Records.{Tables}
 use Rattle.evaluation.specs.Tables.{timeF, legsF}
 use Rattle.evaluation.specs.Schedule.{distanceFromF}
-use Rattle.evaluation.specs.Image.{flTotals, flLimits, Image}
+use Rattle.evaluation.specs.Image.{flLimits, Image}
 use Rattle.evaluation.proofs.ClockExact.{distance-from-exact, time-exact, schedule-exact}
 use Rattle.evaluation.proofs.RouteExact.{start-exact}
 use Rattle.visits.specs.Visiting.{placedF, placeOf, durationF, missingF, restAtF, startTrip, tripF}

@@ -24,10 +24,11 @@ use Rattle.bounds.specs.Bounds.{Early, readyBy, begins-most, enter-most, readin
 use Rattle.whole.specs.Whole.{fl, limit, fl-add}
 use Rattle.models.specs.Image.{flWindow, flCustomer}
 use Rattle.models.proofs.Exact.{waiting-exact, due-exact}
+use Rattle.clock.specs.Image.{flLabel}
+use Rattle.clock.proofs.ServingExact.{enter-exact}
 use Rattle.evaluation.specs.Records.{Tables}
 use Rattle.evaluation.specs.Tables.{distanceF, legsF}
-use Rattle.evaluation.specs.Image.{flLabel, Image}
-use Rattle.evaluation.proofs.ServingExact.{enter-exact}
+use Rattle.evaluation.specs.Image.{Image}
 use Rattle.evaluation.proofs.ClockExact.{record-exact, time-exact}
 use Rattle.visits.specs.declared.trip.Trip.{Trip}
 use Rattle.visits.specs.Visiting.{RestF, readyAtF, beginF, servedBy, servedF, stopF, stopAtF, visitsF, windowsF, tripF}

@@ -6,7 +6,7 @@ use mathlib.Core.Option.{Option}
 use lib.ListN.{length, take}
 use lib.Ieee as Ieee
 use lib.Ieee.{Float, binary64}
-use Rattle.evaluation.specs.declared.schedule.Scheduled.{Scheduled}
+use Rattle.clock.specs.declared.schedule.Scheduled.{Scheduled}
 use Rattle.evaluation.specs.Records.{Tables, LimitsF, startOf}
 use Rattle.evaluation.specs.Tables.{distanceF, timeF}
 use Rattle.visits.specs.declared.visit.Visit.{Visit}

@@ -4,7 +4,7 @@ use mathlib.Core.Option.{Option·map}
 use Rattle.definitions.specs.Visits as Whole
 use Rattle.definitions.specs.Visits.{Route, windowShut, breakNotPlaceable, overCapacity, overDistance, overDuration}
 use Rattle.whole.specs.Whole.{fl}
-use Rattle.evaluation.specs.Image.{flTotals}
+use Rattle.clock.specs.Image.{flTotals}
 use Rattle.visits.specs.declared.visit.Visit.{Visit}
 use Rattle.visits.specs.declared.visit.ViolationType.{ViolationType}
 use Rattle.visits.specs.declared.visit.ViolationType.the-variants.{TimeWindowViolated, BreakNotPlaceable, CapacityExceeded, MaxDistanceExceeded, MaxDurationExceeded}

@@ -12,10 +12,10 @@ use Rattle.basics.specs.Options.{_>>=_, present, valueOr}
 use Rattle.definitions.specs.Sheet.{WindowOf, BreakOf, CustomerOf}
 use Rattle.whole.specs.Whole.{fl}
 use Rattle.models.specs.Window.{waitingF, dueF}
-use Rattle.evaluation.specs.declared.schedule.Label.{Label}
-use Rattle.evaluation.specs.declared.schedule.Scheduled.{Scheduled}
+use Rattle.clock.specs.declared.schedule.Label.{Label}
+use Rattle.clock.specs.declared.schedule.Scheduled.{Scheduled}
+use Rattle.clock.specs.Serving.{startLabel, atTime, enterF, leaveF}
 use Rattle.evaluation.specs.Records.{Tables, startOf}
-use Rattle.evaluation.specs.Serving.{startLabel, atTime, enterF, leaveF}
 use Rattle.evaluation.specs.Tables.{recordF, distanceF, timeF}
 use Rattle.evaluation.specs.Schedule.{scheduleF}
 use Rattle.evaluation.specs.Route.{startF}

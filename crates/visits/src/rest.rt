@@ -1,11 +1,12 @@
 // Where the visits of a run have its break: placed where the run finishes earliest, and left out where it has no place.
 ghost use mathlib.Core.Path.{_≡_};
 ghost use Rattle.models.specs.Records.{restOf};
-ghost use Rattle.evaluation.specs.Records.{finishedOf, lent};
+ghost use Rattle.clock.specs.Records.{finishedOf};
+ghost use Rattle.evaluation.specs.Records.{lent};
 ghost use Rattle.visits.specs.Visiting.{restAtOf, placedF, placeOf, durationF, missingF, restAtF, readyAtF};
+use clock::schedule::Finished;
 use evaluation::route::Start;
 use evaluation::route::start_of;
-use evaluation::schedule::Finished;
 use evaluation::schedule::schedule;
 use models::customer::Customer;
 use models::vehicle::Rest;

@@ -1,6 +1,6 @@
 -- `route::allowed` meets its contract. Assumes nothing.
 use mathlib.Core.Path.{_≡_, sym, _∙_}
-use Rattle.evaluation.specs.declared.schedule.Finished.the-variants.{Impossible, Home}
+use Rattle.clock.specs.declared.schedule.Finished.the-variants.{Impossible, Home}
 use Rattle.evaluation.specs.Route.{allowedF}
 use borrow.Author.Needs.{needs}
 use Rattle.evaluation.proofs.route.allowed.Statement.{statement}

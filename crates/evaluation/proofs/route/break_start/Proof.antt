@@ -46,8 +46,8 @@ call-at-requires c κs = search needs
 travel-time-requires : tie.Need-travel-time-requires
 travel-time-requires c κs = search needs
 
-later-requires : tie.Need-later-requires
-later-requires c κs = search needs
+break-start-at-requires : tie.Need-break-start-at-requires
+break-start-at-requires c κs = search needs
 
 returns-2 : tie.Need-returns-2
 unfolding breakStartAtF
@@ -62,7 +62,7 @@ returns-2 c =
     let t = lent (a .customers) (a .distances .now) (a .times .now) (a .size) in
     let e : driven .way-through .result ≡ To (known .d .given .0 .0) = search needs in
     rw (sym (driven .way-through .ensures ∙ ap₂ (wayF t) (begun .start .ensures) (take-fewer (a .k) _ (a .route .now) (counted .fewer .ensures))), e)
-    (rw (c .later .ensures, timed .travel-time .ensures, called .call-at .ensures))
+    (rw (c .break-start-at .ensures, timed .travel-time .ensures, called .call-at .ensures))
 
 pub break-start-spec : {M : Type 1} → statement M
 break-start-spec =
@@ -77,5 +77,5 @@ break-start-spec =
     returns
     call-at-requires
     travel-time-requires
-    later-requires
+    break-start-at-requires
     returns-2)

@@ -1,6 +1,6 @@
 -- `route::effective_cost` meets its contract. Assumes nothing.
 use mathlib.Core.Path.{_≡_}
-use Rattle.evaluation.specs.declared.schedule.Finished.the-variants.{Impossible, Home}
+use Rattle.clock.specs.declared.schedule.Finished.the-variants.{Impossible, Home}
 use Rattle.evaluation.specs.Route.{costF}
 use borrow.Author.Needs.{needs}
 use Rattle.evaluation.proofs.route.effective_cost.Statement.{statement}

@@ -1,6 +1,6 @@
 -- `route::route_eval` meets its contract. Assumes nothing.
 use mathlib.Core.Path.{_≡_}
-use Rattle.evaluation.specs.declared.schedule.Finished.the-variants.{Impossible, Home}
+use Rattle.clock.specs.declared.schedule.Finished.the-variants.{Impossible, Home}
 use Rattle.evaluation.specs.Route.{evalF}
 use borrow.Author.Needs.{needs}
 use Rattle.evaluation.proofs.route.route_eval.Statement.{statement}

@@ -5,8 +5,9 @@ use native.Mathlib.Omega.{arith}
 use lib.ListN.{length, drop}
 use borrow.Author.Tests.{not-true}
 use denote.Ref.{now}
-use Rattle.evaluation.specs.Records.{ClockF, clockOf, lent}
-use Rattle.evaluation.specs.Clock.{pushF}
+use Rattle.clock.specs.Records.{ClockF, clockOf}
+use Rattle.clock.specs.Clock.{pushF}
+use Rattle.evaluation.specs.Records.{lent}
 use Rattle.evaluation.specs.Schedule.{endF}
 use Rattle.evaluation.proofs.Reading.{read-record}
 use Rattle.evaluation.proofs.Growing.{end-turn, end-last, end-gone}

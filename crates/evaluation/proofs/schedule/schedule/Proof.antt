@@ -3,7 +3,8 @@ use mathlib.Core.Path.{ap, ap₂, _∙_}
 use native.Mathlib.Omega.{arith}
 use lib.Ieee.{Float}
 use denote.Ref.{now}
-use Rattle.evaluation.specs.Records.{ClockF, lent}
+use Rattle.clock.specs.Records.{ClockF}
+use Rattle.evaluation.specs.Records.{lent}
 use Rattle.evaluation.specs.Schedule.{endF}
 use borrow.Author.Needs.{needs}
 use Rattle.evaluation.proofs.schedule.schedule.Statement.{statement}

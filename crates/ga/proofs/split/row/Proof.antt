@@ -6,8 +6,7 @@ use denote.Ref.{now}
 use borrow.Author.Needs.{needs}
 use Rattle.whole.specs.Bits.{fl-zero}
 use Rattle.distance.specs.Lookup.{lookupF}
-use Rattle.stretch.specs.Stretch.{placeOf}
-use Rattle.evaluation.specs.Tables.{askedF}
+use Rattle.evaluation.specs.Tables.{placeBefore, askedF}
 use Rattle.ga.specs.Split.{tariffBy}
 use Rattle.stretch.proofs.Branches.{fails, holds}
 use Rattle.stretch.proofs.Along.{Along, setout, in-place, overfull, at-end, onward, unreached}
@@ -18,7 +17,7 @@ use Rattle.ga.proofs.split.row.Tie as tie
 abbrev Inv-loop : tie.InvT-loop
 Inv-loop cost₀ dist₀ pred₀ stretch demands ins backs distances size capacity fixed i base before out load₀ gone₀ m₀ cost dist pred load gone m =
     (out ≡ lookupF distances size 0 (getD stretch 0 0))
-    × Along (tariffBy (askedF demands) distances size capacity fixed) stretch i cost₀ dist₀ pred₀ base before cost dist pred load gone (placeOf stretch m) m
+    × Along (tariffBy (askedF demands) distances size capacity fixed) stretch i cost₀ dist₀ pred₀ base before cost dist pred load gone (placeBefore stretch m) m
 
 abbrev μ-loop : tie.MeasureT-loop
 μ-loop cost₀ dist₀ pred₀ stretch demands ins backs distances size capacity fixed i base before out load₀ gone₀ m₀ cost dist pred load gone m =

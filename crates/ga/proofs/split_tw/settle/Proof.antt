@@ -3,7 +3,7 @@ use native.Mathlib.Omega.{arith}
 use mathlib.Core.Path.{sym, subst}
 use denote.Ref.{now}
 use Rattle.whole.specs.Bits.{fl-zero}
-use Rattle.stretch.specs.Stops.{Below64}
+use Rattle.stops.specs.Stops.{Below64}
 use Rattle.stretch.specs.Runs.{lent}
 use Rattle.ga.proofs.Stayed.{tour-front, worked, stayed-of, stayed-falls, stayed-settled, unfilled}
 use borrow.Author.Needs.{needs}

@@ -4,8 +4,8 @@ use borrow.Author.Needs.{needs}
 use Rattle.local_search.proofs.search.search_of.Statement.{statement}
 use Rattle.local_search.proofs.search.search_of.Tie as tie
 
-checks-needed-requires : tie.Need-checks-needed-requires
-checks-needed-requires c κs = search needs
+route-checks-needed-requires : tie.Need-route-checks-needed-requires
+route-checks-needed-requires c κs = search needs
 
 symmetric-requires : tie.Need-symmetric-requires
 symmetric-requires c κs = search needs
@@ -18,9 +18,9 @@ gain-floor-requires c κs = search needs
 
 returns : tie.Need-returns
 unfolding searchF
-returns c = rw (c .gain-floor .ensures, c .before .scale .ensures, c .before .before .symmetric .ensures, c .before .before .before .checks-needed .ensures)
+returns c = rw (c .gain-floor .ensures, c .before .scale .ensures, c .before .before .symmetric .ensures, c .before .before .before .route-checks-needed .ensures)
 
 pub search-of-spec : {M : Type 1} → statement M
 search-of-spec =
     tie.close
-    (tie.spec checks-needed-requires symmetric-requires scale-requires gain-floor-requires returns)
+    (tie.spec route-checks-needed-requires symmetric-requires scale-requires gain-floor-requires returns)

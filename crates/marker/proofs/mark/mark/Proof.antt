@@ -23,6 +23,9 @@ returns c =
 enum-told : tie.Need-enum-told
 enum-told c = search needs
 
+demands-of-requires : tie.Need-demands-of-requires
+demands-of-requires c κs = search needs
+
 mark-runs-requires : tie.Need-mark-runs-requires
 mark-runs-requires c κs = search needs
 
@@ -39,7 +42,7 @@ returns-2 : tie.Need-returns-2
 unfolding markF
 returns-2 c =
     let marked = c .before .before .before in
-    let told = marked .before .before .before in
+    let told = marked .before .before .before .before .before in
     let e : told .differ .result ≡ Nowhere = search needs in
     let f : marked .mark-runs .result ≡ Faulty (c .before .v .given .0 .0) = search needs in
     rw (← told .differ .ensures, e, ← marked .mark-runs .ensures, f)
@@ -48,7 +51,7 @@ returns-3 : tie.Need-returns-3
 unfolding markF
 returns-3 c =
     let marked = c .before .before .before .before in
-    let told = marked .before .before .before in
+    let told = marked .before .before .before .before .before in
     let e : told .differ .result ≡ Nowhere = search needs in
     let f : marked .mark-runs .result ≡ Costs (c .before .before .total .given .0 .0) = search needs in
     rw (← told .differ .ensures, e, ← marked .mark-runs .ensures, f) (c .against .ensures)
@@ -61,6 +64,7 @@ mark-spec =
     enum-known-position
     returns
     enum-told
+    demands-of-requires
     mark-runs-requires
     enum-known-v
     enum-known-total

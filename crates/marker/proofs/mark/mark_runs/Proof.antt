@@ -12,10 +12,10 @@ use Rattle.marker.proofs.mark.mark_runs.Statement.{statement}
 use Rattle.marker.proofs.mark.mark_runs.Tie as tie
 
 abbrev Inv-loop : tie.InvT-loop
-Inv-loop calls ends places customers distances times head total₀ p₀ k₀ total p k = Left (groundOf customers distances times head) calls ends places total p k
+Inv-loop calls ends places customers demands distances times head total₀ p₀ k₀ total p k = Left (groundOf customers distances times head) calls ends places total p k
 
 abbrev μ-loop : tie.MeasureT-loop
-μ-loop calls ends places customers distances times head total₀ p₀ k₀ total p k = length ends - k
+μ-loop calls ends places customers demands distances times head total₀ p₀ k₀ total p k = length ends - k
 
 loop-holds : tie.Need-loop-holds Inv-loop μ-loop
 loop-holds c =
@@ -53,7 +53,7 @@ part-mark-run-end c = omega (arith, next-inside (c .before .before .before .loop
 mark-run-requires : tie.Need-mark-run-requires Inv-loop μ-loop
 mark-run-requires c κs =
     let inside = next-inside (c .before .before .before .before .loop .inv) (c .before .before .before .loop-test .taken) in
-    simp (length-take, length-drop) (omega arith)
+    (simp (length-take, length-drop) (omega arith), c .before .before .before .before .before .before .before .before .before .before .pre .0 .2)
 
 enum-known-marked : tie.Need-enum-known-marked Inv-loop μ-loop
 enum-known-marked c = search needs

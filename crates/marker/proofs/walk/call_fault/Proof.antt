@@ -2,8 +2,8 @@
 use mathlib.Core.Path.{_≡_, ap}
 use lib.Ieee.{Float}
 use Rattle.definitions.specs.Sheet.{BreakOf}
-use Rattle.evaluation.specs.declared.schedule.Ready.the-variants.{TooLate, From}
-use Rattle.evaluation.specs.Serving.{breakStartF, readyF}
+use Rattle.clock.specs.declared.schedule.Ready.the-variants.{TooLate, From}
+use Rattle.clock.specs.Serving.{breakStartF, readyF}
 use Rattle.marker.specs.declared.verdict.Verdict.the-variants.{BreakTooLate}
 use Rattle.marker.specs.Walking.{callFaultF}
 use borrow.Author.Needs.{needs}
@@ -19,8 +19,8 @@ enum-told c = search needs
 break-or-requires : tie.Need-break-or-requires
 break-or-requires c κs = search needs
 
-later-requires : tie.Need-later-requires
-later-requires c κs = search needs
+break-start-at-requires : tie.Need-break-start-at-requires
+break-start-at-requires c κs = search needs
 
 enum-known-readiness : tie.Need-enum-known-readiness
 enum-known-readiness c = search needs
@@ -34,7 +34,7 @@ returns c =
     let ready = c .before .before .before .before in
     let a = ready .before .args in
     let e : ready .ready-at .result ≡ TooLate = search needs in
-    rw (← ready .ready-at .ensures, e, c .later .ensures)
+    rw (← ready .ready-at .ensures, e, c .break-start-at .ensures)
     (ap (λ (b : BreakOf Float). BreakTooLate (a .run) (a .k) (a .cid) (breakStartF b (a .arrival)) (b .latest)) (c .before .break-or .ensures))
 
 returns-2 : tie.Need-returns-2
@@ -51,7 +51,7 @@ call-fault-spec =
     ready-at-requires
     enum-told
     break-or-requires
-    later-requires
+    break-start-at-requires
     enum-known-readiness
     due-or-zero-requires
     returns

@@ -6,9 +6,10 @@ use lib.ListN.{length, drop}
 use lib.Ieee.{Float}
 use Rattle.whole.specs.Bits.{fl-zero}
 use Rattle.models.specs.Records.{restOf}
-use Rattle.evaluation.specs.declared.schedule.Label.{Label}
-use Rattle.evaluation.specs.declared.schedule.Reached.the-variants.{Nowhere, At}
-use Rattle.evaluation.specs.Records.{reachedOf, lent}
+use Rattle.clock.specs.declared.schedule.Label.{Label}
+use Rattle.clock.specs.declared.schedule.Reached.the-variants.{Nowhere, At}
+use Rattle.clock.specs.Records.{reachedOf}
+use Rattle.evaluation.specs.Records.{lent}
 use Rattle.evaluation.proofs.Reading.{read-record}
 use Rattle.marker.specs.Walking.{walkF}
 use Rattle.marker.proofs.Calls.{walk-on, walk-stops, walk-end}

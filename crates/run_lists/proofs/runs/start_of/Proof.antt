@@ -4,12 +4,14 @@ use native.Mathlib.Omega.{arith}
 use mathlib.Core.Path.{_≡_, refl, ap}
 use mathlib.Core.List.{List}
 use lib.ListN.{getD}
+use Rattle.evaluation.specs.Tables.{placeBefore}
 use Rattle.run_lists.specs.RunLists.{startIn}
 use borrow.Author.Needs.{needs}
 use Rattle.run_lists.proofs.runs.start_of.Statement.{statement}
 use Rattle.run_lists.proofs.runs.start_of.Tie as tie
 
 start-before : (ends : List ℕ) (k : ℕ) → (k ≡ 0 → ⊥) → getD ends (k - 1) 0 ≡ startIn ends k
+unfolding placeBefore
 start-before ends zero h = absurd (h refl)
 start-before ends (suc k) h = let e : suc k - 1 ≡ k = omega arith in ap (λ (j : ℕ). getD ends j 0) e
 
@@ -23,6 +25,7 @@ array-read-result : tie.Need-array-read-result
 array-read-result c = search needs
 
 returns : tie.Need-returns
+unfolding placeBefore
 returns c = rw (c .if1 .taken)
 
 returns-2 : tie.Need-returns-2

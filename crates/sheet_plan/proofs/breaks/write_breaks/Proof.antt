@@ -7,14 +7,14 @@ use borrow.Author.Needs.{needs}
 use Rattle.models.specs.Records.{restOf}
 use Rattle.evaluation.specs.Records.{lent}
 use Rattle.report.proofs.RunWalk.{begins, rises, inside}
-use Rattle.sheet_plan.specs.Breaks.{breakF}
+use Rattle.sheet_plan.specs.Breaks.{figuresF}
 use Rattle.sheet_plan.proofs.BreakTurns.{BreaksTo, set-out, places-kept, starts-kept, turn, places-ended, starts-ended}
 use Rattle.sheet_plan.proofs.breaks.write_breaks.Statement.{statement}
 use Rattle.sheet_plan.proofs.breaks.write_breaks.Tie as tie
 
 abbrev Inv-loop : tie.InvT-loop
 Inv-loop calls ends customers distances times size rest places₀ starts₀ from₀ k₀ places starts from k =
-    BreaksTo (breakF (lent customers distances times size) (restOf rest)) calls ends places₀ starts₀ places starts from k
+    BreaksTo (figuresF (lent customers distances times size) (restOf rest)) calls ends places₀ starts₀ places starts from k
 
 abbrev μ-loop : tie.MeasureT-loop
 μ-loop calls ends customers distances times size rest places₀ starts₀ from₀ k₀ places starts from k = length ends - k
@@ -23,7 +23,7 @@ loop-holds : tie.Need-loop-holds Inv-loop μ-loop
 loop-holds c =
     let s = c .before .before .before .before .before .before in
     let a = s .args in
-    set-out (breakF (lent (a .customers) (now (a .distances)) (now (a .times)) (a .size)) (restOf (a .rest))) (now (a .calls)) (now (a .ends)) (now (a .places)) (now (a .starts)) (s .pre .0)
+    set-out (figuresF (lent (a .customers) (now (a .distances)) (now (a .times)) (a .size)) (restOf (a .rest))) (now (a .calls)) (now (a .ends)) (now (a .places)) (now (a .starts)) (s .pre .0)
 
 mul-to : tie.Need-mul-to Inv-loop μ-loop
 mul-to c = search needs
@@ -31,20 +31,20 @@ mul-to c = search needs
 shared-slice-read-to : tie.Need-shared-slice-read-to Inv-loop μ-loop
 shared-slice-read-to c = omega arith
 
-mul-break-of : tie.Need-mul-break-of Inv-loop μ-loop
-mul-break-of c = omega (arith, begins (c .before .before .loop .inv .at-run))
+mul-break-figures : tie.Need-mul-break-figures Inv-loop μ-loop
+mul-break-figures c = omega (arith, begins (c .before .before .loop .inv .at-run))
 
-sub-break-of : tie.Need-sub-break-of Inv-loop μ-loop
-sub-break-of c = rises (c .before .before .loop .inv .at-run) (c .before .loop-test .taken)
+sub-break-figures : tie.Need-sub-break-figures Inv-loop μ-loop
+sub-break-figures c = rises (c .before .before .loop .inv .at-run) (c .before .loop-test .taken)
 
-part-break-of-start : tie.Need-part-break-of-start Inv-loop μ-loop
-part-break-of-start c = rises (c .before .before .loop .inv .at-run) (c .before .loop-test .taken)
+part-break-figures-start : tie.Need-part-break-figures-start Inv-loop μ-loop
+part-break-figures-start c = rises (c .before .before .loop .inv .at-run) (c .before .loop-test .taken)
 
-part-break-of-end : tie.Need-part-break-of-end Inv-loop μ-loop
-part-break-of-end c = inside (c .before .before .loop .inv .at-run) (c .before .loop-test .taken)
+part-break-figures-end : tie.Need-part-break-figures-end Inv-loop μ-loop
+part-break-figures-end c = inside (c .before .before .loop .inv .at-run) (c .before .loop-test .taken)
 
-break-of-requires : tie.Need-break-of-requires Inv-loop μ-loop
-break-of-requires c κs = search needs
+break-figures-requires : tie.Need-break-figures-requires Inv-loop μ-loop
+break-figures-requires c κs = search needs
 
 mul-places : tie.Need-mul-places Inv-loop μ-loop
 mul-places c = search needs
@@ -65,7 +65,7 @@ loop-less : tie.Need-loop-less Inv-loop μ-loop
 loop-less c = omega arith
 
 loop-again : tie.Need-loop-again Inv-loop μ-loop
-loop-again c = let l = c .before .before .before .before in turn (l .loop .inv) (c .before .before .before .loop-test .taken) (l .before .before .before .before .before .before .before .pre .1) (c .break-of .result) (c .break-of .ensures)
+loop-again c = let l = c .before .before .before .before in turn (l .loop .inv) (c .before .before .before .loop-test .taken) (l .before .before .before .before .before .before .before .pre .1) (c .break-figures .result) (c .break-figures .ensures)
 
 same-length : tie.Need-same-length Inv-loop μ-loop
 same-length c = places-kept (c .before .loop .inv) (c .before .before .before .before .before .before .before .before .pre .1 .0)
@@ -85,11 +85,11 @@ write-breaks-spec =
     loop-holds
     mul-to
     shared-slice-read-to
-    mul-break-of
-    sub-break-of
-    part-break-of-start
-    part-break-of-end
-    break-of-requires
+    mul-break-figures
+    sub-break-figures
+    part-break-figures-start
+    part-break-figures-end
+    break-figures-requires
     mul-places
     slice-write-places
     mul-starts

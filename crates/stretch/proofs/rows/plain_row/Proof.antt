@@ -9,8 +9,8 @@ use denote.Ref.{now}
 use borrow.Author.Needs.{needs}
 use borrow.Author.Tests.{leb-true}
 use Rattle.whole.specs.Bits.{fl-zero}
+use Rattle.stops.specs.Stops.{Below64}
 use Rattle.stretch.specs.declared.rows.Visited.the-variants.{Shut, Open}
-use Rattle.stretch.specs.Stops.{Below64}
 use Rattle.stretch.specs.Runs.{visitedOf, overBy, tariff, Rowed}
 use Rattle.stretch.proofs.Branches.{fails, holds}
 use Rattle.stretch.proofs.Along.{setout}

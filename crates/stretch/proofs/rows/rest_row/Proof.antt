@@ -9,10 +9,10 @@ use denote.Ref.{now}
 use borrow.Author.Needs.{needs}
 use borrow.Author.Tests.{leb-true}
 use Rattle.whole.specs.Bits.{fl-zero}
-use Rattle.evaluation.specs.declared.schedule.Finished.the-variants.{Impossible, Home}
-use Rattle.evaluation.specs.Records.{ClockF, clockOf, finishedOf}
-use Rattle.evaluation.specs.Clock.{begunF}
-use Rattle.stretch.specs.Stops.{Below64}
+use Rattle.clock.specs.declared.schedule.Finished.the-variants.{Impossible, Home}
+use Rattle.clock.specs.Records.{ClockF, clockOf, finishedOf}
+use Rattle.clock.specs.Clock.{begunF}
+use Rattle.stops.specs.Stops.{Below64}
 use Rattle.stretch.specs.Runs.{overBy, tariff, Rowed}
 use Rattle.stretch.proofs.Branches.{fails, holds}
 use Rattle.stretch.proofs.Along.{setout}

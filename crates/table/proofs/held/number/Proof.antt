@@ -1,4 +1,4 @@
--- `held::number` meets its contract. The loop's invariant: the numbers up to k are written. Assumes nothing.
+-- `held::number` meets its contract. The loop's invariant: the first k numbers are written. Assumes nothing.
 use Prim.Native.Nat.{ℕ, _+_, _-_, _≤_}
 use native.Mathlib.Omega.{arith}
 use mathlib.Core.Path.{_≡_, refl, ap, _∙_}
@@ -13,10 +13,10 @@ use Rattle.table.proofs.held.number.Statement.{statement}
 use Rattle.table.proofs.held.number.Tie as tie
 
 abbrev Inv-loop : tie.InvT-loop
-Inv-loop to₀ n k₀ to k = (k ≤ n) × (length to ≡ length to₀) × (to ≡ written (count 1 k) to₀)
+Inv-loop to₀ from n k₀ to k = (k ≤ n) × (length to ≡ length to₀) × (to ≡ written (count from k) to₀)
 
 abbrev μ-loop : tie.MeasureT-loop
-μ-loop to₀ n k₀ to k = n - k
+μ-loop to₀ from n k₀ to k = n - k
 
 loop-holds : tie.Need-loop-holds Inv-loop μ-loop
 loop-holds c = (omega arith, refl, refl)
@@ -39,10 +39,10 @@ loop-less c = search needs
 loop-again : tie.Need-loop-again Inv-loop μ-loop
 loop-again c =
     let l = c .before .loop in
-    let old = now (c .before .before .args .to) in (
+    let a = c .before .before .args in (
       omega arith,
       length-set (l .to) (l .k) _ ∙ l .inv .1,
-      ap (λ (x : List ℕ). set x (l .k) (l .k + 1)) (l .inv .2) ∙ numbered-more old (l .k) (omega arith),
+      ap (λ (x : List ℕ). set x (l .k) (a .from + l .k)) (l .inv .2) ∙ numbered-more (now (a .to)) (a .from) (l .k) (omega arith),
     )
 
 same-length : tie.Need-same-length Inv-loop μ-loop
@@ -51,8 +51,9 @@ same-length c = c .before .loop .inv .1
 returns : tie.Need-returns Inv-loop μ-loop
 returns c =
     let l = c .before .loop in
-    let e : l .k ≡ c .before .before .args .n = omega arith in
-    l .inv .2 ∙ ap (λ (k : ℕ). written (count 1 k) (now (c .before .before .args .to))) e
+    let a = c .before .before .args in
+    let e : l .k ≡ a .n = omega arith in
+    l .inv .2 ∙ ap (λ (k : ℕ). written (count (a .from) k) (now (a .to))) e
 
 pub number-spec : {M : Type 1} → statement M
 number-spec =

@@ -1,6 +1,6 @@
 -- `trip::attend` meets its contract. Assumes nothing.
 use mathlib.Core.Path.{_≡_}
-use Rattle.evaluation.specs.declared.schedule.Reached.the-variants.{Nowhere, At}
+use Rattle.clock.specs.declared.schedule.Reached.the-variants.{Nowhere, At}
 use Rattle.visits.specs.Visiting.{servedF}
 use borrow.Author.Needs.{needs}
 use Rattle.visits.proofs.trip.attend.Statement.{statement}

@@ -1,6 +1,6 @@
 -- `Way::on` meets its contract. Assumes nothing.
 use mathlib.Core.Path.{_≡_}
-use Rattle.evaluation.specs.declared.schedule.Reached.the-variants.{Nowhere, At}
+use Rattle.clock.specs.declared.schedule.Reached.the-variants.{Nowhere, At}
 use Rattle.evaluation.specs.Way.{wayOnF}
 use borrow.Author.Needs.{needs}
 use Rattle.evaluation.proofs.way.Way.on.Statement.{statement}

@@ -2,7 +2,7 @@
 use mathlib.Core.Path.{sym, ap₂}
 use lib.Ieee.{Float}
 use Rattle.whole.specs.Bits.{fl-zero}
-use Rattle.evaluation.specs.declared.schedule.Label.{Label}
+use Rattle.clock.specs.declared.schedule.Label.{Label}
 use borrow.Author.Needs.{needs}
 use Rattle.evaluation.proofs.way.Way.start.Statement.{statement}
 use Rattle.evaluation.proofs.way.Way.start.Tie as tie

@@ -1,0 +1,64 @@
+-- `Label::earlier` meets its contract, by which of the labels there are. Assumes nothing.
+use mathlib.Core.Path.{_≡_, sym, _∙_}
+use Rattle.clock.specs.declared.schedule.Reached.the-variants.{Nowhere, At}
+use Rattle.clock.specs.Serving.{earlierF}
+use borrow.Author.Needs.{needs}
+use Rattle.clock.proofs.schedule.Label.earlier.Statement.{statement}
+use Rattle.clock.proofs.schedule.Label.earlier.Tie as tie
+
+enum-known-a : tie.Need-enum-known-a
+enum-known-a c = search needs
+
+enum-told : tie.Need-enum-told
+enum-told c = search needs
+
+returns : tie.Need-returns
+unfolding earlierF
+returns c = let e : c .before .before .args .a ≡ Nowhere = search needs in rw e
+
+enum-known-b : tie.Need-enum-known-b
+enum-known-b c = search needs
+
+enum-told-2 : tie.Need-enum-told-2
+enum-told-2 c = search needs
+
+returns-2 : tie.Need-returns-2
+unfolding earlierF
+returns-2 c =
+    let a = c .before .before .before .before .before .args in
+    let e : a .a ≡ At (c .before .before .before .a .given .0 .0) = search needs in
+    let f : a .b ≡ Nowhere = search needs in
+    rw (e, f)
+
+smaller-requires : tie.Need-smaller-requires
+smaller-requires c κs = search needs
+
+returns-3 : tie.Need-returns-3
+unfolding earlierF
+returns-3 c =
+    let a = c .before .before .before .before .before .before .before .before .args in
+    let e : a .a ≡ At (c .before .before .before .before .before .before .a .given .0 .0) = search needs in
+    let f : a .b ≡ At (c .before .before .before .b .given .0 .0) = search needs in
+    rw (e, f) (rw (sym (c .before .smaller .ensures) ∙ c .if1 .taken))
+
+returns-4 : tie.Need-returns-4
+unfolding earlierF
+returns-4 c =
+    let a = c .before .before .before .before .before .before .before .before .args in
+    let e : a .a ≡ At (c .before .before .before .before .before .before .a .given .0 .0) = search needs in
+    let f : a .b ≡ At (c .before .before .before .b .given .0 .0) = search needs in
+    rw (e, f) (rw (sym (c .before .smaller .ensures) ∙ c .if1 .left))
+
+pub earlier-spec : {M : Type 1} → statement M
+earlier-spec =
+    tie.close
+    (tie.spec
+    enum-known-a
+    enum-told
+    returns
+    enum-known-b
+    enum-told-2
+    returns-2
+    smaller-requires
+    returns-3
+    returns-4)

@@ -1,0 +1,53 @@
+-- `prefix::go_on` meets its contract. Assumes nothing.
+use mathlib.Core.Path.{_≡_}
+use Rattle.local_search.specs.declared.prefix.Prefix.the-variants.{Failed, Plain, Clock}
+use Rattle.local_search.specs.Prefix.{onF}
+use borrow.Author.Needs.{needs}
+use Rattle.local_search.proofs.prefix.go_on.Statement.{statement}
+use Rattle.local_search.proofs.prefix.go_on.Tie as tie
+
+enum-told : tie.Need-enum-told
+enum-told c = search needs
+
+enum-known-prefix : tie.Need-enum-known-prefix
+enum-known-prefix c = search needs
+
+way-on-requires : tie.Need-way-on-requires
+way-on-requires c κs = search needs
+
+enum-known-prefix-2 : tie.Need-enum-known-prefix-2
+enum-known-prefix-2 c = search needs
+
+clock-on-requires : tie.Need-clock-on-requires
+clock-on-requires c κs =
+    let e : c .before .before .before .before .before .args .prefix ≡ Clock (c .before .prefix2 .given .0 .0) = search needs in
+    rw e at (c .before .before .before .before .before .pre)
+
+returns : tie.Need-returns
+unfolding onF
+returns c =
+    let e : c .before .before .before .before .args .prefix ≡ Failed = search needs in
+    rw e
+
+returns-2 : tie.Need-returns-2
+returns-2 c =
+    let e : c .before .before .before .before .before .before .args .prefix ≡ Plain (c .before .before .prefix .given .0 .0) = search needs in
+    rw e (c .way-on .ensures)
+
+returns-3 : tie.Need-returns-3
+returns-3 c =
+    let e : c .before .before .before .before .before .before .args .prefix ≡ Clock (c .before .before .prefix2 .given .0 .0) = search needs in
+    rw e (c .clock-on .ensures)
+
+pub go-on-spec : {M : Type 1} → statement M
+go-on-spec =
+    tie.close
+    (tie.spec
+    enum-told
+    enum-known-prefix
+    way-on-requires
+    enum-known-prefix-2
+    clock-on-requires
+    returns
+    returns-2
+    returns-3)

@@ -1,0 +1,2 @@
+-- Places and legs as numbers in lists.
+pub mod Stops

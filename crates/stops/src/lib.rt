@@ -1,0 +1,2 @@
+// What the cut reads of each place and leg, worked out once.
+pub mod stops;

@@ -1,0 +1,80 @@
+-- `two_opt::passes` meets its contract. The loop's invariant: the passes that are left, from here, end as all of them do. Assumes nothing.
+use mathlib.Core.Path.{_≡_, refl, sym, ap, _∙_}
+use lib.ListN.{length}
+use denote.Ref.{now}
+use Rattle.basics.specs.Tests.{not-true, not-false}
+use Rattle.evaluation.specs.Records.{lent}
+use Rattle.local_search.specs.Search.{searchOf}
+use Rattle.two_opt.specs.TwoOpt.{state, passesF, improvedF}
+use Rattle.two_opt.proofs.Passing.{pass-more, pass-last, no-pass}
+use borrow.Author.Needs.{needs}
+use Rattle.two_opt.proofs.two_opt.passes.Statement.{statement}
+use Rattle.two_opt.proofs.two_opt.passes.Tie as tie
+
+abbrev Inv-loop : tie.InvT-loop
+Inv-loop current₀ customers distances times size search left₀ current left =
+    (length current ≡ length current₀)
+    × (passesF (lent customers distances times size) (searchOf search) left current ≡ improvedF (lent customers distances times size) (searchOf search) current₀)
+
+abbrev μ-loop : tie.MeasureT-loop
+μ-loop current₀ customers distances times size search left₀ current left = left
+
+loop-holds : tie.Need-loop-holds Inv-loop μ-loop
+unfolding improvedF
+loop-holds c = (refl, refl)
+
+pass-requires : tie.Need-pass-requires Inv-loop μ-loop
+pass-requires c κs = search needs
+
+same-length : tie.Need-same-length Inv-loop μ-loop
+same-length c = c .before .before .before .pass .kept .0 ∙ c .before .before .before .before .before .before .loop .inv .0
+
+returns : tie.Need-returns Inv-loop μ-loop
+returns c =
+    let a = c .before .before .before .before .before .before .before .before .before .before .args in
+    let t = lent (a .customers) (now (a .distances)) (now (a .times)) (a .size) in
+    let l = c .before .before .before .before .before .before .loop in
+    let last = ap (state _) (sym (not-true _ (c .if1 .taken))) ∙ c .before .before .before .pass .ensures in
+    sym (pass-last t (searchOf (a .search)) (l .current) _ (l .left) (c .before .before .before .before .before .loop-test .taken) last) ∙ l .inv .1
+
+sub-left : tie.Need-sub-left Inv-loop μ-loop
+sub-left c = search needs
+
+loop-less : tie.Need-loop-less Inv-loop μ-loop
+loop-less c = search needs
+
+loop-again : tie.Need-loop-again Inv-loop μ-loop
+loop-again c =
+    let a = c .before .before .before .before .before .before .before .before .before .before .args in
+    let t = lent (a .customers) (now (a .distances)) (now (a .times)) (a .size) in
+    let l = c .before .before .before .before .before .before .loop in
+    let more = ap (state _) (sym (not-false _ (c .if1 .left))) ∙ c .before .before .before .pass .ensures in (
+      c .before .before .before .pass .kept .0 ∙ l .inv .0,
+      sym (pass-more t (searchOf (a .search)) (l .current) _ (l .left) (c .before .before .before .before .before .loop-test .taken) more) ∙ l .inv .1,
+    )
+
+same-length-2 : tie.Need-same-length-2 Inv-loop μ-loop
+same-length-2 c = c .before .loop .inv .0
+
+returns-2 : tie.Need-returns-2 Inv-loop μ-loop
+returns-2 c =
+    let a = c .before .before .before .before .before .args in
+    let t = lent (a .customers) (now (a .distances)) (now (a .times)) (a .size) in
+    let l = c .before .loop in
+    sym (no-pass t (searchOf (a .search)) (l .current) (l .left) (c .loop-test .left)) ∙ l .inv .1
+
+pub passes-spec : {M : Type 1} → statement M
+passes-spec =
+    tie.close
+    (tie.spec
+    Inv-loop
+    μ-loop
+    loop-holds
+    pass-requires
+    same-length
+    returns
+    sub-left
+    loop-less
+    loop-again
+    same-length-2
+    returns-2)

@@ -1,0 +1,83 @@
+-- `two_opt::reversal_delta` meets its contract. The loop's invariant: what is left of the segment, from here, comes to what the whole segment does. Assumes nothing.
+use Prim.Native.Nat.{ℕ, _-_}
+use mathlib.Core.Path.{_≡_, refl, sym, ap₂, _∙_}
+use lib.ListN.{length, drop}
+use lib.Ieee.{Float}
+use denote.Ref.{now}
+use Rattle.whole.specs.Bits.{fl-zero}
+use Rattle.distance.specs.Lookup.{lookupF}
+use Rattle.two_opt.specs.Delta.{turnedLegsF, reversalDeltaF}
+use Rattle.two_opt.proofs.TurnedLegs.{turned-legs-turn, turned-legs-end}
+use borrow.Author.Needs.{needs}
+use Rattle.two_opt.proofs.two_opt.reversal_delta.Statement.{statement}
+use Rattle.two_opt.proofs.two_opt.reversal_delta.Tie as tie
+
+abbrev Inv-loop : tie.InvT-loop
+Inv-loop segment distances size symmetric sum₀ prev₀ k₀ sum prev k =
+    turnedLegsF (lookupF distances size) sum prev (drop k segment) ≡ turnedLegsF (lookupF distances size) sum₀ prev₀ (drop 1 segment)
+
+abbrev μ-loop : tie.MeasureT-loop
+μ-loop segment distances size symmetric sum₀ prev₀ k₀ sum prev k = length segment - k
+
+returns : tie.Need-returns Inv-loop μ-loop
+unfolding reversalDeltaF
+returns c = rw (c .if1 .taken) (sym fl-zero)
+
+call-at-requires : tie.Need-call-at-requires Inv-loop μ-loop
+call-at-requires c κs = search needs
+
+loop-holds : tie.Need-loop-holds Inv-loop μ-loop
+loop-holds c = refl
+
+mul-next : tie.Need-mul-next Inv-loop μ-loop
+mul-next c = search needs
+
+shared-slice-read-next : tie.Need-shared-slice-read-next Inv-loop μ-loop
+shared-slice-read-next c = search needs
+
+get-requires : tie.Need-get-requires Inv-loop μ-loop
+get-requires c κs = search needs
+
+get-requires-2 : tie.Need-get-requires-2 Inv-loop μ-loop
+get-requires-2 c κs = search needs
+
+add-k : tie.Need-add-k Inv-loop μ-loop
+add-k c = search needs
+
+loop-less : tie.Need-loop-less Inv-loop μ-loop
+loop-less c = search needs
+
+loop-again : tie.Need-loop-again Inv-loop μ-loop
+loop-again c =
+    let l = c .before .before .before .before .loop in
+    let a = c .before .before .before .before .before .before .before .before .before .args in
+    sym (turned-legs-turn (lookupF (now (a .distances)) (a .size)) (now (a .segment)) (l .sum) (l .prev) (l .k) _ _ (c .before .before .before .loop-test .taken) (c .before .get .ensures) (c .get2 .ensures)) ∙ l .inv
+
+returns-2 : tie.Need-returns-2 Inv-loop μ-loop
+unfolding reversalDeltaF
+returns-2 c =
+    let l = c .before .loop in
+    let a = c .before .before .before .before .before .before .args in
+    let leg = lookupF (now (a .distances)) (a .size) in
+    rw (c .before .before .before .if1 .left)
+    (sym (turned-legs-end leg (now (a .segment)) (l .sum) (l .prev) (l .k) (c .loop-test .left))
+    ∙ l .inv
+    ∙ ap₂ (λ (x : Float) (p : ℕ). turnedLegsF leg x p (drop 1 (now (a .segment)))) (sym fl-zero) (c .before .before .call-at .ensures))
+
+pub reversal-delta-spec : {M : Type 1} → statement M
+reversal-delta-spec =
+    tie.close
+    (tie.spec
+    Inv-loop
+    μ-loop
+    returns
+    call-at-requires
+    loop-holds
+    mul-next
+    shared-slice-read-next
+    get-requires
+    get-requires-2
+    add-k
+    loop-less
+    loop-again
+    returns-2)

@@ -1,0 +1,119 @@
+-- `two_opt::reverse_if_allowed` meets its contract. Assumes nothing.
+use native.Mathlib.Omega.{arith}
+use mathlib.Core.Path.{_∙_}
+use lib.ListN.{length-take}
+use denote.Ref.{now}
+use Rattle.basics.specs.Tests.{not-true, not-false}
+use Rattle.evaluation.specs.Records.{lent}
+use Rattle.local_search.specs.Search.{searchOf}
+use Rattle.local_search.specs.Prefix.{prefixOf}
+use Rattle.two_opt.proofs.Trying.{made, undone, left-long, allowed-from}
+use borrow.Author.Needs.{needs}
+use Rattle.two_opt.proofs.two_opt.reverse_if_allowed.Statement.{statement}
+use Rattle.two_opt.proofs.two_opt.reverse_if_allowed.Tie as tie
+
+add-end : tie.Need-add-end
+add-end c = search needs
+
+mul-reverse : tie.Need-mul-reverse
+mul-reverse c = search needs
+
+sub-reverse : tie.Need-sub-reverse
+sub-reverse c = search needs
+
+part-reverse-start : tie.Need-part-reverse-start
+part-reverse-start c = search needs
+
+part-reverse-end : tie.Need-part-reverse-end
+part-reverse-end c = search needs
+
+reverse-requires : tie.Need-reverse-requires
+reverse-requires c κs = search needs
+
+mul-is-allowed : tie.Need-mul-is-allowed
+mul-is-allowed c = search needs
+
+sub-is-allowed : tie.Need-sub-is-allowed
+sub-is-allowed c = search needs
+
+part-is-allowed-start : tie.Need-part-is-allowed-start
+part-is-allowed-start c = search needs
+
+part-is-allowed-end : tie.Need-part-is-allowed-end
+part-is-allowed-end c = search needs
+
+is-allowed-requires : tie.Need-is-allowed-requires
+is-allowed-requires c κs =
+    let reversed = c .before .before .before .before in
+    let S = reversed .before .before .before .before .before in
+    let a = S .args in
+    omega (arith, left-long (a .i) (a .j) (now (a .current)) _ (reversed .reverse .ensures) (S .pre .0 .0) (S .pre .0 .1), S .pre .1 .index, length-take (a .i) (now (a .current)))
+
+mul-reverse-2 : tie.Need-mul-reverse-2
+mul-reverse-2 c = search needs
+
+sub-reverse-2 : tie.Need-sub-reverse-2
+sub-reverse-2 c = search needs
+
+part-reverse-start-2 : tie.Need-part-reverse-start-2
+part-reverse-start-2 c = search needs
+
+part-reverse-end-2 : tie.Need-part-reverse-end-2
+part-reverse-end-2 c = search needs
+
+reverse-requires-2 : tie.Need-reverse-requires-2
+reverse-requires-2 c κs = search needs
+
+same-length : tie.Need-same-length
+same-length c = search needs
+
+returns : tie.Need-returns
+returns c =
+    let tested = c .before .before .before .before in
+    let asked = tested .before in
+    let reversed = asked .before .before .before .before .before in
+    let S = reversed .before .before .before .before .before in
+    let a = S .args in
+    let t = lent (a .customers) (now (a .distances)) (now (a .times)) (a .size) in
+    let s = searchOf (a .search) in
+    let no = allowed-from t s (a .i) (now (a .current)) _ (prefixOf (a .prefix)) (omega (arith, S .pre .0)) (S .pre .1) _ (asked .is-allowed .ensures) ∙ not-true _ (tested .if1 .taken) in
+    undone t s (a .i) (a .j) (now (a .current)) (a .improved) _ (reversed .reverse .ensures) (S .pre .0 .0) (S .pre .0 .1) no _ (c .before .before .reverse2 .ensures)
+
+same-length-2 : tie.Need-same-length-2
+same-length-2 c = search needs
+
+returns-2 : tie.Need-returns-2
+returns-2 c =
+    let asked = c .before in
+    let reversed = asked .before .before .before .before .before in
+    let S = reversed .before .before .before .before .before in
+    let a = S .args in
+    let t = lent (a .customers) (now (a .distances)) (now (a .times)) (a .size) in
+    let s = searchOf (a .search) in
+    let yes = allowed-from t s (a .i) (now (a .current)) _ (prefixOf (a .prefix)) (omega (arith, S .pre .0)) (S .pre .1) _ (asked .is-allowed .ensures) ∙ not-false _ (c .if1 .left) in
+    made t s (a .i) (a .j) (now (a .current)) (a .improved) _ (reversed .reverse .ensures) yes
+
+pub reverse-if-allowed-spec : {M : Type 1} → statement M
+reverse-if-allowed-spec =
+    tie.close
+    (tie.spec
+    add-end
+    mul-reverse
+    sub-reverse
+    part-reverse-start
+    part-reverse-end
+    reverse-requires
+    mul-is-allowed
+    sub-is-allowed
+    part-is-allowed-start
+    part-is-allowed-end
+    is-allowed-requires
+    mul-reverse-2
+    sub-reverse-2
+    part-reverse-start-2
+    part-reverse-end-2
+    reverse-requires-2
+    same-length
+    returns
+    same-length-2
+    returns-2)

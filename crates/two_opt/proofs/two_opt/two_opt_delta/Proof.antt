@@ -1,0 +1,87 @@
+-- `two_opt::two_opt_delta` meets its contract. Assumes nothing.
+use native.Mathlib.Numerals.{add-one}
+use Rattle.two_opt.specs.Delta.{deltaF}
+use borrow.Author.Needs.{needs}
+use Rattle.two_opt.proofs.two_opt.two_opt_delta.Statement.{statement}
+use Rattle.two_opt.proofs.two_opt.two_opt_delta.Tie as tie
+
+mul-first : tie.Need-mul-first
+mul-first c = search needs
+
+shared-slice-read-first : tie.Need-shared-slice-read-first
+shared-slice-read-first c = search needs
+
+mul-last : tie.Need-mul-last
+mul-last c = search needs
+
+shared-slice-read-last : tie.Need-shared-slice-read-last
+shared-slice-read-last c = search needs
+
+place-before-requires : tie.Need-place-before-requires
+place-before-requires c κs = search needs
+
+add-end : tie.Need-add-end
+add-end c = search needs
+
+call-at-requires : tie.Need-call-at-requires
+call-at-requires c κs = search needs
+
+get-requires : tie.Need-get-requires
+get-requires c κs = search needs
+
+get-requires-2 : tie.Need-get-requires-2
+get-requires-2 c κs = search needs
+
+get-requires-3 : tie.Need-get-requires-3
+get-requires-3 c κs = search needs
+
+mul-reversal-delta : tie.Need-mul-reversal-delta
+mul-reversal-delta c = search needs
+
+sub-reversal-delta : tie.Need-sub-reversal-delta
+sub-reversal-delta c = search needs
+
+part-reversal-delta-start : tie.Need-part-reversal-delta-start
+part-reversal-delta-start c = search needs
+
+part-reversal-delta-end : tie.Need-part-reversal-delta-end
+part-reversal-delta-end c = search needs
+
+reversal-delta-requires : tie.Need-reversal-delta-requires
+reversal-delta-requires c κs = search needs
+
+returns : tie.Need-returns
+unfolding deltaF
+returns c =
+    let s = c .before .before .before .before .before .before .before .before .before .before .before in
+    rw (
+      c .reversal-delta .ensures,
+      c .before .before .get3 .ensures,
+      c .before .before .before .get2 .ensures,
+      c .before .before .before .before .get .ensures,
+      c .before .before .before .before .before .call-at .ensures,
+      c .before .before .before .before .before .before .place-before .ensures,
+      s .pre .1,
+      add-one (s .args .j),
+    )
+
+pub two-opt-delta-spec : {M : Type 1} → statement M
+two-opt-delta-spec =
+    tie.close
+    (tie.spec
+    mul-first
+    shared-slice-read-first
+    mul-last
+    shared-slice-read-last
+    place-before-requires
+    add-end
+    call-at-requires
+    get-requires
+    get-requires-2
+    get-requires-3
+    mul-reversal-delta
+    sub-reversal-delta
+    part-reversal-delta-start
+    part-reversal-delta-end
+    reversal-delta-requires
+    returns)

@@ -1,0 +1,77 @@
+-- two_opt_improve on floats, step by step as the code has it. Definitions only.
+use Prim.Native.Nat.{ℕ, zero, suc, _-_}
+use mathlib.Core.Bool.{Bool, true, false, cond}
+use mathlib.Core.List.{List, [], _∷_}
+use lib.ListN.{length}
+use lib.Ieee as Ieee
+use lib.Ieee.{Float}
+use Rattle.basics.specs.Lists.{count}
+use Rattle.definitions.specs.TwoOpt.{turned}
+use Rattle.evaluation.specs.Records.{Tables}
+use Rattle.evaluation.specs.Tables.{distanceF}
+use Rattle.evaluation.specs.Route.{feasibleF}
+use Rattle.local_search.specs.Search.{SearchF}
+use Rattle.local_search.specs.Route.{routeDistanceF}
+use Rattle.two_opt.specs.Delta.{deltaF}
+
+-- the run, and whether a reversal was taken on the way to it
+pub record State : Type 0 where
+  pub run : List ℕ
+  pub improved : Bool
+
+abbrev pub state : List ℕ → Bool → State
+state run improved = record { run = run; improved = improved }
+
+-- enough for every sheet: a run is at most 129 legs of 10,000,000 long, and each pass that takes a reversal makes it shorter by 1 at the least
+abbrev pub mostPasses : ℕ
+mostPasses = 1290000000
+
+-- turning the calls from i up to and with j gains enough to count
+abbrev pub gainsF : (ℕ → ℕ → Float) → SearchF → ℕ → ℕ → List ℕ → Bool
+gainsF leg s i j run = Ieee.lt (deltaF leg (s .symmetric) i j run) (Ieee.neg (s .floor))
+
+module _ (t : Tables) (s : SearchF) where
+  -- a run that the search may make: feasible, where that is asked
+  abbrev pub allowedF : List ℕ → Bool
+  allowedF run = cond (s .constrained) (feasibleF t (s .limits) run) true
+
+  -- the calls from i up to and with j are turned where the run that this makes is allowed
+  unfoldable pub reversedF : ℕ → ℕ → State → State
+  reversedF i j x = cond (allowedF (turned i j (x .run))) (state (turned i j (x .run)) true) x
+
+  -- where that gains
+  unfoldable pub triedF : ℕ → ℕ → State → State
+  triedF i j x = cond (gainsF (distanceF t) s i j (x .run)) (reversedF i j x) x
+
+  -- for the first call i of the stretch, each of these last calls in turn
+  unfoldable pub triedEachF : ℕ → List ℕ → State → State
+  triedEachF i [] x = x
+  triedEachF i (j ∷ js) x = triedEachF i js (triedF i j x)
+
+  -- each call after it, in a run of n calls
+  abbrev pub triedAllF : ℕ → ℕ → State → State
+  triedAllF n i x = triedEachF i (count (suc i) (n - suc i)) x
+
+  -- a pass: each first call in turn
+  unfoldable pub passFromF : ℕ → List ℕ → State → State
+  passFromF n [] x = x
+  passFromF n (i ∷ is) x = passFromF n is (triedAllF n i x)
+
+  unfoldable pub passF : List ℕ → State
+  passF run = passFromF (length run) (count 0 (length run - 1)) (state run false)
+
+  -- passes until one takes no reversal, so many at the most
+  unfoldable pub passesF : ℕ → List ℕ → List ℕ
+  passesF zero run = run
+  passesF (suc left) run =
+      let x = passF run in
+      let more = passesF left (x .run) in
+      cond (x .improved) more (x .run)
+
+  -- the calls that two_opt_improve gives
+  unfoldable pub improvedF : List ℕ → List ℕ
+  improvedF run = passesF mostPasses run
+
+  -- and the distance that it gives beside them
+  abbrev pub improvedDistanceF : List ℕ → Float
+  improvedDistanceF run = routeDistanceF (distanceF t) (improvedF run)

@@ -1,0 +1,3 @@
+// The reversal of stretches of a run (local_search/two_opt.rs).
+pub mod reverse;
+pub mod two_opt;

@@ -1,0 +1,313 @@
+// The reversal of stretches of a run (local_search/two_opt.rs): while one lowers the distance and makes a run that is allowed, it is taken. Only sheets without lateness pay come here.
+ghost use mathlib.Core.Path.{_≡_};
+ghost use Prim.Native.Nat.{_+_, _<_, _≤_};
+ghost use mathlib.Core.Bool.{true, cond, _&&_};
+ghost use lib.ListN.{length, take};
+ghost use Rattle.definitions.specs.Room.{written};
+ghost use Rattle.distance.specs.Lookup.{lookupF};
+ghost use Rattle.evaluation.specs.Records.{limitsOf, lent};
+ghost use Rattle.local_search.specs.Search.{searchOf};
+ghost use Rattle.local_search.specs.Prefix.{prefixOf, failedF, indexF, feasibleFromF, Leads};
+ghost use Rattle.two_opt.specs.Delta.{intoF, reversalDeltaF, deltaF};
+ghost use Rattle.two_opt.specs.TwoOpt.{state, gainsF, reversedF, triedAllF, passF, improvedF, improvedDistanceF};
+use crate::reverse::reverse;
+use distance::matrix::get;
+use evaluation::route::call_at;
+use evaluation::route::place_before;
+use evaluation::schedule::record_index;
+use local_search::prefix::Prefix;
+use local_search::prefix::feasible_from;
+use local_search::prefix::go_on;
+use local_search::prefix::has_failed;
+use local_search::prefix::set_out;
+use local_search::route::route_distance;
+use local_search::search::Search;
+use models::customer::Customer;
+use table::held::write_front;
+
+// What turning the segment changes in the length of its own legs: nothing where the distances are symmetric, else each leg back less the leg there.
+pub fn reversal_delta(segment: &[usize], distances: &[f64], size: usize, symmetric: bool) -> f64
+    ensures { λ r. ⌜ r ≡ reversalDeltaF (lookupF (now (distances .entry)) size) symmetric (now (segment .entry)) ⌝ }
+{
+    if symmetric {
+        return 0.0;
+    }
+    let mut sum = 0.0;
+    let mut prev = call_at(segment, 0);
+    let mut k = 1;
+    while k < segment.len() {
+        let next = segment[k];
+        let back = get(distances, size, next, prev);
+        sum = sum + (back - get(distances, size, prev, next));
+        prev = next;
+        k += 1;
+    }
+    sum
+}
+
+// The leg into call number i, from 0.
+pub fn leg_into(route: &[usize], distances: &[f64], size: usize, i: usize) -> f64
+    requires { ⌜ i < length (now route) ⌝ }
+    ensures { λ r. ⌜ r ≡ intoF (lookupF (now (distances .entry)) size) i (now (route .entry)) ⌝ }
+{
+    let first = route[i];
+    let prev_i = place_before(route, i);
+    get(distances, size, prev_i, first)
+}
+
+// What turning the calls from i up to and with j changes in the distance; `into` is the leg into call i.
+pub fn two_opt_delta(
+    route: &[usize],
+    distances: &[f64],
+    size: usize,
+    symmetric: bool,
+    into: f64,
+    i: usize,
+    j: usize,
+) -> f64
+    requires { ⌜ (i < j) × (j < length (now route)) ⌝ }
+    requires { ⌜ into ≡ intoF (lookupF (now distances) size) i (now route) ⌝ }
+    ensures { λ r. ⌜ r ≡ deltaF (lookupF (now (distances .entry)) size) symmetric i j (now (route .entry)) ⌝ }
+{
+    let first = route[i];
+    let last = route[j];
+    let prev_i = place_before(route, i);
+    let end = j + 1;
+    let next_j = call_at(route, end);
+    let old_cost = into + get(distances, size, last, next_j);
+    let new_in = get(distances, size, prev_i, last);
+    let new_cost = new_in + get(distances, size, first, next_j);
+    new_cost - old_cost + reversal_delta(&route[i..end], distances, size, symmetric)
+}
+
+// Whether turning the calls from i up to and with j gains enough to count.
+pub fn gains(
+    route: &[usize],
+    distances: &[f64],
+    size: usize,
+    search: Search,
+    into: f64,
+    i: usize,
+    j: usize,
+) -> bool
+    requires { ⌜ (i < j) × (j < length (now route)) ⌝ }
+    requires { ⌜ into ≡ intoF (lookupF (now distances) size) i (now route) ⌝ }
+    ensures { λ r. ⌜ r ≡ gainsF (lookupF (now (distances .entry)) size) (searchOf search) i j (now (route .entry)) ⌝ }
+{
+    let delta = two_opt_delta(route, distances, size, search.symmetric, into, i, j);
+    delta < -search.floor
+}
+
+// Whether the run that these calls end may be made: it is feasible, where that is asked.
+pub fn is_allowed(
+    prefix: Prefix,
+    calls: &[usize],
+    customers: [Customer; 64],
+    distances: &[f64],
+    times: &[f64],
+    size: usize,
+    search: Search,
+) -> bool
+    requires { ⌜ indexF (prefixOf prefix) + length (now calls) < 0xFFFF_FFFF_FFFF_FFFF ⌝ }
+    ensures { λ r. ⌜ r ≡ cond (search .constrained) (feasibleFromF (lent customers (now (distances .entry)) (now (times .entry)) size) (limitsOf (search .limits)) (prefixOf prefix) (now (calls .entry))) true ⌝ }
+{
+    if search.constrained {
+        let limits = search.limits;
+        return feasible_from(prefix, calls, customers, distances, times, size, limits);
+    }
+    true
+}
+
+// Turns the calls from i up to and with j, and turns them back where the run is not allowed; `prefix` is where the calls before i leave the bus. Gives whether a reversal is taken, here or before.
+pub fn reverse_if_allowed(
+    current: &mut [usize],
+    customers: [Customer; 64],
+    distances: &[f64],
+    times: &[f64],
+    size: usize,
+    search: Search,
+    prefix: Prefix,
+    i: usize,
+    j: usize,
+    improved: bool,
+) -> bool
+    requires { ⌜ (i < j) × (j < length (now current)) ⌝ }
+    requires { ⌜ Leads (lent customers (now distances) (now times) size) (limitsOf (search .limits)) (take i (now current)) (prefixOf prefix) ⌝ }
+    ensures { λ r. ⌜ state (now (current .exit)) r ≡ reversedF (lent customers (now (distances .entry)) (now (times .entry)) size) (searchOf search) i j (state (now (current .entry)) improved) ⌝ }
+{
+    let end = j + 1;
+    reverse(&mut current[i..end]);
+    if !is_allowed(
+        prefix,
+        &current[i..],
+        customers,
+        distances,
+        times,
+        size,
+        search,
+    ) {
+        reverse(&mut current[i..end]);
+        return improved;
+    }
+    true
+}
+
+// Whether no run that begins so may be made.
+pub fn no_run(search: Search, prefix: Prefix) -> bool
+    ensures { λ r. ⌜ r ≡ search .constrained && failedF (prefixOf prefix) ⌝ }
+{
+    if search.constrained {
+        return has_failed(prefix);
+    }
+    false
+}
+
+// For the first call i of the stretch, each last call in turn: a reversal that gains is made where it is allowed. The calls before i stay, so where they cannot be served, none is.
+pub fn try_all(
+    current: &mut [usize],
+    customers: [Customer; 64],
+    distances: &[f64],
+    times: &[f64],
+    size: usize,
+    search: Search,
+    prefix: Prefix,
+    i: usize,
+    improved: bool,
+) -> bool
+    requires { ⌜ i < length (now current) ⌝ }
+    requires { ⌜ Leads (lent customers (now distances) (now times) size) (limitsOf (search .limits)) (take i (now current)) (prefixOf prefix) ⌝ }
+    ensures { λ r. ⌜ state (now (current .exit)) r ≡ triedAllF (lent customers (now (distances .entry)) (now (times .entry)) size) (searchOf search) (length (now (current .entry))) i (state (now (current .entry)) improved) ⌝ }
+    ensures { λ _. ⌜ take i (now (current .exit)) ≡ take i (now (current .entry)) ⌝ }
+{
+    if no_run(search, prefix) {
+        return improved;
+    }
+    let mut any = improved;
+    let mut next = i + 1;
+    let mut into = leg_into(&current[..], distances, size, i);
+    while next < current.len() {
+        let j = next;
+        next += 1;
+        if !gains(&current[..], distances, size, search, into, i, j) {
+            continue;
+        }
+        any = reverse_if_allowed(
+            &mut *current,
+            customers,
+            distances,
+            times,
+            size,
+            search,
+            prefix,
+            i,
+            j,
+            any,
+        );
+        into = leg_into(&current[..], distances, size, i);
+    }
+    any
+}
+
+// A pass: each first call in turn; a run of fewer than two calls has none. Gives whether a reversal is taken.
+pub fn pass(
+    current: &mut [usize],
+    customers: [Customer; 64],
+    distances: &[f64],
+    times: &[f64],
+    size: usize,
+    search: Search,
+) -> bool
+    ensures { λ r. ⌜ state (now (current .exit)) r ≡ passF (lent customers (now (distances .entry)) (now (times .entry)) size) (searchOf search) (now (current .entry)) ⌝ }
+{
+    let mut improved = false;
+    let limits = search.limits;
+    let rest = limits.rest;
+    let mut prefix = set_out(rest);
+    let mut i: usize = 0;
+    while i + 1 < current.len() {
+        improved = try_all(
+            &mut *current,
+            customers,
+            distances,
+            times,
+            size,
+            search,
+            prefix,
+            i,
+            improved,
+        );
+        let cid = current[i];
+        let index = record_index(cid);
+        prefix = go_on(prefix, cid, customers[index], distances, times, size);
+        i += 1;
+    }
+    improved
+}
+
+// Enough passes for every sheet: a run is at most 129 legs of 10,000,000 long, and each pass that takes a reversal makes it shorter by 1 at the least. On other numbers the search ends here.
+pub const MOST_PASSES: u32 = 1_290_000_000;
+
+// Passes until one takes no reversal.
+pub fn passes(
+    current: &mut [usize],
+    customers: [Customer; 64],
+    distances: &[f64],
+    times: &[f64],
+    size: usize,
+    search: Search,
+)
+    ensures { λ _. ⌜ now (current .exit) ≡ improvedF (lent customers (now (distances .entry)) (now (times .entry)) size) (searchOf search) (now (current .entry)) ⌝ }
+{
+    let mut left = MOST_PASSES;
+    while 0 < left {
+        if !pass(&mut *current, customers, distances, times, size, search) {
+            return;
+        }
+        left -= 1;
+    }
+}
+
+// The run, improved inside a list of its length. Gives its distance.
+pub fn improve(
+    route: &[usize],
+    customers: [Customer; 64],
+    distances: &[f64],
+    times: &[f64],
+    size: usize,
+    search: Search,
+    current: &mut [usize],
+) -> f64
+    requires { ⌜ length (now current) ≡ length (now route) ⌝ }
+    ensures { λ r. ⌜ r ≡ improvedDistanceF (lent customers (now (distances .entry)) (now (times .entry)) size) (searchOf search) (now (route .entry)) ⌝ }
+    ensures { λ _. ⌜ now (current .exit) ≡ improvedF (lent customers (now (distances .entry)) (now (times .entry)) size) (searchOf search) (now (route .entry)) ⌝ }
+{
+    write_front(route, &mut *current);
+    passes(&mut *current, customers, distances, times, size, search);
+    route_distance(&current[..], distances, size)
+}
+
+// The same at the front of a longer list; what lies beyond the run stays.
+pub fn two_opt_improve(
+    route: &[usize],
+    customers: [Customer; 64],
+    distances: &[f64],
+    times: &[f64],
+    size: usize,
+    search: Search,
+    current: &mut [usize],
+) -> f64
+    requires { ⌜ length (now route) ≤ length (now current) ⌝ }
+    ensures { λ r. ⌜ r ≡ improvedDistanceF (lent customers (now (distances .entry)) (now (times .entry)) size) (searchOf search) (now (route .entry)) ⌝ }
+    ensures { λ _. ⌜ now (current .exit) ≡ written (improvedF (lent customers (now (distances .entry)) (now (times .entry)) size) (searchOf search) (now (route .entry))) (now (current .entry)) ⌝ }
+{
+    let n = route.len();
+    improve(
+        route,
+        customers,
+        distances,
+        times,
+        size,
+        search,
+        &mut current[..n],
+    )
+}
