@@ -43,7 +43,7 @@ module _ {A B : Type 0} (g : A → B) where
   any-same p q h [] = refl
   any-same p q h (x ∷ l) = λ i. h x i || any-same p q h l i
 
-  present-same : (o : Option A) → present (Option·map g o) ≡ present o
+  pub present-same : (o : Option A) → present (Option·map g o) ≡ present o
   present-same none = refl
   present-same (some x) = refl
 

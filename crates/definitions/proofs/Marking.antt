@@ -19,6 +19,7 @@ use Rattle.definitions.specs.Cutting.{joined, legalCutting, cuttingCost}
 use Rattle.definitions.specs.Drop.{splitTw}
 use Rattle.definitions.specs.Promise.{Promise, byClock}
 use Rattle.definitions.specs.Marker.{markAgainst, Verdict, otherCalls, overload, breakTooLate, windowMissed, breakMissing, tooFar, tooLong, best, dearer, cheaper, differ, breakOr, callFault, walkFault, totalFault, runFault, firstFault, against, mark}
+use Rattle.definitions.specs.Marks.{Cuts, plannerCost, Compared, equal, above, below}
 use Rattle.definitions.proofs.Legality.{legal-has, has-legal, legal-arc, arc-clock}
 use Rattle.definitions.proofs.Promised.{promised}
 
@@ -190,12 +191,6 @@ against-priced : (planner cost : ℕ) → isPriced (against planner cost) ≡ tr
 against-priced planner cost =
     by-test (ltb planner cost) (λ t. rw t refl) (λ f. by-test (ltb cost planner) (λ t. rw (f, t) refl) (λ g. rw (f, g) refl))
 
--- the same, or dearer or cheaper by something
-pub data Compared (planner cost : ℕ) : Verdict → Type 0 where
-  equal : cost ≡ planner → Compared planner cost best
-  above : {d : ℕ} → cost ≡ planner + d → 0 < d → Compared planner cost (dearer d)
-  below : {d : ℕ} → planner ≡ cost + d → 0 < d → Compared planner cost (cheaper d)
-
 module _ (planner cost : ℕ) where
   pub compared : Compared planner cost (against planner cost)
   compared =
@@ -249,13 +244,6 @@ pub mark-legal : (s : Sheet) (tour : List ℕ) (rs : List Run) → joined rs ≡
 mark-legal s tour rs j l =
     mark-same s tour rs (subst (λ (c : List ℕ). differ 1 (joined rs) c ≡ none) j (same-differ 1 (joined rs)))
     ∙ ap (λ (o : Option Verdict). valueOr (against (splitTw s tour .cost) (cuttingCost s rs)) o) (legal-runs-unmarked s 1 rs l)
-
--- the runs are legal with their places, and join to the planner's served customers
-abbrev pub Cuts : Sheet → List ℕ → List Run → Type 0
-Cuts s tour rs = (joined rs ≡ splitTw s tour .served) × (legalCutting s rs ≡ true)
-
-abbrev pub plannerCost : Sheet → List ℕ → ℕ
-plannerCost s tour = splitTw s tour .cost
 
 module _ (s : Sheet) (tour : List ℕ) (rs : List Run) (shaped : all (λ r. not (isEmpty (r .calls))) rs ≡ true) where
   priced-cuts : isPriced (mark s tour rs) ≡ true → Cuts s tour rs

@@ -29,7 +29,8 @@ use Rattle.bounds.specs.Inside.{Place, Sized, sized, few-calls, calls-inside}
 use Rattle.bounds.specs.Bounds.{load-most}
 use Rattle.whole.specs.Whole.{limit}
 use Rattle.marker.specs.Image.{flVerdict}
-use Rattle.marker.proofs.GivenRuns.{rises, with-calls, with-all, Inside, runs-inside}
+use Rattle.definitions.proofs.GivenRuns.{rises, with-calls, with-all}
+use Rattle.marker.proofs.GivenRuns.{Inside, runs-inside}
 use Rattle.sheet_calls.specs.Lent.{lentWith}
 use Rattle.sheet_mark.specs.Mark.{markedOn}
 use Rattle.sheet_mark.specs.Values.{Small}
