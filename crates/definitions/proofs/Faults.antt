@@ -12,12 +12,11 @@ use Rattle.basics.specs.Tests.{by-test, not-both, and-true}
 use Rattle.basics.specs.Options.{_>>=_, present, valueOr, orElse, given, same, clash, bound}
 use Rattle.basics.specs.Lists.{isEmpty, all, All}
 use Rattle.definitions.specs.Sheet.{Window, Break, Sheet}
-use Rattle.definitions.specs.Window.{enter}
+use Rattle.definitions.specs.Window.{dueOf, enter}
 use Rattle.definitions.specs.Limits.{within}
 use Rattle.definitions.specs.Run.{breakStart, tooLate, ready, serveAt, Label, start, serve, Run, breakAt, serveAll, lastOf, Totals, ride, load, fits, placed}
 use Rattle.definitions.specs.Cutting.{joined, cuttingCost}
 use Rattle.definitions.specs.Drop.{splitTw}
-use Rattle.definitions.specs.Visits.{dueOf}
 use Rattle.definitions.specs.Marker.{Verdict, otherCalls, breakMissing, tooFar, tooLong, differ, breakOr, callFault, walkFault, totalFault, runFault, firstFault, against, mark}
 use Rattle.definitions.specs.Marks.{Placeable, Proper, Differs, Reached, arrival, Home, Fails, by-load, by-break, by-window, by-missing, by-distance, by-duration, FirstFails, plannerCost, Says, other, fault, priced}
 use Rattle.definitions.proofs.Marking.{nothing-mapped, unmarked-legal, unmarked-runs, differ-same, compared, mark-other, mark-same}

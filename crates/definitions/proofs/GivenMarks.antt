@@ -16,8 +16,8 @@ use Rattle.definitions.specs.Cutting.{callsIn, cuttingCost}
 use Rattle.definitions.specs.Drop.{splitTw}
 use Rattle.definitions.specs.Marker.{Verdict, best, dearer, cheaper, withPlaces, mark}
 use Rattle.definitions.specs.Marks.{Proper, Cuts, plannerCost, Says}
-use Rattle.definitions.specs.Lent.{Lent, marking}
-use Rattle.definitions.specs.Refusals.{breakBeyond, refusalOf, whole, wholeSheet}
+use Rattle.definitions.specs.Lent.{Lent, whole, wholeSheet, marking}
+use Rattle.definitions.specs.Refusals.{breakBeyond, refusalOf}
 use Rattle.definitions.specs.Answers.{Answer, refused, gives, unlessRefused, answer, markOf}
 use Rattle.definitions.proofs.RunListLaws.{RiseTo, runs-back}
 use Rattle.definitions.proofs.GivenRuns.{rises, runs-proper}

@@ -17,11 +17,10 @@ use Rattle.definitions.specs.Limits.{within}
 use Rattle.definitions.specs.Run.{ready, Label, start, serve, breakAt, serveAll, Totals, home, Run, ride, load, fits, placed, legal}
 use Rattle.definitions.specs.Cutting.{joined, legalCutting, cuttingCost}
 use Rattle.definitions.specs.Drop.{splitTw}
-use Rattle.definitions.specs.Promise.{Promise, byClock}
 use Rattle.definitions.specs.Marker.{markAgainst, Verdict, otherCalls, overload, breakTooLate, windowMissed, breakMissing, tooFar, tooLong, best, dearer, cheaper, differ, breakOr, callFault, walkFault, totalFault, runFault, firstFault, against, mark}
 use Rattle.definitions.specs.Marks.{Cuts, plannerCost, Compared, equal, above, below}
 use Rattle.definitions.proofs.Legality.{legal-has, has-legal, legal-arc, arc-clock}
-use Rattle.definitions.proofs.Promised.{promised}
+use Rattle.definitions.proofs.Promised.{byClock, Promise, clock-runs, promised}
 
 -- what is not there after a step that cannot fail was not there before it
 pub nothing-mapped : {A B : Type 0} (o : Option A) (f : A → B) → (o >>= λ x. some (f x)) ≡ none → o ≡ none
@@ -304,7 +303,7 @@ module _ (s : Sheet) (tour : List ℕ) (rs : List Run) (shaped : all (λ r. not 
 
       by-rest : (o : Option Break) → s .rest ≡ o → present o ≡ true
       by-rest (some b) e = refl
-      by-rest none e = off (P .least-clock rs (c .0 .0) (c .0 .1, plain-by-clock s e rs (c .0 .1))) (c .1) (c .2)
+      by-rest none e = off (P .least-clock rs (c .0 .0) (c .0 .1, clock-runs s rs (plain-by-clock s e rs (c .0 .1)))) (c .1) (c .2)
 
 -- the planner's own cutting is marked Best
 pub own-best : (s : Sheet) (tour : List ℕ) → mark s tour (promised s tour .runs) ≡ best
