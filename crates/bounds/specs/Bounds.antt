@@ -14,8 +14,8 @@ use Rattle.definitions.specs.Sheet.{Window, Break, Customer, Sheet, customer, d
 use Rattle.definitions.specs.Window.{late, lateness, waiting, begins, Entry, enter}
 use Rattle.definitions.specs.Limits.{excused}
 use Rattle.definitions.specs.Run.{breakStart, tooLate, ready, Label, start, placeAfter, serveAt, serve, breakAt, serveAll, Run, lastOf, legsFrom, distanceFrom, Totals, home, ride, load}
-use Rattle.definitions.specs.Clock.{Clock, sooner, smaller, tick, clockFrom, counts, clock, startOf}
-use Rattle.definitions.specs.Visits.{Visit, readyFor, entered, visited, visitsFrom, lastLabel, placeOr, buildRoute}
+use Rattle.definitions.specs.Clock.{Clock, sooner, smaller, tick, clockFrom, counts, clock, placeOr, startOf}
+use Rattle.definitions.specs.Visits.{Visit, readyFor, entered, visited, visitsFrom, lastLabel, buildRoute}
 use Rattle.whole.specs.Whole.{limit}
 use Rattle.bounds.specs.Inside.{mostNumber, mostDemand, mostPenalty, Small, SmallWindow, SmallBreak, SmallCustomer, Sized, distance-small, time-small, customer-small, break-small}
 

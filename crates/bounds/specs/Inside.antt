@@ -17,7 +17,7 @@ use Rattle.definitions.specs.Domain.{isPlaces, isNumber, isCall, mostCalls}
 use Rattle.definitions.specs.Sheet.{Window, Break, Customer, Sheet, records, depot, customer, distance, timeTable, time}
 use Rattle.definitions.specs.Run.{lastOf, breakAt}
 use Rattle.definitions.specs.Drop.{callsAt}
-use Rattle.definitions.specs.Refusals.{unfit, badLimit, badBreak, badWindow, badCustomer, Within, WithinCalls}
+use Rattle.definitions.specs.Refusals.{unfit, badOptional, badBreak, badWindow, badCustomer, Within, WithinCalls}
 use Rattle.definitions.proofs.Ranges.{in-range, tables-even, break-in-range, window-in-range, customer-in-range}
 
 -- ---- the most that the Domain allows
@@ -76,7 +76,7 @@ pub record Sized (s : Sheet) : Type 0 where
 kept : (n m : ℕ) → not (leb n m) ≡ false → n ≤ m
 kept n m e = leb-true n m (not-false (leb n m) e)
 
-limit-kept : (m : ℕ) (o : Option ℕ) → badLimit some (λ (n : ℕ). leb n m) o ≡ false → Holds (λ (n : ℕ). n ≤ m) o
+limit-kept : (m : ℕ) (o : Option ℕ) → badOptional some (λ (n : ℕ). leb n m) o ≡ false → Holds (λ (n : ℕ). n ≤ m) o
 limit-kept m none e = tt
 limit-kept m (some n) e = kept n m e
 

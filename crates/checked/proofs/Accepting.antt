@@ -12,9 +12,9 @@ use Rattle.basics.specs.Options.{valueOr}
 use Rattle.basics.specs.Lists.{All}
 use Rattle.definitions.specs.Domain.{isPlaces}
 use Rattle.definitions.specs.Sheet.{SheetOf, Sheet, own}
-use Rattle.definitions.specs.Lent.{Lent, Call}
+use Rattle.definitions.specs.Lent.{Lent, wholeSheet, Call}
 use Rattle.definitions.specs.Refusal.{Refusal, firstFit}
-use Rattle.definitions.specs.Refusals.{refusals, refusalOf, wholeSheet}
+use Rattle.definitions.specs.Refusals.{refusals, refusalOf}
 use Rattle.definitions.specs.Answers.{refused, gives, unlessRefused, answer}
 use Rattle.whole.specs.Value.{value}
 use Rattle.models.specs.Image.{flSheet}

@@ -2,7 +2,7 @@
 use mathlib.Core.List.{List}
 use lib.Ieee.{Float}
 use Rattle.definitions.specs.Sheet.{Sheet}
-use Rattle.definitions.specs.Refusals.{wholeSheet}
+use Rattle.definitions.specs.Lent.{wholeSheet}
 use Rattle.whole.specs.Value.{value}
 use Rattle.models.specs.declared.customer.Customer.{Customer}
 use Rattle.models.specs.declared.head.Head.{Head}

@@ -13,10 +13,10 @@ use Rattle.basics.specs.Options.{present, valueOr}
 use Rattle.basics.specs.Lists.{All}
 use Rattle.definitions.specs.Domain.{isPlaces, isNumber}
 use Rattle.definitions.specs.Sheet.{SheetOf, records, own, mapSheet, anySoft}
-use Rattle.definitions.specs.Lent.{Lent, Call}
+use Rattle.definitions.specs.Lent.{Lent, whole, wholeSheet, Call}
 use Rattle.definitions.specs.Refusal.{refusal, firstFit}
 use Rattle.definitions.specs.Room.{short}
-use Rattle.definitions.specs.Refusals.{tooShort, tablesOdd, unfit, badSheet, outOfRange, pairsFall, runsOdd, refusals, refusalOf, whole, wholeSheet}
+use Rattle.definitions.specs.Refusals.{tooShort, tablesOdd, unfit, badSheet, outOfRange, pairsFall, runsOdd, refusals, refusalOf}
 use Rattle.definitions.proofs.Ranges.{LentInRange, lent-in-range, in-range}
 use Rattle.models.specs.declared.customer.Customer.{Customer}
 use Rattle.models.specs.Records.{customerOf, restOf}

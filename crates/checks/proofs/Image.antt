@@ -14,8 +14,8 @@ use Rattle.basics.specs.Options.{Holds}
 use Rattle.basics.specs.Lists.{any, All}
 use Rattle.definitions.specs.Domain.{isNumber}
 use Rattle.definitions.specs.Sheet.{WindowOf, BreakOf, CustomerOf, SheetOf, records, own, mapWindow, mapBreak, mapCustomer}
-use Rattle.definitions.specs.Lent.{Lent, Call}
-use Rattle.definitions.specs.Refusals.{unfit, badLimit, badBreak, badWindow, badCustomer, badSheet, refusalOf, whole, wholeSheet}
+use Rattle.definitions.specs.Lent.{Lent, whole, wholeSheet, Call}
+use Rattle.definitions.specs.Refusals.{unfit, badOptional, badBreak, badWindow, badCustomer, badSheet, refusalOf}
 use Rattle.definitions.proofs.Ranges.{break-in-range, window-in-range, customer-in-range, in-range, lent-in-range, not-refused}
 use Rattle.definitions.proofs.Accepted.{held}
 use Rattle.models.specs.Image.{flWindow, flBreak, flCustomer, flSheet}
@@ -60,7 +60,7 @@ module _ (m : ℕ) (l : m ≤ limit) where
       let b = leb-true (whole value x) m (e .1) in
       fl-value x (whole value x) f (e .0) (omega arith)
 
-  exact-limit : (o : Option Float) → Holds Fit o → badLimit value (λ (n : ℕ). leb n m) o ≡ false → o ≡ Option·map fl (Option·map (whole value) o)
+  exact-limit : (o : Option Float) → Holds Fit o → badOptional value (λ (n : ℕ). leb n m) o ≡ false → o ≡ Option·map fl (Option·map (whole value) o)
   exact-limit none f h = refl
   exact-limit (some x) f h = λ i. some (exact x f h i)
 

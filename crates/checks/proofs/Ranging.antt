@@ -13,7 +13,7 @@ use Rattle.basics.specs.Tests.{and-left, and-right, or-left, not-false, either}
 use Rattle.basics.specs.Lists.{any}
 use Rattle.definitions.specs.Domain.{isPlaces, isCapacity, isNumber}
 use Rattle.definitions.specs.Sheet.{SheetOf}
-use Rattle.definitions.specs.Refusals.{unfit, badLimit, badBreak, badCustomer, badDepot, badTour, badRunList}
+use Rattle.definitions.specs.Refusals.{unfit, badOptional, badBreak, badCustomer, badDepot, badTour, badRunList}
 use Rattle.models.specs.declared.customer.Customer.{Customer}
 use Rattle.models.specs.Records.{customerOf}
 use Rattle.whole.specs.Value.{value}
@@ -28,7 +28,7 @@ unfolding badHead
 head-places s h =
     not-false (isPlaces (s .places))
     (or-left (not (isPlaces (s .places)))
-    (either (not (isCapacity (s .capacity)) ∷ unfit value isNumber (s .fixed) ∷ badLimit value isNumber (s .maxDistance) ∷ badLimit value isNumber (s .maxDuration) ∷ badBreak value (s .rest) ∷ []))
+    (either (not (isCapacity (s .capacity)) ∷ unfit value isNumber (s .fixed) ∷ badOptional value isNumber (s .maxDistance) ∷ badOptional value isNumber (s .maxDuration) ∷ badBreak value (s .rest) ∷ []))
     h)
 
 pub places-low : (n : ℕ) → isPlaces n ≡ true → 1 ≤ n

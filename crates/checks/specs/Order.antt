@@ -9,8 +9,8 @@ use Rattle.basics.specs.Options.{valueOr}
 use Rattle.basics.specs.Lists.{any}
 use Rattle.definitions.specs.Domain.{isPlaces, isCapacity, isNumber}
 use Rattle.definitions.specs.Sheet.{SheetOf, records, own}
-use Rattle.definitions.specs.Lent.{Lent, Call, call}
-use Rattle.definitions.specs.Refusals.{unfit, badLimit, badBreak, badCustomer, badDepot, badTour, badRunList, refusalOf, wholeSheet}
+use Rattle.definitions.specs.Lent.{Lent, wholeSheet, Call, call}
+use Rattle.definitions.specs.Refusals.{unfit, badOptional, badBreak, badCustomer, badDepot, badTour, badRunList, refusalOf}
 use Rattle.whole.specs.Value.{value}
 use Rattle.models.specs.Image.{flSheet}
 use Rattle.models.specs.declared.customer.Customer.{Customer}
@@ -30,8 +30,8 @@ badHead s =
     (not (isPlaces (s .places))
     ∷ not (isCapacity (s .capacity))
     ∷ unfit value isNumber (s .fixed)
-    ∷ badLimit value isNumber (s .maxDistance)
-    ∷ badLimit value isNumber (s .maxDuration)
+    ∷ badOptional value isNumber (s .maxDistance)
+    ∷ badOptional value isNumber (s .maxDuration)
     ∷ badBreak value (s .rest)
     ∷ [])
 

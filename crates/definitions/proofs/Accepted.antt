@@ -1,23 +1,24 @@
--- A call that is not refused is lent a sheet that means one within the limits, calls of it, and lists that are long enough.
+-- A call is accepted exactly when it is lent a sheet that means one within the limits, calls of it, even runs, and lists that are long enough.
 use Prim.Native.Nat.{ℕ, _≤_}
 use native.Mathlib.Omega.{arith}
-use mathlib.Core.Path.{_≡_, refl, _∙_}
+use mathlib.Core.Logic.{_↔_}
+use mathlib.Core.Path.{_≡_, refl, sym, _∙_}
 use mathlib.Core.Bool.{Bool, true, false, _&&_, _||_, true≢false, false≢true}
 use mathlib.Core.List.{List, [], _∷_, map}
 use mathlib.Core.Option.{Option, none, some, Option·map}
 use lib.ListN.{length, length-map}
 use lib.Seq.{take-all, length-take-le}
 use lib.Dec.{eqb, ltb}
-use borrow.Author.Tests.{ltb-false}
-use Rattle.basics.specs.Tests.{or-left, or-right, not-false, not-of-true}
+use borrow.Author.Tests.{ltb-false, le-ltb}
+use Rattle.basics.specs.Tests.{or-left, or-right, or-false, not-false, not-of-true}
 use Rattle.basics.specs.Options.{holds, present, valueOr}
 use Rattle.basics.specs.Lists.{isEmpty, any, all-imp, all-map, any-fails, fails-any}
 use Rattle.definitions.specs.Domain.{isPenalty, isNumber}
 use Rattle.definitions.specs.Sheet.{WindowOf, BreakOf, CustomerOf, SheetOf, Customer, records, soft, anySoft, latenessPay, mapWindow, mapBreak, mapCustomer}
 use Rattle.definitions.specs.Room.{short}
-use Rattle.definitions.specs.Lent.{Lent, Call}
-use Rattle.definitions.specs.Refusals.{Within, WithinCalls, tablesOdd, unfit, badLimit, badBreak, badWindow, badCustomer, badDepot, badSheet, windowFalls, breakFalls, pairsFall, refusalOf, whole, wholeSheet}
-use Rattle.definitions.proofs.Ranges.{LongEnough, long-enough, RunsEven, runs-even, break-in-range, range-break, window-in-range, range-window, customer-in-range, range-customer, depot-in-range, range-depot, InRange, in-range, range-in, LentInRange, lent-in-range, PairsRise, pairs-rise, rise-pairs, NotRefused, not-refused}
+use Rattle.definitions.specs.Lent.{Lent, whole, wholeSheet, Call}
+use Rattle.definitions.specs.Refusals.{tooShort, Within, WithinCalls, tablesOdd, unfit, badOptional, badBreak, badWindow, badCustomer, badDepot, badSheet, windowFalls, breakFalls, pairsFall, refusalOf}
+use Rattle.definitions.proofs.Ranges.{LongEnough, long-enough, RunsEven, runs-even, even-runs, break-in-range, range-break, window-in-range, range-window, customer-in-range, range-customer, depot-in-range, range-depot, InRange, in-range, range-in, LentInRange, lent-in-range, range-lent, PairsRise, pairs-rise, rise-pairs, NotRefused, not-refused, none-refused}
 
 -- ---- lists long enough
 
@@ -32,6 +33,16 @@ at-least [] rooms h = tt
 at-least (n ∷ needs) [] h = absurd (true≢false h)
 at-least (n ∷ needs) (r ∷ rooms) h = (ltb-false r n (or-left (ltb r n) (short needs rooms) h), at-least needs rooms (or-right (ltb r n) (short needs rooms) h))
 
+none-short : (needs rooms : List ℕ) → AtLeast needs rooms → short needs rooms ≡ false
+none-short [] rooms a = refl
+none-short (n ∷ needs) [] a = absurd a
+none-short (n ∷ needs) (r ∷ rooms) a = or-false (ltb r n) (short needs rooms) (le-ltb r n (a .0)) (none-short needs rooms (a .1))
+
+-- a test that is made only of some calls
+only-where : (b t : Bool) → (b ≡ true → t ≡ false) → b && t ≡ false
+only-where true t h = h refl
+only-where false t h = refl
+
 -- ---- tests and their elements' images
 
 module _ {A B : Type 0} (g : A → B) where
@@ -43,7 +54,7 @@ module _ {A B : Type 0} (g : A → B) where
   any-same p q h [] = refl
   any-same p q h (x ∷ l) = λ i. h x i || any-same p q h l i
 
-  present-same : (o : Option A) → present (Option·map g o) ≡ present o
+  pub present-same : (o : Option A) → present (Option·map g o) ≡ present o
   present-same none = refl
   present-same (some x) = refl
 
@@ -65,7 +76,7 @@ module _ {F : Type 0} (value : F → Option ℕ) where
   fit : (p : ℕ → Bool) (x : F) → unfit value p x ≡ false → unfit some p (whole value x) ≡ false
   fit p x h = not-of-true (p (whole value x)) (held p x h .1)
 
-  fit-limit : (p : ℕ → Bool) (o : Option F) → badLimit value p o ≡ false → badLimit some p (Option·map (whole value) o) ≡ false
+  fit-limit : (p : ℕ → Bool) (o : Option F) → badOptional value p o ≡ false → badOptional some p (Option·map (whole value) o) ≡ false
   fit-limit p none h = refl
   fit-limit p (some x) h = fit p x h
 
@@ -210,3 +221,47 @@ module _ {F : Type 0} (value : F → Option ℕ) where
 
       enough : l .sheet .places ≤ length (l .sheet .customers)
       enough = ltb-false (length (l .sheet .customers)) (l .sheet .places) (L .customers)
+
+  -- ---- and a call that keeps all this is accepted
+
+  module _ (k : Call) (l : Lent F) (A : Accepted k l) where
+    not-short : tooShort k l ≡ false
+    not-short =
+        rw (
+          le-ltb (length (l .sheet .customers)) (l .sheet .places) (A .customers),
+          none-short (k .needs (length (l .tour)) (length (l .calls)) (length (l .ends))) (l .rooms) (A .results),
+          only-where (k .marks) (ltb (length (l .breaks)) (length (l .ends))) (λ m. le-ltb (length (l .breaks)) (length (l .ends)) (A .breaks m)),
+        )
+
+    not-odd : tablesOdd (l .sheet) ≡ false
+    unfolding wholeSheet
+    not-odd = rw (length-map (l .sheet .distances) (whole value), length-map (l .sheet .times) (whole value), empty-same (whole value) (l .sheet .times)) at (A .within .tables)
+
+    not-falling : pairsFall value (l .sheet) ≡ false
+    unfolding wholeSheet
+    not-falling =
+        let P = pairs-rise some (wholeSheet value (l .sheet)) (A .within .paired) in
+        rise-pairs value (l .sheet)
+        (record {
+          rest = sym (break-same (l .sheet .rest)) ∙ P .rest;
+          windows =
+              sym (any-same (mapCustomer (whole value)) (λ (c : CustomerOf F). windowFalls value (c .window)) (λ (c : Customer). windowFalls some (c .window)) (λ c. window-same (c .window)) (records (l .sheet)))
+              ∙ (rw (all-records (l .sheet) (A .customers)) at (P .windows));
+        })
+
+    pub accepted-none : refusalOf value k l ≡ none
+    unfolding wholeSheet
+    accepted-none =
+        none-refused value k l
+        (record {
+          long-13 = not-short;
+          tables-14 = not-odd;
+          range-1 = range-lent value l (record { sheet = range-in value (l .sheet) (A .ranged); tour = A .tour; run-list = A .calls });
+          pairs-2 = not-falling;
+          runs-5 = even-runs k l (A .runs);
+          pay-4 = only-where (k .improves) (anySoft (records (l .sheet))) (λ m. sym (pay-same (l .sheet)) ∙ A .unpaid m);
+        })
+
+  -- accepted is all else
+  pub accepted-exactly : (k : Call) (l : Lent F) → (refusalOf value k l ≡ none) ↔ Accepted k l
+  accepted-exactly k l = (accepted-within k l, accepted-none k l)

@@ -5,16 +5,16 @@ use mathlib.Core.Bool.{true}
 use mathlib.Core.List.{List, [], _∷_}
 use mathlib.Core.Option.{none, some}
 use Rattle.definitions.specs.Sheet.{Sheet, anySoft}
-use Rattle.definitions.specs.Marker.{Verdict, otherCalls, best, cheaper}
+use Rattle.definitions.specs.Marker.{otherCalls, best, cheaper}
 use Rattle.definitions.specs.RunList.{runsFrom}
 use Rattle.definitions.specs.Sort.{insert, sort}
 use Rattle.definitions.specs.Improver.{checksNeeded}
 use Rattle.definitions.specs.TwoOpt.{tried, triedAll, passFrom, pass, passes, improved}
 use Rattle.definitions.specs.Elimination.{candidates, firstBelow, placed, placedAll, emptied, firstEmptied, search, searches, eliminated}
 use Rattle.definitions.specs.Room.{written}
-use Rattle.definitions.specs.Lent.{Lent}
-use Rattle.definitions.specs.Refusals.{badSheet, outOfRange, pairsFall, refusals, refusalOf, wholeSheet}
-use Rattle.definitions.specs.Answers.{Answer, refused, gives, front, answer, routeFeasibleOf, effectiveCostOf, splitTwOf, splitOf, markOf, twoOptOf, eliminateOf}
+use Rattle.definitions.specs.Lent.{Lent, wholeSheet}
+use Rattle.definitions.specs.Refusals.{badSheet, outOfRange, pairsFall, refusals, refusalOf}
+use Rattle.definitions.specs.Answers.{refused, gives, front, answer, routeFeasibleOf, effectiveCostOf, splitTwOf, splitOf, markOf, twoOptOf, eliminateOf}
 use Rattle.definitions.proofs.Bench.{opened, base, carrying, until, late, tour, together, single}
 
 -- what the answers are computed through

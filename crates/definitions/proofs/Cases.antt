@@ -1,12 +1,12 @@
 -- The starred bench cases, each with its full answer; case n besides, and three more. Each holds by computation. Assumes nothing.
 use mathlib.Core.Path.{_≡_, refl}
 use mathlib.Core.Bool.{true}
-use mathlib.Core.List.{[], _∷_}
+use mathlib.Core.List.{List, [], _∷_}
 use mathlib.Core.Option.{none, some}
 use Rattle.definitions.specs.Sheet.{Sheet, depot}
-use Rattle.definitions.specs.Run.{legal}
+use Rattle.definitions.specs.Run.{Run, legal}
 use Rattle.definitions.specs.Evaluation.{routeEval}
-use Rattle.definitions.specs.Cutting.{cuttingCost}
+use Rattle.definitions.specs.Cutting.{legalCutting, cuttingCost}
 use Rattle.definitions.specs.Drop.{splitTw}
 use Rattle.definitions.specs.Marker.{cheaper, mark}
 use Rattle.definitions.proofs.Bench.{opened, anyone, sheet, base, carrying, until, limited, rested, late, full, tour, together, apart, single, nothingServed, totals, evaluated, run}
@@ -34,10 +34,14 @@ case-d = refl
 abbrev asFar : Sheet
 asFar = sheet 4 (0 ∷ 10 ∷ 12 ∷ 10 ∷ 0 ∷ 22 ∷ 12 ∷ 22 ∷ 0 ∷ []) none none none anyone
 
+-- runs 1 and 2, each with no break
+abbrev eachAlone : List Run
+eachAlone = run (1 ∷ []) 0 ∷ run (2 ∷ []) 0 ∷ []
+
 -- equal costs, one run
-pub case-e : (splitTw asFar tour ≡ together 44 44 0) × (cuttingCost asFar (run (1 ∷ []) 0 ∷ run (2 ∷ []) 0 ∷ []) ≡ 44)
+pub case-e : (splitTw asFar tour ≡ together 44 44 0) × (legalCutting asFar eachAlone ≡ true) × (cuttingCost asFar eachAlone ≡ 44)
 unfolding opened
-case-e = (refl, refl)
+case-e = (refl, refl, refl)
 
 pub case-f : splitTw (until 10 none) tour ≡ together 27 27 0
 unfolding opened

@@ -31,7 +31,7 @@ module _ (arc : List ℕ → Option Arc) (tour : List ℕ) where
         nil zero = refl
         nil (suc i) = refl
 
-        nothing-left : (i : ℕ) → Rattle.definitions.proofs.Least.Reach arc (beginning (Cuttable arc) tour i h) 0
+        nothing-left : (i : ℕ) → Rattle.definitions.proofs.Least.Reach arc (beginning tour i h) 0
         nothing-left i = Rattle.definitions.proofs.Least.start (ap (λ (q : List ℕ). take i (callsAt tour q)) (none-held (h .held) l) ∙ nil i) refl
     settles-in (suc turns) h l = go (stuck-is arc empty (callsAt tour (h .held))) (λ g b. settles-in turns g b)
       where
@@ -51,7 +51,7 @@ module _ (arc : List ℕ → Option Arc) (tour : List ℕ) where
     settles = settles-in (length tour) (allHeld tour) (subst (λ (n : ℕ). n ≤ length tour) (sym (length-count 1 (length tour))) (le-refl (length tour)))
 
 -- when no such beginning is left: every beginning of the calls held in the end has a cutting
-pub settled : (Has : List ℕ → Type 0) (tour : List ℕ) {h g : Held} → Settles Has tour h g → (i : ℕ) → i ≤ length (g .held) → Has (beginning Has tour i g)
+pub settled : (Has : List ℕ → Type 0) (tour : List ℕ) {h g : Held} → Settles Has tour h g → (i : ℕ) → i ≤ length (g .held) → Has (beginning tour i g)
 settled Has tour (stop a) = a
 settled Has tour (goes k b x a s) = settled Has tour s
 
@@ -85,11 +85,11 @@ module _ (arc : List ℕ → Option Arc) (tour : List ℕ) where
     held-is : pre ++ post ≡ h .held
     all-is : seen ++ post ≡ all
     parts : Parts seen pre (h .dropped)
-    fine : (i : ℕ) → i ≤ length pre → Cuttable arc (beginning (Cuttable arc) tour i h)
+    fine : (i : ℕ) → i ≤ length pre → Cuttable arc (beginning tour i h)
 
   -- the front moves past the call that goes
   onward : (all : List ℕ) (h : Held) (k : ℕ) (F : Front all h) (mid : List ℕ) (y : ℕ) (post : List ℕ) → F .post ≡ mid ++ (y ∷ post) → length (F .pre ++ mid) ≡ k
-      → ((i : ℕ) → i ≤ k → Cuttable arc (beginning (Cuttable arc) tour i h)) → Front all (dropAt k h)
+      → ((i : ℕ) → i ≤ k → Cuttable arc (beginning tour i h)) → Front all (dropAt k h)
   onward all h k F mid y post e z a =
       record {
         pre = F .pre ++ mid;

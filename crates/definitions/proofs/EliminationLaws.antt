@@ -4,15 +4,17 @@ use native.Mathlib.Omega.{arith}
 use mathlib.Core.Path.{_≡_, refl, ap, subst, _∙_}
 use mathlib.Core.Bool.{true}
 use mathlib.Core.List.{List, [], _∷_, map}
-use mathlib.Core.Option.{Option, none, some}
+use mathlib.Core.Option.{Option, none, some, Option·map}
 use lib.ListN.{length}
-use lib.Dec.{ltb, leb}
+use lib.Dec.{ltb}
 use borrow.Author.Tests.{ltb-true, leb-true, le-ltb}
 use Rattle.basics.specs.Tests.{by-test}
+use Rattle.basics.specs.Options.{_>>=_, valueOr, orElse, Holds}
 use Rattle.basics.specs.Lists.{sum, All, all-imp, all-append, all-map}
+use Rattle.definitions.specs.Run.{loadBy, fitsBy}
 use Rattle.definitions.specs.Sort.{rising, falling, sort}
-use Rattle.definitions.specs.Improver.{Given, distanceOf, total, load, allowed}
-use Rattle.definitions.specs.Elimination.{maybe, nonEmpty, Parted, past, parted, Put, beyond, inserts, candidates, firstBelow, placed, placedAll, emptied, firstEmptied, search, searches, eliminated}
+use Rattle.definitions.specs.Improver.{Given, distanceOf, total, allowed}
+use Rattle.definitions.specs.Elimination.{nonEmpty, Parted, past, parted, Put, beyond, inserts, candidates, firstBelow, placed, placedAll, emptied, firstEmptied, search, searches, eliminated}
 use Rattle.definitions.proofs.SortLaws.{sort-same, sort-all}
 use Rattle.definitions.proofs.Sums.{length-is-sum}
 
@@ -28,11 +30,6 @@ Calls (c ∷ cs) = Unit {0}
 calls-some : (r : List ℕ) → Calls r → 0 < length r
 calls-some [] c = absurd c
 calls-some (x ∷ xs) c = omega arith
-
--- what an option holds has the property
-abbrev pub Holds : {A : Type 0} → (A → Type 0) → Option A → Type 0
-Holds P none = Unit {0}
-Holds P (some x) = P x
 
 holds-imp : {A : Type 0} (P Q : A → Type 0) → ((x : A) → P x → Q x) → (o : Option A) → Holds P o → Holds Q o
 holds-imp P Q h none a = tt
@@ -60,7 +57,7 @@ module _ (G : Given) where
   -- a legal run: some call, a load at most capacity, and allowed
   pub record Legal (r : List ℕ) : Type 0 where
     pub some-call : Calls r
-    pub fits : load G r ≤ G .capacity
+    pub fits : loadBy (G .demand) r ≤ G .capacity
     pub may : allowed G r ≡ true
 
   -- the runs `new` are the runs `old` with the calls `cs` put in
@@ -74,7 +71,7 @@ module _ (G : Given) where
   abbrev pub PutWell : ℕ → List (List ℕ) → Put → Type 0
   PutWell c old p = allowed G (p .grown) ≡ true → Takes (c ∷ []) old (p .runs)
 
-  put-here : (c : ℕ) (r : List ℕ) (rs : List (List ℕ)) → load G r + G .demand c ≤ G .capacity → (g : List ℕ) → Grows c r g
+  put-here : (c : ℕ) (r : List ℕ) (rs : List (List ℕ)) → loadBy (G .demand) (c ∷ r) ≤ G .capacity → (g : List ℕ) → Grows c r g
       → PutWell c (r ∷ rs) (record { grown = g; runs = g ∷ rs })
   put-here c r rs room g h a =
       record {
@@ -100,11 +97,11 @@ module _ (G : Given) where
       let later : All (PutWell c (r ∷ rs)) (map (beyond r) (candidates G c rs)) =
       all-map (PutWell c (r ∷ rs)) (beyond r) (candidates G c rs)
       (all-imp (PutWell c rs) (λ (p : Put). PutWell c (r ∷ rs) (beyond r p)) (put-beyond c r rs) (candidates G c rs) (candidates-well c rs)) in
-      by-test (leb (load G r + G .demand c) (G .capacity))
+      by-test (fitsBy (G .demand) (G .capacity) (c ∷ r))
       (λ t. rw t
       (all-append (PutWell c (r ∷ rs)) (map here (inserts c r)) (map (beyond r) (candidates G c rs))
       (all-map (PutWell c (r ∷ rs)) here (inserts c r)
-      (all-imp (Grows c r) (λ (g : List ℕ). PutWell c (r ∷ rs) (here g)) (put-here c r rs (leb-true (load G r + G .demand c) (G .capacity) t)) (inserts c r) (inserts-grow c r)))
+      (all-imp (Grows c r) (λ (g : List ℕ). PutWell c (r ∷ rs) (here g)) (put-here c r rs (leb-true (loadBy (G .demand) (c ∷ r)) (G .capacity) t)) (inserts c r) (inserts-grow c r)))
       later))
       (λ n. rw n later)
     where
@@ -158,7 +155,7 @@ module _ (G : Given) where
     where
       go : ((mid : List (List ℕ)) → Holds (λ (new : List (List ℕ)). Takes cs mid new × (total G mid < bound → total G new < bound)) (placedAll G bound cs mid))
           → (o : Option (List (List ℕ))) → Holds (λ (new : List (List ℕ)). Takes (c ∷ []) old new × (total G new < bound)) o
-          → Holds (λ (new : List (List ℕ)). Takes (c ∷ cs) old new × (total G old < bound → total G new < bound)) (maybe o none (placedAll G bound cs))
+          → Holds (λ (new : List (List ℕ)). Takes (c ∷ cs) old new × (total G old < bound → total G new < bound)) (o >>= placedAll G bound cs)
       go ih none a = tt
       go ih (some mid) a =
           holds-imp (λ (new : List (List ℕ)). Takes cs mid new × (total G mid < bound → total G new < bound))
@@ -175,7 +172,7 @@ module _ (G : Given) where
   all-below bound (c ∷ cs) old h = go (placed G bound c old) (placed-well bound c old)
     where
       go : (o : Option (List (List ℕ))) → Holds (λ (new : List (List ℕ)). Takes (c ∷ []) old new × (total G new < bound)) o
-          → Holds (λ (new : List (List ℕ)). total G new < bound) (maybe o none (placedAll G bound cs))
+          → Holds (λ (new : List (List ℕ)). total G new < bound) (o >>= placedAll G bound cs)
       go none a = tt
       go (some mid) a =
           holds-imp (λ (new : List (List ℕ)). Takes cs mid new × (total G mid < bound → total G new < bound)) (λ (new : List (List ℕ)). total G new < bound)
@@ -244,7 +241,7 @@ module _ (G : Given) where
   first-fewer all [] a = tt
   first-fewer all (p ∷ ps) a = go (emptied G p) (emptied-fewer all p (a .0)) (firstEmptied G ps) (first-fewer all ps (a .1))
     where
-      go : (o : Option (List (List ℕ))) → Holds (Fewer all) o → (later : Option (List (List ℕ))) → Holds (Fewer all) later → Holds (Fewer all) (maybe o later some)
+      go : (o : Option (List (List ℕ))) → Holds (Fewer all) o → (later : Option (List (List ℕ))) → Holds (Fewer all) later → Holds (Fewer all) (orElse o later)
       go none x later y = y
       go (some new) x later y = x
 
@@ -316,7 +313,7 @@ module _ (G : Given) where
   searches-eliminate (suc bound) runs = go (λ new. searches-eliminate bound new) (search G (nonEmpty runs)) (search-fewer (nonEmpty runs))
     where
       go : ((new : List (List ℕ)) → Eliminates new (searches G bound new)) → (o : Option (List (List ℕ))) → Holds (Fewer (nonEmpty runs)) o
-          → Eliminates runs (maybe o (nonEmpty runs) (searches G bound))
+          → Eliminates runs (valueOr (nonEmpty runs) (Option·map (searches G bound) o))
       go ih none a = dropped runs
       go ih (some new) a = goes-on a (ih new)
 
@@ -344,7 +341,7 @@ module _ (G : Given) where
   searches-end (suc bound) runs h = go (λ new. searches-end bound new) (search G (nonEmpty runs)) refl (search-fewer (nonEmpty runs))
     where
       go : ((new : List (List ℕ)) → length new ≤ bound → search G (searches G bound new) ≡ none) → (o : Option (List (List ℕ))) → search G (nonEmpty runs) ≡ o
-          → Holds (Fewer (nonEmpty runs)) o → search G (maybe o (nonEmpty runs) (searches G bound)) ≡ none
+          → Holds (Fewer (nonEmpty runs)) o → search G (valueOr (nonEmpty runs) (Option·map (searches G bound) o)) ≡ none
       go ih none e a = e
       go ih (some new) e a = ih new (omega (arith, a .fewer, non-empty-length runs))
 
@@ -368,11 +365,11 @@ module _ (G : Given) where
   searches-enough (suc m) (suc n) runs h k = go (λ new. searches-enough m n new) (search G (nonEmpty runs)) (search-fewer (nonEmpty runs))
     where
       go : ((new : List (List ℕ)) → length new ≤ m → length new ≤ n → searches G m new ≡ searches G n new) → (o : Option (List (List ℕ)))
-          → Holds (Fewer (nonEmpty runs)) o → maybe o (nonEmpty runs) (searches G m) ≡ maybe o (nonEmpty runs) (searches G n)
+          → Holds (Fewer (nonEmpty runs)) o → valueOr (nonEmpty runs) (Option·map (searches G m) o) ≡ valueOr (nonEmpty runs) (Option·map (searches G n) o)
       go ih none a = refl
       go ih (some new) a = ih new (omega (arith, a .fewer, non-empty-length runs)) (omega (arith, a .fewer, non-empty-length runs))
 
-  unfolded : (runs : List (List ℕ)) → eliminated G runs ≡ maybe (search G (nonEmpty runs)) (nonEmpty runs) (searches G (length runs))
+  unfolded : (runs : List (List ℕ)) → eliminated G runs ≡ valueOr (nonEmpty runs) (Option·map (searches G (length runs)) (search G (nonEmpty runs)))
   unfolding eliminated searches
   unfolded runs = searches-enough (length runs) (suc (length runs)) runs (omega arith) (omega arith)
 

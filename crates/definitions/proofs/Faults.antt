@@ -3,7 +3,7 @@ use Prim.Native.Nat.{ℕ, zero, suc, _+_, _≤_, _<_}
 use native.Mathlib.Omega.{arith}
 use mathlib.Core.Path.{_≡_, refl, sym, ap, subst, _∙_}
 use mathlib.Core.Bool.{Bool, true, false, cond, not, true≢false}
-use mathlib.Core.List.{List, [], _∷_, _++_, tail}
+use mathlib.Core.List.{List, [], _∷_, tail}
 use mathlib.Core.Option.{Option, none, some}
 use lib.ListN.{length, getD, take}
 use lib.Dec.{ltb, leb, eqb}
@@ -11,104 +11,15 @@ use borrow.Author.Tests.{ltb-true, leb-false, eqb-true, eqb-false, le-leb, eq-eq
 use Rattle.basics.specs.Tests.{by-test, not-both, and-true}
 use Rattle.basics.specs.Options.{_>>=_, present, valueOr, orElse, given, same, clash, bound}
 use Rattle.basics.specs.Lists.{isEmpty, all, All}
-use Rattle.definitions.specs.Sheet.{Window, Break, Sheet, customer, time}
-use Rattle.definitions.specs.Window.{enter}
+use Rattle.definitions.specs.Sheet.{Window, Break, Sheet}
+use Rattle.definitions.specs.Window.{dueOf, enter}
 use Rattle.definitions.specs.Limits.{within}
 use Rattle.definitions.specs.Run.{breakStart, tooLate, ready, serveAt, Label, start, serve, Run, breakAt, serveAll, lastOf, Totals, ride, load, fits, placed}
-use Rattle.definitions.specs.Cutting.{joined, legalCutting, cuttingCost}
+use Rattle.definitions.specs.Cutting.{joined, cuttingCost}
 use Rattle.definitions.specs.Drop.{splitTw}
-use Rattle.definitions.specs.Visits.{dueOf}
-use Rattle.definitions.specs.Marker.{Verdict, otherCalls, overload, breakTooLate, windowMissed, breakMissing, tooFar, tooLong, differ, breakOr, callFault, walkFault, totalFault, runFault, firstFault, against, mark}
-use Rattle.definitions.proofs.Marking.{nothing-mapped, unmarked-legal, unmarked-runs, differ-same, Compared, compared, Cuts, plannerCost, mark-other, mark-same}
-
--- ---- what each fault of a run says
-
--- load, then ..
-pub record Overloaded (s : Sheet) (r : Run) (value limit : ℕ) : Type 0 where
-  pub value-is : load s (r .calls) ≡ value
-  pub limit-is : s .capacity ≡ limit
-  pub over : limit < value
-
--- the run's call number k, at customer c, is reached: the load fits, and the calls before it are served, with the label l
-pub record Reached (s : Sheet) (r : Run) (k c : ℕ) : Type 0 where
-  pub room : fits s (r .calls) ≡ true
-  pub before : ℕ
-  pub number : suc before ≡ k
-  pub inside : before < length (r .calls)
-  pub call-is : getD (r .calls) before 0 ≡ c
-  pub label : Label
-  pub served : serveAll s (r .place) 1 0 (some start) (take before (r .calls)) ≡ some label
-
-abbrev pub arrival : {s : Sheet} {r : Run} {k c : ℕ} → Reached s r k c → ℕ
-arrival {s} {r} {k} {c} x = x .label .time + time s (lastOf 0 (take (x .before) (r .calls))) c
-
--- the break is at that call, and would start past latest
-pub record BreakLate (s : Sheet) (r : Run) (k c value limit : ℕ) : Type 0 where
-  pub reached : Reached s r k c
-  pub break : Break
-  pub rested : s .rest ≡ some break
-  pub here : r .place ≡ k
-  pub value-is : breakStart break (arrival reached) ≡ value
-  pub limit-is : break .latest ≡ limit
-  pub over : limit < value
-
--- the break, if it is at that call, can start; readiness is after due, and there is no penalty
-pub record WindowLate (s : Sheet) (r : Run) (k c value limit : ℕ) : Type 0 where
-  pub reached : Reached s r k c
-  pub value-is : ready (breakAt s (r .place) k) (arrival reached) ≡ some value
-  pub window : Window
-  pub shuts : customer s c .window ≡ some window
-  pub hard : customer s c .penalty ≡ none
-  pub limit-is : window .due ≡ limit
-  pub over : limit < value
-
--- the load fits, and all calls are served: the run comes to t
-pub record Home (s : Sheet) (r : Run) (t : Totals) : Type 0 where
-  pub room : fits s (r .calls) ≡ true
-  pub rode : ride s r ≡ some t
-
--- there is a break on the sheet and none in the run, which is home after earliest
-pub record BreakLeftOut (s : Sheet) (r : Run) (value limit : ℕ) : Type 0 where
-  pub totals : Totals
-  pub at-home : Home s r totals
-  pub break : Break
-  pub rested : s .rest ≡ some break
-  pub nowhere : r .place ≡ 0
-  pub value-is : totals .duration ≡ value
-  pub limit-is : break .earliest ≡ limit
-  pub over : limit < value
-
--- the break is where it may be, and the distance is over its limit
-pub record Far (s : Sheet) (r : Run) (value limit : ℕ) : Type 0 where
-  pub totals : Totals
-  pub at-home : Home s r totals
-  pub break-placed : placed (s .rest) (r .place) (length (r .calls)) (totals .duration) ≡ true
-  pub value-is : totals .distance ≡ value
-  pub limit-is : s .maxDistance ≡ some limit
-  pub over : limit < value
-
--- the distance is within its limit, and the duration over its own
-pub record Long (s : Sheet) (r : Run) (value limit : ℕ) : Type 0 where
-  pub totals : Totals
-  pub at-home : Home s r totals
-  pub break-placed : placed (s .rest) (r .place) (length (r .calls)) (totals .duration) ≡ true
-  pub near : within (s .maxDistance) (totals .distance) ≡ true
-  pub value-is : totals .duration ≡ value
-  pub limit-is : s .maxDuration ≡ some limit
-  pub over : limit < value
-
--- the verdict is a fault of run number n, and says this of it
-pub data Fails (s : Sheet) (n : ℕ) (r : Run) : Verdict → Type 0 where
-  by-load : {value limit : ℕ} → Overloaded s r value limit → Fails s n r (overload n value limit)
-  by-break : {k c value limit : ℕ} → BreakLate s r k c value limit → Fails s n r (breakTooLate n k c value limit)
-  by-window : {k c value limit : ℕ} → WindowLate s r k c value limit → Fails s n r (windowMissed n k c value limit)
-  by-missing : {value limit : ℕ} → BreakLeftOut s r value limit → Fails s n r (breakMissing n value limit)
-  by-distance : {value limit : ℕ} → Far s r value limit → Fails s n r (tooFar n value limit)
-  by-duration : {value limit : ℕ} → Long s r value limit → Fails s n r (tooLong n value limit)
-
--- what refusal 5 leaves: a break place is one of the run's calls, or 0, and on a sheet without a break it is 0
-abbrev pub Placeable : Sheet → Run → Type 0
-Placeable s r = r .place ≤ cond (present (s .rest)) (length (r .calls)) 0
+use Rattle.definitions.specs.Marker.{Verdict, otherCalls, breakMissing, tooFar, tooLong, differ, breakOr, callFault, walkFault, totalFault, runFault, firstFault, against, mark}
+use Rattle.definitions.specs.Marks.{Placeable, Proper, Differs, Reached, arrival, Home, Fails, by-load, by-break, by-window, by-missing, by-distance, by-duration, FirstFails, plannerCost, Says, other, fault, priced}
+use Rattle.definitions.proofs.Marking.{nothing-mapped, unmarked-legal, unmarked-runs, differ-same, compared, mark-other, mark-same}
 
 -- ---- the walk
 
@@ -259,22 +170,6 @@ module _ (s : Sheet) (n : ℕ) (r : Run) (proper : Placeable s r) where
 
 -- ---- several runs
 
--- a run that the marker takes: refusal 5 leaves none that is empty, and no break place elsewhere
-pub record Proper (s : Sheet) (r : Run) : Type 0 where
-  pub placeable : Placeable s r
-  pub some-calls : not (isEmpty (r .calls)) ≡ true
-
--- the verdict is a fault of the run after the earlier ones, runs numbered from n, and the earlier ones are legal
-pub record FirstFails (s : Sheet) (n : ℕ) (rs : List Run) (v : Verdict) : Type 0 where
-  pub earlier : List Run
-  pub faulty : Run
-  pub later : List Run
-  pub runs-are : rs ≡ earlier ++ (faulty ∷ later)
-  pub earlier-legal : legalCutting s earlier ≡ true
-  pub number : ℕ
-  pub number-is : n + length earlier ≡ number
-  pub fails : Fails s number faulty v
-
 pub first-fails : (s : Sheet) (n : ℕ) (rs : List Run) → All (Proper s) rs → (v : Verdict) → firstFault s n rs ≡ some v → FirstFails s n rs v
 first-fails s n [] p v h = clash h
 first-fails s n (r ∷ rs) p v h = go (runFault s n r) refl h (λ q. first-fails s (suc n) rs (p .1) v q)
@@ -307,13 +202,6 @@ first-fails s n (r ∷ rs) p v h = go (runFault s n r) refl h (λ q. first-fails
 
 -- ---- the mark
 
--- the lists are the same before position p, from k, and no longer the same with it: they differ there, or one has ended
-pub record Differs (k : ℕ) (xs ys : List ℕ) (p : ℕ) : Type 0 where
-  pub before : ℕ
-  pub position : k + before ≡ p
-  pub same-before : take before xs ≡ take before ys
-  pub differ-there : take (suc before) xs ≡ take (suc before) ys → ⊥
-
 apart-here : (k : ℕ) (xs ys : List ℕ) (p : ℕ) → some k ≡ some p → (take 1 xs ≡ take 1 ys → ⊥) → Differs k xs ys p
 apart-here k xs ys p h d = let e = same h in record { before = 0; position = omega arith; same-before = refl; differ-there = d }
 
@@ -333,20 +221,11 @@ differ-differs k (x ∷ xs) (y ∷ ys) p h =
     })
     (λ f. apart-here k (x ∷ xs) (y ∷ ys) p (rw f at h) (λ e. eqb-false x y f (ap (λ (l : List ℕ). getD l 0 0) e)))
 
--- a verdict on runs is one of these
-pub data Says (s : Sheet) (tour : List ℕ) (rs : List Run) : Verdict → Type 0 where
-  -- other calls, first at that position
-  other : {p : ℕ} → Differs 1 (joined rs) (splitTw s tour .served) p → Says s tour rs (otherCalls p)
-  -- the served calls, and the first fault
-  fault : {v : Verdict} → joined rs ≡ splitTw s tour .served → FirstFails s 1 rs v → Says s tour rs v
-  -- the served calls, legal runs, and their cost against the planner's
-  priced : {v : Verdict} → Cuts s tour rs → Compared (plannerCost s tour) (cuttingCost s rs) v → Says s tour rs v
-
-shaped : (s : Sheet) (rs : List Run) → All (Proper s) rs → all (λ r. not (isEmpty (r .calls))) rs ≡ true
+pub shaped : (s : Sheet) (rs : List Run) → All (Proper s) rs → all (λ r. not (isEmpty (r .calls))) rs ≡ true
 shaped s [] p = refl
 shaped s (r ∷ rs) p = and-true _ _ (p .0 .some-calls) (shaped s rs (p .1))
 
--- and so the mark is
+-- the mark is a verdict that says so
 pub mark-says : (s : Sheet) (tour : List ℕ) (rs : List Run) → All (Proper s) rs → Says s tour rs (mark s tour rs)
 mark-says s tour rs proper = go (differ 1 (joined rs) (splitTw s tour .served)) refl
   where

@@ -15,7 +15,7 @@ use Rattle.basics.specs.Options.{present, Holds, IfAny}
 use Rattle.basics.specs.Lists.{All, all-imp, Passes, Fails, any-fails, fails-any, fails-not, not-fails, isEmpty}
 use Rattle.definitions.specs.Domain.{isPlaces, isCapacity, isDemand, isPenalty, isNumber, isCall, mostCalls}
 use Rattle.definitions.specs.Sheet.{Window, Break, Customer, Sheet, records, depot}
-use Rattle.definitions.specs.Refusals.{Within, badCalls, badBreak, badCustomer, badDepot, badLimit, badWindow, breakFalls, unfit, windowFalls}
+use Rattle.definitions.specs.Refusals.{Within, badCalls, badBreak, badCustomer, badDepot, badOptional, badWindow, breakFalls, unfit, windowFalls}
 use Rattle.definitions.proofs.Ranges.{TablesEven, tables-even, even-tables, calls-in-range, range-calls, break-in-range, range-break, window-in-range, range-window, customer-in-range, range-customer, depot-in-range, InRange, in-range, range-in, PairsRise, pairs-rise, rise-pairs}
 use Rattle.definitions.proofs.Says.{others}
 
@@ -62,7 +62,7 @@ pub record GoodCalls (n : ℕ) (calls : List ℕ) : Type 0 where
 
 -- ---- within the limits, so good
 
-limit-good : (p : ℕ → Bool) (o : Option ℕ) → badLimit some p o ≡ false → IfAny p o
+limit-good : (p : ℕ → Bool) (o : Option ℕ) → badOptional some p o ≡ false → IfAny p o
 limit-good p none h = tt
 limit-good p (some v) h = not-false (p v) h
 
@@ -174,7 +174,7 @@ good-calls n calls h =
 
 -- ---- good, so within the limits
 
-good-limit : (p : ℕ → Bool) (o : Option ℕ) → IfAny p o → badLimit some p o ≡ false
+good-limit : (p : ℕ → Bool) (o : Option ℕ) → IfAny p o → badOptional some p o ≡ false
 good-limit p none h = refl
 good-limit p (some v) h = not-of-true (p v) h
 

@@ -2,14 +2,17 @@
 use Prim.Native.Nat.{ℕ, _+_, _-_, _*_}
 use mathlib.Core.Path.{_≡_, refl}
 use mathlib.Core.Bool.{Bool, true, false, cond}
-use mathlib.Core.List.{List, [], _∷_}
+use mathlib.Core.List.{List, [], _∷_, map}
+use mathlib.Core.Option.{none}
 use lib.ListN.{getD}
 use lib.Dec.{ltb, leb}
 use Rattle.definitions.specs.Sort.{rising, falling, insert, sort}
-use Rattle.definitions.specs.Improver.{Given}
+use Rattle.definitions.specs.Sheet.{Customer, Sheet}
+use Rattle.definitions.specs.Improver.{Given, checksNeeded}
 use Rattle.definitions.specs.RunList.{runsFrom, runsOf}
 use Rattle.definitions.specs.TwoOpt.{tried, triedAll, passFrom, pass, passes, improved, improvedDistance}
-use Rattle.definitions.specs.Elimination.{candidates, firstBelow, placed, placedAll, emptied, firstEmptied, search, searches, eliminated, eliminatedCalls, eliminatedEnds}
+use Rattle.definitions.specs.Elimination.{candidates, firstBelow, placed, placedAll, emptied, firstEmptied, search, searches, eliminated}
+use Rattle.definitions.specs.Answers.{eliminate}
 
 -- ---- sort: equals stay as they stood
 
@@ -165,14 +168,35 @@ not-first = refl
 
 -- ---- run lists as lent
 
--- calls 1 2 4 5 with ends 2 3 4 are the runs of `heavier-first`; the result is 2 4 1 5 with ends 2 4
-lent-calls : eliminatedCalls (line (0 ∷ 1 ∷ 3 ∷ 0 ∷ 2 ∷ 4 ∷ []) 5 false (λ r. true)) (1 ∷ 2 ∷ 4 ∷ 5 ∷ []) (2 ∷ 3 ∷ 4 ∷ []) ≡ 2 ∷ 4 ∷ 1 ∷ 5 ∷ []
-unfolding runsFrom eliminated searches search sort insert firstEmptied emptied placedAll placed firstBelow candidates
-lent-calls = refl
+-- six places on the line, and capacity 5
+abbrev onLine : Sheet
+onLine =
+    record {
+      places = 6;
+      capacity = 5;
+      fixed = 0;
+      maxDistance = none;
+      maxDuration = none;
+      rest = none;
+      customers = map asks (0 ∷ 1 ∷ 3 ∷ 0 ∷ 2 ∷ 4 ∷ []);
+      distances =
+          0 ∷ 1 ∷ 2 ∷ 3 ∷ 4 ∷ 5
+          ∷ 1 ∷ 0 ∷ 1 ∷ 2 ∷ 3 ∷ 4
+          ∷ 2 ∷ 1 ∷ 0 ∷ 1 ∷ 2 ∷ 3
+          ∷ 3 ∷ 2 ∷ 1 ∷ 0 ∷ 1 ∷ 2
+          ∷ 4 ∷ 3 ∷ 2 ∷ 1 ∷ 0 ∷ 1
+          ∷ 5 ∷ 4 ∷ 3 ∷ 2 ∷ 1 ∷ 0
+          ∷ [];
+      times = [];
+    }
+  where
+    asks : ℕ → Customer
+    asks demand = record { demand = demand; service = 0; window = none; penalty = none }
 
-lent-ends : eliminatedEnds (line (0 ∷ 1 ∷ 3 ∷ 0 ∷ 2 ∷ 4 ∷ []) 5 false (λ r. true)) (1 ∷ 2 ∷ 4 ∷ 5 ∷ []) (2 ∷ 3 ∷ 4 ∷ []) ≡ 2 ∷ 4 ∷ []
-unfolding runsFrom eliminated searches search sort insert firstEmptied emptied placedAll placed firstBelow candidates
-lent-ends = refl
+-- calls 1 2 4 5 with ends 2 3 4 are the runs of `heavier-first`; the result is 2 4 1 5 with ends 2 4
+lent-runs : eliminate onLine (runsOf (1 ∷ 2 ∷ 4 ∷ 5 ∷ []) (2 ∷ 3 ∷ 4 ∷ [])) ≡ record { calls = 2 ∷ 4 ∷ 1 ∷ 5 ∷ []; ends = 2 ∷ 4 ∷ [] }
+unfolding runsFrom checksNeeded eliminated searches search sort insert firstEmptied emptied placedAll placed firstBelow candidates
+lent-runs = refl
 
 empty-between : runsOf (1 ∷ 2 ∷ []) (1 ∷ 1 ∷ 2 ∷ []) ≡ (1 ∷ []) ∷ [] ∷ (2 ∷ []) ∷ []
 unfolding runsFrom

@@ -15,7 +15,7 @@ use Rattle.basics.specs.Lists.{isEmpty, any}
 use Rattle.definitions.specs.Sheet.{anySoft, Window, Break, Sheet, depot, customer, time, soft, latenessPay}
 use Rattle.definitions.specs.Window.{Entry, enter}
 use Rattle.definitions.specs.Limits.{within, excused}
-use Rattle.definitions.specs.Run.{serveAt, ready, Label, start, serve, breakAt, serveAll, lastOf, distanceFrom, Totals, home, Run, ride, fits, allowed, placed, legal, Legal, price, runCost}
+use Rattle.definitions.specs.Run.{serveAt, ready, Label, start, serve, breakAt, serveAll, lastOf, distanceFrom, Totals, home, Run, ride, fits, allowed, placed, legal, price, runCost}
 use Rattle.definitions.specs.Clock.{Clock, tick, clockFrom, counts, clock, Arc, arc}
 use Rattle.definitions.proofs.Places.{kept}
 use Rattle.definitions.proofs.Serving.{serve-place}
@@ -196,7 +196,15 @@ allowed-le s u t h e a =
     let w = both (within (s .maxDistance) (t .distance)) _ a in
     and-true _ _ (subst (λ (n : ℕ). within (s .maxDistance) n ≡ true) (sym e) (w .0)) (within-le (s .maxDuration) (u .duration) (t .duration) h (w .1))
 
-pub legal-has : (s : Sheet) (r : Run) → legal s r ≡ true → (t : Totals) × Legal s r t
+-- a legal run as one fact each: it comes to t
+pub record LegalFacts (s : Sheet) (r : Run) (t : Totals) : Type 0 where
+  pub some-calls : not (isEmpty (r .calls)) ≡ true
+  pub room : fits s (r .calls) ≡ true
+  pub rode : ride s r ≡ some t
+  pub kept-limits : allowed s t ≡ true
+  pub break-placed : placed (s .rest) (r .place) (length (r .calls)) (t .duration) ≡ true
+
+pub legal-has : (s : Sheet) (r : Run) → legal s r ≡ true → (t : Totals) × LegalFacts s r t
 unfolding legal
 legal-has s r h =
     let a = both (not (isEmpty (r .calls)) && fits s (r .calls)) _ h in
@@ -205,7 +213,7 @@ legal-has s r h =
     let d = both (allowed s (c .0)) _ (c .2) in
     (c .0, record { some-calls = b .0; room = b .1; rode = c .1; kept-limits = d .0; break-placed = d .1 })
 
-pub has-legal : (s : Sheet) (r : Run) (t : Totals) → Legal s r t → legal s r ≡ true
+pub has-legal : (s : Sheet) (r : Run) (t : Totals) → LegalFacts s r t → legal s r ≡ true
 unfolding legal
 has-legal s r t L = rw (L .some-calls, L .room, L .rode, L .kept-limits, L .break-placed) refl
 
@@ -220,7 +228,7 @@ legal-arc s r h =
 
 -- what an arc has: the clock's answer
 pub arc-clock : (s : Sheet) (calls : List ℕ) (a : Arc) → arc s calls ≡ some a
-    → (t : Totals) × (clock s calls ≡ some t) × Legal s (record { calls = calls; place = t .place }) t × (record { place = t .place; cost = price s (t .distance) (t .pay) } ≡ a)
+    → (t : Totals) × (clock s calls ≡ some t) × LegalFacts s (record { calls = calls; place = t .place }) t × (record { place = t .place; cost = price s (t .distance) (t .pay) } ≡ a)
 unfolding arc
 arc-clock s calls a q =
     let y = bound (clock s calls) _ a q in

@@ -46,8 +46,10 @@ pub mod EvaluationCases
 pub mod Visiting
 pub mod Violations
 pub mod VisitCases
+pub mod GivenRuns
 pub mod Marking
 pub mod Faults
+pub mod GivenMarks
 pub mod MarkCases
 -- The improvers.
 pub mod Sums

@@ -1,4 +1,4 @@
--- The listing of case m's words is the scope document's, byte for byte; so are those of a sheet with drops and of one that is refused. Each holds by computation. Assumes nothing.
+-- The listing of case m's words is the scope document's, byte for byte; beside it those of sheets with drops and of no bytes. Each holds by computation. Assumes nothing.
 use Prim.Native.Nat.{ℕ}
 use mathlib.Core.Path.{_≡_, refl}
 use mathlib.Core.List.{List, [], _∷_, map}
@@ -42,6 +42,17 @@ caseC =
 pub listing-c : listing (file caseC) ≡ text "drop 1\ndrop 2\ntotal 0 cost 0 served 0 dropped 2\n"
 unfolding opened
 listing-c = refl
+
+-- case g's sheet with tour 2 1: the second call is dropped, and its customer is printed
+abbrev caseG : List ℕ
+caseG =
+    0x10000003 ∷ 0x20000004 ∷ 0x30000000 ∷ 0x70000002 ∷ 0x80000000 ∷ 0x90000000 ∷ 0xA0000009 ∷ 0x70000002 ∷ 0x80000000
+    ∷ 0xC0000000 ∷ 0xC000000A ∷ 0xC000000C ∷ 0xC000000A ∷ 0xC0000000 ∷ 0xC0000005 ∷ 0xC000000C ∷ 0xC0000005 ∷ 0xC0000000
+    ∷ 0xE0000002 ∷ 0xE0000001 ∷ 0xF0000014 ∷ []
+
+pub listing-g : listing (file caseG) ≡ text "run 2\ndrop 1\ntotal 24 cost 24 served 1 dropped 1\n"
+unfolding opened
+listing-g = refl
 
 -- no bytes: the words end before F
 pub listing-nothing : listing [] ≡ text "refused 12 at 0\n"

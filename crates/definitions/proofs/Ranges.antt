@@ -14,7 +14,7 @@ use Rattle.definitions.specs.Sheet.{WindowOf, BreakOf, CustomerOf, Sheet
 use Rattle.definitions.specs.Refusal.{Refusal, firstFit}
 use Rattle.definitions.specs.Room.{short}
 use Rattle.definitions.specs.Lent.{Lent, Call}
-use Rattle.definitions.specs.Refusals.{tooShort, tablesOdd, badCalls, badTour, badRunList, unfit, badLimit, badBreak, badWindow, badCustomer, badDepot, badSheet, outOfRange, windowFalls, breakFalls, pairsFall, endsFall, emptyRun, breakBeyond, runsOdd, refusals, refusalOf}
+use Rattle.definitions.specs.Refusals.{tooShort, tablesOdd, badCalls, badTour, badRunList, unfit, badOptional, badBreak, badWindow, badCustomer, badDepot, badSheet, outOfRange, windowFalls, breakFalls, pairsFall, endsFall, emptyRun, breakBeyond, runsOdd, refusals, refusalOf}
 
 -- ---- several tests that all fail, each by its number from 0
 
@@ -112,11 +112,11 @@ module _ {F : Type 0} (value : F → Option ℕ) where
     pub demand : not (isDemand (c .demand)) ≡ false
     pub service : unfit value isNumber (c .service) ≡ false
     pub window : badWindow value (c .window) ≡ false
-    pub penalty : badLimit value isPenalty (c .penalty) ≡ false
+    pub penalty : badOptional value isPenalty (c .penalty) ≡ false
 
   pub customer-in-range : (c : CustomerOf F) → badCustomer value c ≡ false → CustomerInRange c
   customer-in-range c h =
-      let f = each (not (isDemand (c .demand)) ∷ unfit value isNumber (c .service) ∷ badWindow value (c .window) ∷ badLimit value isPenalty (c .penalty) ∷ []) h in
+      let f = each (not (isDemand (c .demand)) ∷ unfit value isNumber (c .service) ∷ badWindow value (c .window) ∷ badOptional value isPenalty (c .penalty) ∷ []) h in
       record { demand = f 0; service = f 1; window = f 2; penalty = f 3 }
 
   pub range-customer : (c : CustomerOf F) → CustomerInRange c → badCustomer value c ≡ false
@@ -143,8 +143,8 @@ module _ {F : Type 0} (value : F → Option ℕ) where
     pub places : not (isPlaces (s .places)) ≡ false
     pub capacity : not (isCapacity (s .capacity)) ≡ false
     pub fixed : unfit value isNumber (s .fixed) ≡ false
-    pub maxDistance : badLimit value isNumber (s .maxDistance) ≡ false
-    pub maxDuration : badLimit value isNumber (s .maxDuration) ≡ false
+    pub maxDistance : badOptional value isNumber (s .maxDistance) ≡ false
+    pub maxDuration : badOptional value isNumber (s .maxDuration) ≡ false
     pub rest : badBreak value (s .rest) ≡ false
     pub depot : badDepot value (records s) ≡ false
     pub customers : any (badCustomer value) (records s) ≡ false
@@ -172,8 +172,8 @@ module _ {F : Type 0} (value : F → Option ℕ) where
           not (isPlaces (s .places))
           ∷ not (isCapacity (s .capacity))
           ∷ unfit value isNumber (s .fixed)
-          ∷ badLimit value isNumber (s .maxDistance)
-          ∷ badLimit value isNumber (s .maxDuration)
+          ∷ badOptional value isNumber (s .maxDistance)
+          ∷ badOptional value isNumber (s .maxDuration)
           ∷ badBreak value (s .rest)
           ∷ badDepot value (records s)
           ∷ any (badCustomer value) (records s)
@@ -212,6 +212,10 @@ module _ {F : Type 0} (value : F → Option ℕ) where
   lent-in-range l h =
       let f = each (badSheet value (l .sheet) ∷ badTour (l .sheet .places) (l .tour) ∷ badRunList (l .sheet .places) (l .calls) ∷ []) h in
       record { sheet = f 0; tour = f 1; run-list = f 2 }
+
+  pub range-lent : (l : Lent F) → LentInRange l → outOfRange value l ≡ false
+  unfolding outOfRange
+  range-lent l R = rw (R .sheet, R .tour, R .run-list)
 
   -- ---- 2
 
@@ -254,6 +258,10 @@ module _ {F : Type 0} (value : F → Option ℕ) where
         pay-4 = f 5;
       }
 
+  pub none-refused : (k : Call) (l : Lent F) → NotRefused k l → refusalOf value k l ≡ none
+  unfolding refusalOf refusals
+  none-refused k l N = rw (N .long-13, N .tables-14, N .range-1, N .pairs-2, N .runs-5, N .pay-4)
+
 -- ---- 5
 
 pub record RunsEven {F : Type 0} (k : Call) (l : Lent F) : Type 0 where
@@ -273,3 +281,6 @@ runs-even k l h =
     ∷ []) h
     in
     record { few = f 0; ends = f 1; some-call = f 2; breaks = f 3 }
+
+pub even-runs : {F : Type 0} (k : Call) (l : Lent F) → RunsEven k l → runsOdd k l ≡ false
+even-runs k l R = rw (R .few, R .ends, R .some-call, R .breaks)

@@ -56,16 +56,16 @@ sheetOf n k f b cs d t =
 abbrev with : List (CustomerOf Stored) → SheetOf Stored
 with cs = sheetOf 3 4 (held 0) none cs legs []
 
-abbrev a : SheetOf Stored
-a = with two
+abbrev base : SheetOf Stored
+base = with two
 
 -- case c: capacity 1
-abbrev c : SheetOf Stored
-c = sheetOf 3 1 (held 0) none two legs []
+abbrev caseC : SheetOf Stored
+caseC = sheetOf 3 1 (held 0) none two legs []
 
 -- case g: customer 1 due 9
-abbrev g : SheetOf Stored
-g = with (timed 0 9 none)
+abbrev caseG : SheetOf Stored
+caseG = with (timed 0 9 none)
 
 -- lateness pay, though 0
 abbrev pay : SheetOf Stored
@@ -102,9 +102,9 @@ opened : Unit {0}
 unfolding refusalOf refusals outOfRange badSheet pairsFall anySoft
 opened = tt
 
-accepts-a : refusalOf value cutting (toCut a both rooms) ≡ none
+accepts-base : refusalOf value cutting (toCut base both rooms) ≡ none
 unfolding opened
-accepts-a = refl
+accepts-base = refl
 
 -- ---- 13: a lent buffer too short
 
@@ -112,30 +112,30 @@ few-customers : refusalOf value cutting (toCut (sheetOf 4 4 (held 0) none two le
 unfolding opened
 few-customers = refl
 
-short-result : refusalOf value cutting (toCut a both (2 ∷ 2 ∷ 1 ∷ [])) ≡ some 13
+short-result : refusalOf value cutting (toCut base both (2 ∷ 2 ∷ 1 ∷ [])) ≡ some 13
 unfolding opened
 short-result = refl
 
 -- visits, and three more violations than calls
-short-visits : (refusalOf value visiting (toRun a both (1 ∷ 5 ∷ [])) ≡ some 13) × (refusalOf value visiting (toRun a both (2 ∷ 4 ∷ [])) ≡ some 13)
+short-visits : (refusalOf value visiting (toRun base both (1 ∷ 5 ∷ [])) ≡ some 13) × (refusalOf value visiting (toRun base both (2 ∷ 4 ∷ [])) ≡ some 13)
 unfolding opened
 short-visits = (refl, refl)
 
-visits-enough : refusalOf value visiting (toRun a both (2 ∷ 5 ∷ [])) ≡ none
+visits-enough : refusalOf value visiting (toRun base both (2 ∷ 5 ∷ [])) ≡ none
 unfolding opened
 visits-enough = refl
 
 -- the improvers' result lists are their own: calls, and run ends
-short-improved : (refusalOf value reversing (toRun a both (1 ∷ [])) ≡ some 13)
-    × (refusalOf value eliminating (toEliminate a both (0 ∷ 1 ∷ 2 ∷ []) (1 ∷ 3 ∷ [])) ≡ some 13) × (refusalOf value eliminating (toEliminate a both (0 ∷ 1 ∷ 2 ∷ []) (2 ∷ 2 ∷ [])) ≡ some 13)
+short-improved : (refusalOf value reversing (toRun base both (1 ∷ [])) ≡ some 13)
+    × (refusalOf value eliminating (toEliminate base both (0 ∷ 1 ∷ 2 ∷ []) (1 ∷ 3 ∷ [])) ≡ some 13) × (refusalOf value eliminating (toEliminate base both (0 ∷ 1 ∷ 2 ∷ []) (2 ∷ 2 ∷ [])) ≡ some 13)
 unfolding opened
 short-improved = (refl, refl, refl)
 
-improved-enough : (refusalOf value reversing (toRun a both (2 ∷ [])) ≡ none) × (refusalOf value eliminating (toEliminate a both (0 ∷ 1 ∷ 2 ∷ []) (2 ∷ 3 ∷ [])) ≡ none)
+improved-enough : (refusalOf value reversing (toRun base both (2 ∷ [])) ≡ none) × (refusalOf value eliminating (toEliminate base both (0 ∷ 1 ∷ 2 ∷ []) (2 ∷ 3 ∷ [])) ≡ none)
 unfolding opened
 improved-enough = (refl, refl)
 
-few-breaks : refusalOf value marking (toMark a both both both (0 ∷ [])) ≡ some 13
+few-breaks : refusalOf value marking (toMark base both both both (0 ∷ [])) ≡ some 13
 unfolding opened
 few-breaks = refl
 
@@ -156,7 +156,28 @@ large : refusalOf value evaluating (toRun (sheetOf 3 4 (held 10000001) none two 
 unfolding opened
 large = refl
 
--- the depot with a window, though one at 0, or with a penalty
+-- no place, and one more than 64
+odd-places : (refusalOf value evaluating (toRun (sheetOf 0 4 (held 0) none two [] []) [] []) ≡ some 1)
+    × (refusalOf value evaluating (toRun (sheetOf 65 4 (held 0) none (replicate 65 depot) (replicate 4225 (held 0)) []) [] []) ≡ some 1)
+unfolding opened
+odd-places = (refl, refl)
+
+-- a demand and a penalty at their limits, and one more each
+abbrev asking : ℕ → ℕ → SheetOf Stored
+asking demand penalty = with (depot ∷ record { demand = demand; service = held 0; window = none; penalty = some (held penalty) } ∷ person none none ∷ [])
+
+large-customer : (refusalOf value evaluating (toRun (asking 32768 1000) both []) ≡ some 1) × (refusalOf value evaluating (toRun (asking 32767 1001) both []) ≡ some 1)
+    × (refusalOf value evaluating (toRun (asking 32767 1000) both []) ≡ none)
+unfolding opened
+large-customer = (refl, refl, refl)
+
+-- the depot with demand, or with service
+depot-served : (refusalOf value evaluating (toRun (with (record { demand = 1; service = held 0; window = none; penalty = none } ∷ two)) both []) ≡ some 1)
+    × (refusalOf value evaluating (toRun (with (record { demand = 0; service = held 1; window = none; penalty = none } ∷ two)) both []) ≡ some 1)
+unfolding opened
+depot-served = (refl, refl)
+
+-- with a window, though one at 0, or with a penalty
 depot-window : refusalOf value evaluating (toRun (with (record { demand = 0; service = held 0; window = some (record { ready = held 0; due = held 0 }); penalty = none } ∷ two)) both []) ≡ some 1
 unfolding opened
 depot-window = refl
@@ -171,21 +192,21 @@ unfolding opened
 beyond = refl
 
 -- a call 0, in a tour, a run, and each of the marker's two lists
-call-zero : (refusalOf value cutting (toCut a (0 ∷ []) rooms) ≡ some 1) × (refusalOf value evaluating (toRun a (0 ∷ []) []) ≡ some 1)
-    × (refusalOf value marking (toMark a (0 ∷ []) both (2 ∷ []) (0 ∷ [])) ≡ some 1) × (refusalOf value marking (toMark a both (0 ∷ []) (1 ∷ []) (0 ∷ [])) ≡ some 1)
+call-zero : (refusalOf value cutting (toCut base (0 ∷ []) rooms) ≡ some 1) × (refusalOf value evaluating (toRun base (0 ∷ []) []) ≡ some 1)
+    × (refusalOf value marking (toMark base (0 ∷ []) both (2 ∷ []) (0 ∷ [])) ≡ some 1) × (refusalOf value marking (toMark base both (0 ∷ []) (1 ∷ []) (0 ∷ [])) ≡ some 1)
 unfolding opened
 call-zero = (refl, refl, refl, refl)
 
 -- there is no customer 3
-call-beyond : (refusalOf value cutting (toCut a (3 ∷ []) rooms) ≡ some 1) × (refusalOf value evaluating (toRun a (3 ∷ []) []) ≡ some 1)
+call-beyond : (refusalOf value cutting (toCut base (3 ∷ []) rooms) ≡ some 1) × (refusalOf value evaluating (toRun base (3 ∷ []) []) ≡ some 1)
 unfolding opened
 call-beyond = (refl, refl)
 
-many-calls : (refusalOf value marking (toMark a (replicate 129 1) [] [] []) ≡ some 1) × (refusalOf value evaluating (toRun a (replicate 129 1) []) ≡ some 1)
+many-calls : (refusalOf value marking (toMark base (replicate 129 1) [] [] []) ≡ some 1) × (refusalOf value evaluating (toRun base (replicate 129 1) []) ≡ some 1)
 unfolding opened
 many-calls = (refl, refl)
 
-full-calls : (refusalOf value marking (toMark a (replicate 128 1) [] [] []) ≡ none) × (refusalOf value evaluating (toRun a (replicate 128 1) []) ≡ none)
+full-calls : (refusalOf value marking (toMark base (replicate 128 1) [] [] []) ≡ none) × (refusalOf value evaluating (toRun base (replicate 128 1) []) ≡ none)
 unfolding opened
 full-calls = (refl, refl)
 
@@ -203,28 +224,28 @@ moments = refl
 
 -- ---- 5: run ends and break places
 
-odd-ends : (refusalOf value eliminating (toEliminate a both (2 ∷ 1 ∷ 2 ∷ []) (2 ∷ 3 ∷ [])) ≡ some 5)
-    × (refusalOf value eliminating (toEliminate a both (1 ∷ []) (2 ∷ 1 ∷ [])) ≡ some 5) × (refusalOf value eliminating (toEliminate a both [] (2 ∷ 0 ∷ [])) ≡ some 5)
+odd-ends : (refusalOf value eliminating (toEliminate base both (2 ∷ 1 ∷ 2 ∷ []) (2 ∷ 3 ∷ [])) ≡ some 5)
+    × (refusalOf value eliminating (toEliminate base both (1 ∷ []) (2 ∷ 1 ∷ [])) ≡ some 5) × (refusalOf value eliminating (toEliminate base both [] (2 ∷ 0 ∷ [])) ≡ some 5)
 unfolding opened
 odd-ends = (refl, refl, refl)
 
 -- an end beyond the calls is no number out of range
-end-beyond : refusalOf value eliminating (toEliminate a both (1000 ∷ []) (2 ∷ 1 ∷ [])) ≡ some 5
+end-beyond : refusalOf value eliminating (toEliminate base both (1000 ∷ []) (2 ∷ 1 ∷ [])) ≡ some 5
 unfolding opened
 end-beyond = refl
 
 -- 128 run ends, and one more
-many-ends : (refusalOf value eliminating (toEliminate a [] (replicate 128 0) (0 ∷ 128 ∷ [])) ≡ none) × (refusalOf value eliminating (toEliminate a [] (replicate 129 0) (0 ∷ 129 ∷ [])) ≡ some 5)
+many-ends : (refusalOf value eliminating (toEliminate base [] (replicate 128 0) (0 ∷ 128 ∷ [])) ≡ none) × (refusalOf value eliminating (toEliminate base [] (replicate 129 0) (0 ∷ 129 ∷ [])) ≡ some 5)
 unfolding opened
 many-ends = (refl, refl)
 
 -- an empty run is the marker's refusal alone
-empty-run : (refusalOf value eliminating (toEliminate a both (0 ∷ 2 ∷ []) (2 ∷ 2 ∷ [])) ≡ none) × (refusalOf value marking (toMark a both both (0 ∷ 2 ∷ []) (0 ∷ 0 ∷ [])) ≡ some 5)
+empty-run : (refusalOf value eliminating (toEliminate base both (0 ∷ 2 ∷ []) (2 ∷ 2 ∷ [])) ≡ none) × (refusalOf value marking (toMark base both both (0 ∷ 2 ∷ []) (0 ∷ 0 ∷ [])) ≡ some 5)
 unfolding opened
 empty-run = (refl, refl)
 
 -- a break place on a sheet without a break, and one beyond its run
-break-beyond : (refusalOf value marking (toMark a both both (2 ∷ []) (1 ∷ [])) ≡ some 5) × (refusalOf value marking (toMark rested both both both (0 ∷ 2 ∷ [])) ≡ some 5)
+break-beyond : (refusalOf value marking (toMark base both both (2 ∷ []) (1 ∷ [])) ≡ some 5) × (refusalOf value marking (toMark rested both both both (0 ∷ 2 ∷ [])) ≡ some 5)
 unfolding opened
 break-beyond = (refl, refl)
 
@@ -234,8 +255,8 @@ unfolding opened
 break-within = refl
 
 -- the marker's ends count its runs' calls, whatever the tour: no run in case c, case g's run of call 2, and a call more than the tour has
-marked : (refusalOf value marking (toMark c both [] [] []) ≡ none) × (refusalOf value marking (toMark g both (2 ∷ []) (1 ∷ []) (0 ∷ [])) ≡ none)
-    × (refusalOf value marking (toMark a both (1 ∷ 2 ∷ 1 ∷ []) (3 ∷ []) (0 ∷ [])) ≡ none)
+marked : (refusalOf value marking (toMark caseC both [] [] []) ≡ none) × (refusalOf value marking (toMark caseG both (2 ∷ []) (1 ∷ []) (0 ∷ [])) ≡ none)
+    × (refusalOf value marking (toMark base both (1 ∷ 2 ∷ 1 ∷ []) (3 ∷ []) (0 ∷ [])) ≡ none)
 unfolding opened
 marked = (refl, refl, refl)
 

@@ -16,9 +16,9 @@ use Rattle.definitions.specs.Sheet.{Break, Sheet, time}
 use Rattle.definitions.specs.Window.{Entry}
 use Rattle.definitions.specs.Limits.{within}
 use Rattle.definitions.specs.Run.{serveAt, ready, Label, start, serve, breakAt, serveAll, Totals, home, load, fits, allowed}
-use Rattle.definitions.specs.Clock.{clock, counts}
+use Rattle.definitions.specs.Clock.{clock, counts, placeOr}
 use Rattle.definitions.specs.Evaluation.{routeEval, routeFeasible}
-use Rattle.definitions.specs.Visits.{Violation, windowShut, breakNotPlaceable, overCapacity, overDistance, overDuration, readyFor, entered, visited, windowsFrom, lastLabel, unless, placeOr, buildRoute}
+use Rattle.definitions.specs.Visits.{Violation, windowShut, breakNotPlaceable, overCapacity, overDistance, overDuration, readyFor, entered, visited, windowsFrom, lastLabel, unless, buildRoute}
 use Rattle.definitions.specs.Lent.{violationRoom}
 use Rattle.definitions.proofs.Legality.{plain, clocked, end, back, labelOf}
 use Rattle.definitions.proofs.Marking.{nothing-mapped}

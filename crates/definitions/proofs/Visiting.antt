@@ -10,8 +10,8 @@ use Rattle.basics.specs.Options.{present, valueOr, same, clash, bound}
 use Rattle.definitions.specs.Sheet.{Break, Sheet, customer, distance, time}
 use Rattle.definitions.specs.Window.{Entry, begins, enter}
 use Rattle.definitions.specs.Run.{serveAt, ready, Label, start, placeAfter, serve, breakAt, serveAll, distanceFrom, Totals, home, placed}
-use Rattle.definitions.specs.Clock.{clock, startOf}
-use Rattle.definitions.specs.Visits.{readyFor, entered, visited, visitsFrom, windowsFrom, lastLabel, placeOr, buildRoute}
+use Rattle.definitions.specs.Clock.{clock, startOf, placeOr}
+use Rattle.definitions.specs.Visits.{readyFor, entered, visited, visitsFrom, windowsFrom, lastLabel, buildRoute}
 use Rattle.definitions.proofs.Legality.{clock-own, ridden}
 use Rattle.definitions.proofs.Marking.{served-none}
 

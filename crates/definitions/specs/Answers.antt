@@ -14,8 +14,8 @@ use Rattle.definitions.specs.RunList.{runsOf, callsOf, endsOf}
 use Rattle.definitions.specs.TwoOpt.{improved, improvedDistance}
 use Rattle.definitions.specs.Elimination.{eliminated}
 use Rattle.definitions.specs.Reader.{Reading, sheet, refusedAt}
-use Rattle.definitions.specs.Lent.{Lent, Call, cutting, evaluating, visiting, marking, reversing, eliminating}
-use Rattle.definitions.specs.Refusals.{refusalOf, wholeSheet}
+use Rattle.definitions.specs.Lent.{Lent, wholeSheet, Call, cutting, evaluating, visiting, marking, reversing, eliminating}
+use Rattle.definitions.specs.Refusals.{refusalOf}
 
 -- a call is refused by a number of the scope document's list, or gives its result
 pub data Answer (A : Type 0) : Type 0 where
@@ -46,7 +46,6 @@ twoOpt s run = record { calls = improved (givenOf s) run; distance = improvedDis
 abbrev pub eliminate : Sheet → List (List ℕ) → Eliminated
 eliminate s runs = let left = eliminated (givenOf s) runs in record { calls = callsOf left; ends = endsOf left }
 
--- `value` is what a stored number means
 module _ {F : Type 0} (value : F → Option ℕ) where
   -- the result on the sheet of whole numbers that the lent one means, where no refusal fits
   unfoldable pub answer : {A : Type 0} → Call → (Sheet → A) → Lent F → Answer A

@@ -8,18 +8,12 @@ use lib.ListN.{length}
 use Rattle.basics.specs.Lists.{count}
 use Rattle.definitions.specs.Sheet.{Customer, Sheet, latenessPay}
 use Rattle.definitions.specs.Run.{Run}
-use Rattle.definitions.specs.Clock.{clock}
 use Rattle.definitions.specs.RunList.{runsOf}
 use Rattle.definitions.specs.Cutting.{joined, legalCutting, cuttingCost}
 use Rattle.definitions.specs.Drop.{callsAt, allHeld}
-use Rattle.definitions.specs.Promise.{HasCutting, Settles, Parts, ClockRival}
-use Rattle.definitions.specs.Visits.{placeOr}
+use Rattle.definitions.specs.Promise.{HasCutting, Settles, Parts, clockRun, ClockRival}
 
--- a run with its break where the clock puts it
-abbrev pub clockRun : Sheet → List ℕ → Run
-clockRun s calls = record { calls = calls; place = placeOr (clock s calls) }
-
--- the runs that served customers and run ends make
+-- the runs that served customers and run ends make, with their breaks where the clock puts them
 abbrev pub returned : Sheet → (served ends : List ℕ) → List Run
 returned s served ends = map (clockRun s) (runsOf served ends)
 
@@ -42,15 +36,22 @@ LeastByClock s served cost = (rival : List Run) → joined rival ≡ served → 
 abbrev pub Least : Sheet → (served : List ℕ) (cost : ℕ) → Type 0
 Least s served cost = LeastFree s served cost × LeastByClock s served cost
 
+-- from all positions the drops lead to those held in the end
+abbrev pub Settled : Sheet → (tour held dropped : List ℕ) → Type 0
+Settled s tour held dropped = Settles (HasCutting s) tour (allHeld tour) (record { held = held; dropped = dropped })
+
 -- A call is dropped exactly when it is, among the calls then held, the end of the shortest beginning without a legal cutting, and the drops are
 -- returned in that order; when no such beginning is left, the calls held are the served ones
 abbrev pub Drops : Sheet → (tour served dropped : List ℕ) → Type 0
-Drops s tour served dropped =
-    (held : List ℕ) × (callsAt tour held ≡ served) × Settles (HasCutting s) tour (allHeld tour) (record { held = held; dropped = dropped })
+Drops s tour served dropped = (held : List ℕ) × (callsAt tour held ≡ served) × Settled s tour held dropped
 
--- every position of the tour, in order, is either served or dropped, never both
+-- each position of the tour, in order, is either held or dropped
+abbrev pub Divided : (tour held dropped : List ℕ) → Type 0
+Divided tour held dropped = Parts (count 1 (length tour)) held dropped
+
+-- every position of the tour is either served or dropped, never both
 abbrev pub Partition : (tour served dropped : List ℕ) → Type 0
-Partition tour served dropped = (held : List ℕ) × (callsAt tour held ≡ served) × Parts (count 1 (length tour)) held dropped
+Partition tour served dropped = (held : List ℕ) × (callsAt tour held ≡ served) × Divided tour held dropped
 
 -- ---- `split` keeps the same of what it looks at: the sheet without windows, limits and break
 
@@ -71,11 +72,13 @@ bare s =
       times = s .times;
     }
 
--- ---- all of them
+-- ---- all of them, with one list of positions held for the last two
 
 pub record Clauses (s : Sheet) (tour served ends dropped : List ℕ) (cost : ℕ) : Type 0 where
   pub legal : Legal s served ends
   pub sum : Sum s served ends cost
   pub least : Least s served cost
-  pub drops : Drops s tour served dropped
-  pub partition : Partition tour served dropped
+  pub held : List ℕ
+  pub served-are : callsAt tour held ≡ served
+  pub drops : Settled s tour held dropped
+  pub partition : Divided tour held dropped

@@ -49,6 +49,11 @@ clock s calls = do
   l ← counts (s .rest) (time s (lastOf 0 calls) 0) (clockFrom s 1 0 (record { before = some start; after = none }) calls)
   some (home s calls l)
 
+-- the clock's place: 0 when no break is needed, and where the run is illegal by the clock
+abbrev pub placeOr : Option Totals → ℕ
+placeOr none = 0
+placeOr (some t) = t .place
+
 -- when the break of a run starts
 unfoldable pub startOf : Sheet → Run → Option ℕ
 startOf s r = go (r .place)

@@ -1,4 +1,5 @@
--- A cutting divides calls, in order, into runs. Definitions only.
+-- A cutting divides calls, in order, into runs. The least cost is Prins's split of a tour (2004), a shortest path: the cut points are nodes, a run between two of them is an arc that
+-- costs what the run does, and the best cutting of the calls before a cut point is its label. Definitions only.
 use Prim.Native.Nat.{ℕ, suc, _+_}
 use mathlib.Core.Bool.{Bool, cond}
 use mathlib.Core.List.{List, [], _∷_, _++_, map, tail}

@@ -44,6 +44,7 @@ allHeld tour = record { held = count 1 (length tour); dropped = [] }
 unfoldable pub drops : (List ℕ → Option Arc) → List ℕ → Held
 drops arc tour = dropFrom arc tour (length tour) (allHeld tour)
 
+-- what a cutting of a tour answers
 pub record Result : Type 0 where
   -- served customers
   pub served : List ℕ

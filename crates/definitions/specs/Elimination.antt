@@ -3,17 +3,13 @@
 use Prim.Native.Nat.{ℕ, zero, suc, _+_}
 use mathlib.Core.Bool.{cond, _&&_}
 use mathlib.Core.List.{List, [], _∷_, _++_, map}
-use mathlib.Core.Option.{Option, none, some}
+use mathlib.Core.Option.{Option, none, some, Option·map}
 use lib.ListN.{length}
-use lib.Dec.{ltb, leb}
+use lib.Dec.{ltb}
+use Rattle.basics.specs.Options.{_>>=_, valueOr, orElse}
 use Rattle.definitions.specs.Sort.{rising, falling, sort}
-use Rattle.definitions.specs.Improver.{Given, total, load, allowed}
-use Rattle.definitions.specs.RunList.{runsOf, callsOf, endsOf}
-
--- what an option holds, handed on; without it the other value
-abbrev pub maybe : {A B : Type 0} → Option A → B → (A → B) → B
-maybe none d f = d
-maybe (some x) d f = f x
+use Rattle.definitions.specs.Run.{fitsBy}
+use Rattle.definitions.specs.Improver.{Given, total, allowed}
 
 -- the runs without the empty ones
 abbrev pub nonEmpty : List (List ℕ) → List (List ℕ)
@@ -52,7 +48,7 @@ module _ (G : Given) where
   unfoldable pub candidates : ℕ → List (List ℕ) → List Put
   candidates c [] = []
   candidates c (r ∷ rs) =
-      cond (leb (load G r + G .demand c) (G .capacity)) (map (λ (g : List ℕ). record { grown = g; runs = g ∷ rs }) (inserts c r)) []
+      cond (fitsBy (G .demand) (G .capacity) (c ∷ r)) (map (λ (g : List ℕ). record { grown = g; runs = g ∷ rs }) (inserts c r)) []
       ++ map (beyond r) (candidates c rs)
 
   -- the first that is allowed and leaves the distance below the bound
@@ -67,7 +63,7 @@ module _ (G : Given) where
   -- all of the customers, one after the other
   unfoldable pub placedAll : ℕ → List ℕ → List (List ℕ) → Option (List (List ℕ))
   placedAll bound [] runs = some runs
-  placedAll bound (c ∷ cs) runs = maybe (placed bound c runs) none (placedAll bound cs)
+  placedAll bound (c ∷ cs) runs = placed bound c runs >>= placedAll bound cs
 
   -- the run's customers by falling demand go to the others
   unfoldable pub emptied : Parted → Option (List (List ℕ))
@@ -76,9 +72,7 @@ module _ (G : Given) where
 
   unfoldable pub firstEmptied : List Parted → Option (List (List ℕ))
   firstEmptied [] = none
-  firstEmptied (p ∷ ps) =
-      let later = firstEmptied ps in
-      maybe (emptied p) later some
+  firstEmptied (p ∷ ps) = orElse (emptied p) (firstEmptied ps)
 
   -- the shortest run first: what is left after the first that can go
   unfoldable pub search : List (List ℕ) → Option (List (List ℕ))
@@ -87,15 +81,8 @@ module _ (G : Given) where
   -- the search begins again after a success; each success has a run less, which bounds how many there are
   unfoldable pub searches : ℕ → List (List ℕ) → List (List ℕ)
   searches zero runs = nonEmpty runs
-  searches (suc bound) runs = maybe (search (nonEmpty runs)) (nonEmpty runs) (searches bound)
+  searches (suc bound) runs = valueOr (nonEmpty runs) (Option·map (searches bound) (search (nonEmpty runs)))
 
   -- the runs that eliminate_routes gives
   unfoldable pub eliminated : List (List ℕ) → List (List ℕ)
   eliminated runs = searches (length runs) runs
-
-  -- the same over a run list as lent: the calls and the run ends that eliminate_routes gives
-  abbrev pub eliminatedCalls : List ℕ → List ℕ → List ℕ
-  eliminatedCalls calls ends = callsOf (eliminated (runsOf calls ends))
-
-  abbrev pub eliminatedEnds : List ℕ → List ℕ → List ℕ
-  eliminatedEnds calls ends = endsOf (eliminated (runsOf calls ends))

@@ -8,6 +8,7 @@ use Rattle.definitions.specs.Sheet.{Sheet}
 use Rattle.definitions.specs.Run.{Totals, allowed}
 use Rattle.definitions.specs.Clock.{clock, startOf}
 
+-- what a run that is allowed comes to
 pub record Evaluation : Type 0 where
   -- distance, duration, lateness, lateness pay and break place
   pub totals : Totals

@@ -9,6 +9,7 @@ use Rattle.definitions.specs.Sheet.{Sheet, customer, distance}
 use Rattle.definitions.specs.Run.{legsFrom}
 use Rattle.definitions.specs.Evaluation.{routeFeasible}
 
+-- what an improver is given of a sheet
 pub record Given : Type 0 where
   -- the leg from one place to another; the depot is 0
   pub leg : ℕ → ℕ → ℕ
@@ -51,9 +52,6 @@ module _ (G : Given) where
   -- the distance of several runs
   abbrev pub total : List (List ℕ) → ℕ
   total = sum distanceOf
-
-  abbrev pub load : List ℕ → ℕ
-  load = sum (G .demand)
 
   -- a run that an improver may make: feasible, where that is asked
   abbrev pub allowed : List ℕ → Bool

@@ -2,7 +2,9 @@
 use Prim.Native.Nat.{ℕ, _+_}
 use mathlib.Core.Bool.{Bool, true, false}
 use mathlib.Core.List.{List, [], _∷_}
-use Rattle.definitions.specs.Sheet.{SheetOf}
+use mathlib.Core.Option.{Option}
+use Rattle.basics.specs.Options.{valueOr}
+use Rattle.definitions.specs.Sheet.{SheetOf, Sheet, own, mapSheet}
 
 -- what a call is lent; what it does not take is empty
 pub record Lent (F : Type 0) : Type 0 where
@@ -18,12 +20,25 @@ pub record Lent (F : Type 0) : Type 0 where
   -- the lengths of the result lists
   pub rooms : List ℕ
 
+-- ---- what it means
+
+-- `value` is what a stored number means: none where it is not whole, is below 0 or is negative zero
+module _ {F : Type 0} (value : F → Option ℕ) where
+  -- the number that is meant, where one is
+  abbrev pub whole : F → ℕ
+  whole x = valueOr 0 (value x)
+
+  -- the sheet that is meant
+  unfoldable pub wholeSheet : SheetOf F → Sheet
+  wholeSheet s = mapSheet whole (own s)
+
 -- ---- the calls
 
 -- the room that the violations of a run of n calls need
 abbrev pub violationRoom : ℕ → ℕ
 violationRoom n = n + 3
 
+-- what tells the calls apart
 pub record Call : Type 0 where
   -- takes run ends: its calls are a run list
   pub takesEnds : Bool

@@ -13,9 +13,10 @@ pub mod RunList
 pub mod Cutting
 pub mod Drop
 pub mod Promise
--- Visits and marker.
+-- Visits; the marker, and what its marks mean.
 pub mod Visits
 pub mod Marker
+pub mod Marks
 -- Demand 3 over what a caller is given.
 pub mod Clauses
 -- The two improvers.

@@ -7,11 +7,11 @@ use lib.ListN.{length}
 use lib.Dec.{ltb, eqb}
 use Rattle.basics.specs.Options.{_>>=_, valueOr, orElse, given}
 use Rattle.definitions.specs.Sheet.{Break, Sheet, customer, time}
+use Rattle.definitions.specs.Window.{dueOf}
 use Rattle.definitions.specs.Limits.{within}
 use Rattle.definitions.specs.Run.{breakStart, ready, Label, start, serve, Run, breakAt, Totals, ride, load, fits, placed}
 use Rattle.definitions.specs.Cutting.{joined, cuttingCost}
 use Rattle.definitions.specs.Drop.{Result, splitTw}
-use Rattle.definitions.specs.Visits.{dueOf}
 
 -- ---- the runs given: calls and each run's break place (1 up, 0 none); places beyond the runs are not read
 

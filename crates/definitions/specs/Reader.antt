@@ -2,10 +2,11 @@
 use Prim.Native.Nat.{ℕ, suc, _*_, pred}
 use mathlib.Core.Bool.{Bool, true, false, cond, _&&_, _||_, not}
 use mathlib.Core.List.{List, [], _∷_}
-use mathlib.Core.Option.{Option, none, some, Option·getD}
+use mathlib.Core.Option.{Option, none, some}
 use lib.Dec.{ltb, leb, eqb}
+use Rattle.basics.specs.Options.{valueOr}
 use Rattle.basics.specs.Lists.{any}
-use Rattle.definitions.specs.Domain.{isPlaces, isCapacity, isDemand, isPenalty, isNumber, isCall, mostCalls}
+use Rattle.definitions.specs.Domain.{mostPlaces, mostCalls, isPlaces, isDemand, isCapacity, isPenalty, isNumber, isCall}
 use Rattle.definitions.specs.Sheet.{Window, Break, Customer, Sheet, depot}
 use Rattle.definitions.specs.Words.{Word, word, wordsOf, leftOver}
 use Rattle.definitions.specs.Refusal.{refusal, firstFit}
@@ -181,7 +182,7 @@ abbrev pub customerOf : ℕ → List Word → Customer
 customerOf demand ws =
     record {
       demand = demand;
-      service = Option·getD (firstOf (valuesOf 8 ws)) 0;
+      service = valueOr 0 (firstOf (valuesOf 8 ws));
       window = windowOf (valuesOf 9 ws) (valuesOf 0xA ws);
       penalty = firstOf (valuesOf 0xB ws);
     }
@@ -195,9 +196,9 @@ customersOf (w ∷ ws) = cond (eqb (w .kind) 7) (customerOf (w .value) (own ws) 
 unfoldable pub sheetOf : List Word → Sheet
 sheetOf ws =
     record {
-      places = Option·getD (firstOf (valuesOf 1 ws)) 0;
-      capacity = Option·getD (firstOf (valuesOf 2 ws)) 0;
-      fixed = Option·getD (firstOf (valuesOf 3 ws)) 0;
+      places = valueOr 0 (firstOf (valuesOf 1 ws));
+      capacity = valueOr 0 (firstOf (valuesOf 2 ws));
+      fixed = valueOr 0 (firstOf (valuesOf 3 ws));
       maxDistance = firstOf (valuesOf 4 ws);
       maxDuration = firstOf (valuesOf 5 ws);
       rest = breakOf (valuesOf 6 ws);
@@ -234,7 +235,7 @@ read bytes = readWords (wordsOf bytes) (leftOver bytes)
 
 -- the room that the reader needs: customers, distances, times, calls
 abbrev pub readerNeeds : List ℕ
-readerNeeds = 64 ∷ 4096 ∷ 4096 ∷ 128 ∷ []
+readerNeeds = mostPlaces ∷ mostPlaces * mostPlaces ∷ mostPlaces * mostPlaces ∷ mostCalls ∷ []
 
 -- 13 first; the lengths of the lent lists, then the bytes
 unfoldable pub readInto : List ℕ → List ℕ → Reading

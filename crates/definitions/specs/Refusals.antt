@@ -7,13 +7,13 @@ use mathlib.Core.Option.{Option, none, some}
 use lib.ListN.{length}
 use lib.Dec.{ltb, eqb}
 use Rattle.basics.specs.Tests.{either}
-use Rattle.basics.specs.Options.{holds, present, valueOr}
+use Rattle.basics.specs.Options.{holds, present}
 use Rattle.basics.specs.Lists.{isEmpty, any}
-use Rattle.definitions.specs.Domain.{isPlaces, isCapacity, isDemand, isPenalty, isNumber, isCall, mostCalls}
-use Rattle.definitions.specs.Sheet.{WindowOf, BreakOf, CustomerOf, SheetOf, Sheet, records, own, mapSheet, anySoft}
+use Rattle.definitions.specs.Domain.{mostCalls, isPlaces, isDemand, isCapacity, isPenalty, isNumber, isCall}
+use Rattle.definitions.specs.Sheet.{WindowOf, BreakOf, CustomerOf, SheetOf, Sheet, records, anySoft}
 use Rattle.definitions.specs.Refusal.{Refusal, refusal, firstFit}
 use Rattle.definitions.specs.Room.{short}
-use Rattle.definitions.specs.Lent.{Lent, Call}
+use Rattle.definitions.specs.Lent.{Lent, whole, Call}
 
 -- ---- 13: a lent buffer too short
 
@@ -43,16 +43,16 @@ badTour places tour = badCalls places tour
 abbrev pub badRunList : ℕ → List ℕ → Bool
 badRunList places calls = badCalls places calls
 
--- `value` is what a stored number means: none where it is not whole, is below 0 or is negative zero
 module _ {F : Type 0} (value : F → Option ℕ) where
   -- ---- 1: a number out of range, not whole or negative zero
 
   abbrev pub unfit : (ℕ → Bool) → F → Bool
   unfit p x = not (holds (value x) p)
 
-  abbrev pub badLimit : (ℕ → Bool) → Option F → Bool
-  badLimit p none = false
-  badLimit p (some x) = unfit p x
+  -- a limit or a penalty that is given
+  abbrev pub badOptional : (ℕ → Bool) → Option F → Bool
+  badOptional p none = false
+  badOptional p (some x) = unfit p x
 
   abbrev pub badBreak : Option (BreakOf F) → Bool
   badBreak none = false
@@ -63,7 +63,7 @@ module _ {F : Type 0} (value : F → Option ℕ) where
   badWindow (some w) = unfit isNumber (w .ready) || unfit isNumber (w .due)
 
   abbrev pub badCustomer : CustomerOf F → Bool
-  badCustomer c = either (not (isDemand (c .demand)) ∷ unfit isNumber (c .service) ∷ badWindow (c .window) ∷ badLimit isPenalty (c .penalty) ∷ [])
+  badCustomer c = either (not (isDemand (c .demand)) ∷ unfit isNumber (c .service) ∷ badWindow (c .window) ∷ badOptional isPenalty (c .penalty) ∷ [])
 
   -- a depot record with demand, service, window or penalty
   abbrev pub badDepot : List (CustomerOf F) → Bool
@@ -76,8 +76,8 @@ module _ {F : Type 0} (value : F → Option ℕ) where
       (not (isPlaces (s .places))
       ∷ not (isCapacity (s .capacity))
       ∷ unfit isNumber (s .fixed)
-      ∷ badLimit isNumber (s .maxDistance)
-      ∷ badLimit isNumber (s .maxDuration)
+      ∷ badOptional isNumber (s .maxDistance)
+      ∷ badOptional isNumber (s .maxDuration)
       ∷ badBreak (s .rest)
       ∷ badDepot (records s)
       ∷ any badCustomer (records s)
@@ -91,7 +91,7 @@ module _ {F : Type 0} (value : F → Option ℕ) where
   -- ---- 2: ready above due, or earliest above latest
 
   abbrev pub above : F → F → Bool
-  above x y = ltb (valueOr 0 (value y)) (valueOr 0 (value x))
+  above x y = ltb (whole value y) (whole value x)
 
   abbrev pub windowFalls : Option (WindowOf F) → Bool
   windowFalls none = false
@@ -158,11 +158,3 @@ pub record Within (s : Sheet) : Type 0 where
 -- calls of such a sheet, as a tour or a run list has them
 abbrev pub WithinCalls : Sheet → List ℕ → Type 0
 WithinCalls s calls = badCalls (s .places) calls ≡ false
-
--- what a lent sheet means
-module _ {F : Type 0} (value : F → Option ℕ) where
-  abbrev pub whole : F → ℕ
-  whole x = valueOr 0 (value x)
-
-  unfoldable pub wholeSheet : SheetOf F → Sheet
-  wholeSheet s = mapSheet whole (own s)

@@ -1,7 +1,7 @@
--- A run leaves the depot, serves some calls in order and returns. Definitions only.
+-- A run leaves the depot, serves some calls in order and returns. It is a route of Solomon's problem (1987): within capacity, each service started in its window, and each start carried
+-- forward along the legs to the next arrival; the break is added. Definitions only.
 use Prim.Native.Nat.{ℕ, zero, suc, _+_, max}
-use mathlib.Core.Path.{_≡_}
-use mathlib.Core.Bool.{Bool, true, cond, not, _&&_}
+use mathlib.Core.Bool.{Bool, cond, not, _&&_}
 use mathlib.Core.List.{List, [], _∷_}
 use mathlib.Core.Option.{Option, none, some}
 use lib.ListN.{length}
@@ -29,12 +29,13 @@ ready (some b) arrival = cond (tooLate b arrival) none (some (breakStart b arriv
 
 -- ---- serving a call
 
--- a label: the bus with a call served
+-- a label: time, lateness, lateness cost and break place, with some calls served
 pub record Label : Type 0 where
   pub time : ℕ
   pub lateness : ℕ
+  -- the lateness cost: lateness pay so far
   pub pay : ℕ
-  -- the break place: the number of the call at which the break was taken, from 1, or 0
+  -- the number of the call at which the break was taken, from 1, or 0
   pub place : ℕ
 
 -- a run starts at time 0, nothing late
@@ -91,13 +92,16 @@ legsFrom leg a (c ∷ cs) = leg a c + legsFrom leg c cs
 abbrev pub distanceFrom : Sheet → ℕ → List ℕ → ℕ
 distanceFrom s a calls = legsFrom (distance s) a calls
 
+-- what a run comes to
 pub record Totals : Type 0 where
   -- all its legs, both depot legs too
   pub distance : ℕ
   -- the time at home
   pub duration : ℕ
   pub lateness : ℕ
+  -- the lateness cost: its lateness pay
   pub pay : ℕ
+  -- its break place
   pub place : ℕ
 
 abbrev pub home : Sheet → List ℕ → Label → Totals
@@ -118,12 +122,19 @@ ride s r = do
 
 -- ---- legal runs
 
-abbrev pub load : Sheet → List ℕ → ℕ
-load s calls = sum (λ c. customer s c .demand) calls
+-- the load of calls whose customers have these demands, and whether it is at most capacity
+abbrev pub loadBy : (ℕ → ℕ) → List ℕ → ℕ
+loadBy demand calls = sum demand calls
 
--- its load is at most capacity
+abbrev pub fitsBy : (ℕ → ℕ) → ℕ → List ℕ → Bool
+fitsBy demand capacity calls = leb (loadBy demand calls) capacity
+
+-- those of the sheet
+abbrev pub load : Sheet → List ℕ → ℕ
+load s calls = loadBy (λ c. customer s c .demand) calls
+
 abbrev pub fits : Sheet → List ℕ → Bool
-fits s calls = leb (load s calls) (s .capacity)
+fits s calls = fitsBy (λ c. customer s c .demand) (s .capacity) calls
 
 -- its totals are allowed
 abbrev pub allowed : Sheet → Totals → Bool
@@ -141,14 +152,6 @@ unfoldable pub legal : Sheet → Run → Bool
 legal s r =
     not (isEmpty (r .calls)) && fits s (r .calls)
     && holds (ride s r) (λ t. allowed s t && placed (s .rest) (r .place) (length (r .calls)) (t .duration))
-
--- the same as one fact each: the run is legal, and comes to t
-pub record Legal (s : Sheet) (r : Run) (t : Totals) : Type 0 where
-  pub some-calls : not (isEmpty (r .calls)) ≡ true
-  pub room : fits s (r .calls) ≡ true
-  pub rode : ride s r ≡ some t
-  pub kept-limits : allowed s t ≡ true
-  pub break-placed : placed (s .rest) (r .place) (length (r .calls)) (t .duration) ≡ true
 
 -- run cost: fixed cost + distance + lateness pay
 abbrev pub price : Sheet → ℕ → ℕ → ℕ

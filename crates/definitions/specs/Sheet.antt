@@ -21,6 +21,7 @@ pub record BreakOf (F : Type 0) : Type 0 where
   pub latest : F
   pub duration : F
 
+-- a customer: the seats asked for, how long the service is, and when it may start; record 0 is the depot's
 pub record CustomerOf (F : Type 0) : Type 0 where
   pub demand : ℕ
   pub service : F
@@ -111,10 +112,12 @@ depot = record { demand = 0; service = 0; window = none; penalty = none }
 abbrev pub customer : Sheet → ℕ → Customer
 customer s c = getD (s .customers) c depot
 
--- The leg from a to b in a table of n rows. On an accepted sheet every lookup of a run lies inside its table (proofs/Inside).
+-- The leg from a to b in a table of n rows. On an accepted sheet every lookup of a run lies inside its table (crates/bounds, specs/Inside), so the 0 is never read; on floats a
+-- lookup outside its table gives infinity.
 abbrev pub leg : List ℕ → ℕ → ℕ → ℕ → ℕ
 leg table n a b = getD table (a * n + b) 0
 
+-- `get`
 abbrev pub distance : Sheet → ℕ → ℕ → ℕ
 distance s a b = leg (s .distances) (s .places) a b
 
@@ -123,6 +126,7 @@ abbrev pub timeTable : {F : Type 0} → List F → List F → List F
 timeTable distances [] = distances
 timeTable distances (t ∷ ts) = t ∷ ts
 
+-- `travel_time`
 abbrev pub time : Sheet → ℕ → ℕ → ℕ
 time s a b = leg (timeTable (s .distances) (s .times)) (s .places) a b
 

@@ -2,17 +2,18 @@
 use Prim.Native.Nat.{ℕ, suc, _+_}
 use mathlib.Core.Bool.{Bool, true, false, cond, not, _&&_}
 use mathlib.Core.List.{List, [], _∷_, _++_}
-use mathlib.Core.Option.{Option, none, some}
+use mathlib.Core.Option.{Option}
 use Rattle.basics.specs.Options.{present, valueOr}
 use Rattle.basics.specs.Lists.{isEmpty}
-use Rattle.definitions.specs.Sheet.{Window, Break, Sheet, customer, time}
-use Rattle.definitions.specs.Window.{begins, Entry, enter}
+use Rattle.definitions.specs.Sheet.{Break, Sheet, customer, time}
+use Rattle.definitions.specs.Window.{dueOf, begins, Entry, enter}
 use Rattle.definitions.specs.Limits.{within}
 use Rattle.definitions.specs.Run.{ready, Label, start, placeAfter, breakAt, Totals, home, load, fits}
-use Rattle.definitions.specs.Clock.{clock, startOf}
+use Rattle.definitions.specs.Clock.{clock, placeOr, startOf}
 
 -- ---- visits and violations
 
+-- a call visited
 pub record Visit : Type 0 where
   pub customer : ℕ
   -- before the break, if it is here
@@ -53,10 +54,6 @@ readyFor s here a c l = let arrival = l .time + time s a c in valueOr arrival (r
 abbrev pub entered : Sheet → ℕ → ℕ → Option Entry
 entered s c readiness = enter (customer s c .window) (customer s c .penalty) readiness
 
-abbrev pub dueOf : Option Window → ℕ
-dueOf none = 0
-dueOf (some w) = w .due
-
 -- a call is visited too where it is reached too late
 unfoldable pub visited : Sheet → Option Break → ℕ → ℕ → ℕ → Label → Label
 visited s here k a c l =
@@ -91,6 +88,7 @@ module _ (s : Sheet) (place : ℕ) where
 
 -- ---- the route
 
+-- what a run comes to, visit by visit, allowed or not
 pub record Route : Type 0 where
   pub visits : List Visit
   -- distance, duration, lateness, lateness pay and break place
@@ -105,11 +103,7 @@ abbrev pub unless : Bool → Violation → List Violation
 unless true v = []
 unless false v = v ∷ []
 
--- an unplaceable break is left out of the visit times
-abbrev pub placeOr : Option Totals → ℕ
-placeOr none = 0
-placeOr (some t) = t .place
-
+-- the break is where the clock puts it; an unplaceable break is left out of the visit times
 unfoldable pub buildRoute : Sheet → List ℕ → Route
 buildRoute s calls =
     let placed = clock s calls in

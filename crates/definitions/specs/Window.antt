@@ -1,9 +1,15 @@
--- Customer and window: late, waiting, and entering a window. Definitions only.
+-- Customer and window: late, waiting, and entering a window. As in Solomon's vehicle routing problem with time windows (1987): a bus that is there before ready waits, service starts
+-- at the later of the two, and a start after due is not allowed; a penalty, which that problem has not, allows it at a price. Definitions only.
 use Prim.Native.Nat.{ℕ, _-_, _*_, max}
 use mathlib.Core.Bool.{Bool, cond}
 use mathlib.Core.Option.{Option, none, some}
 use lib.Dec.{ltb}
 use Rattle.definitions.specs.Sheet.{Window}
+
+-- when the window shuts, if there is one
+abbrev pub dueOf : Option Window → ℕ
+dueOf none = 0
+dueOf (some w) = w .due
 
 -- late means arrival above due; equal is on time
 abbrev pub late : Window → ℕ → Bool

@@ -12,9 +12,10 @@ use Rattle.basics.specs.Tests.{by-test}
 use Rattle.basics.specs.Lists.{count, All, all-imp}
 use Rattle.bounds.specs.Inside.{mostNumber, Sized, Place}
 use Rattle.definitions.specs.Domain.{mostCalls}
-use Rattle.definitions.specs.Sheet.{Sheet, customer, distance}
+use Rattle.definitions.specs.Sheet.{Sheet, distance}
+use Rattle.definitions.specs.Run as Run
 use Rattle.definitions.specs.Sort.{rising, sort}
-use Rattle.definitions.specs.Improver.{givenOf, total, load}
+use Rattle.definitions.specs.Improver.{givenOf, total}
 use Rattle.definitions.specs.Elimination.{Put, beyond, inserts, candidates}
 use Rattle.whole.specs.Difference.{diff, diff-same, diff-le}
 use Rattle.evaluation.specs.Tables.{placeBefore, demandsOf}
@@ -82,7 +83,7 @@ module _ (s : Sheet) (S : Sized s) (T : TermsF) (I : Image s T) (c : ℕ) (p : P
         ∙ ap (map here) (sym (inserts-are c r))
 
     here-are : All (Place s) r → map (putFrom k c (r ∷ rs)) (placesOf (legF T) fits k c r)
-        ≡ cond (leb (load (givenOf s) r + customer s c .demand) (s .capacity)) (map here (inserts c r)) []
+        ≡ cond (Run.fits s (c ∷ r)) (map here (inserts c r)) []
     here-are a =
         let e = room-exact s S T I c r p a in
         by-test (fits c r) (λ t. rw (t, sym e ∙ t) places-are) (λ f. rw (f, sym e ∙ f))

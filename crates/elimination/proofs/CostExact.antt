@@ -1,13 +1,13 @@
 -- On a sheet of whole numbers within the limits: what a run asks for, what a customer adds in it, and how long the runs are. Assumes nothing.
 use Prim.Native.Nat.{ℕ, zero, suc, _+_, _*_, _<_, _≤_}
 use native.Mathlib.Omega.{arith}
-use native.Mathlib.Nat.{not-suc-le-zero, le-of-suc-le-suc}
+use native.Mathlib.Nat.{not-suc-le-zero, le-of-suc-le-suc, add-comm}
 use mathlib.Core.Path.{_≡_, refl, sym, ap, ap₂, _∙_}
 use mathlib.Core.Bool.{true}
 use mathlib.Core.List.{List, [], _∷_, _++_}
 use lib.ListN.{length, getD, take, drop, length-append, List·getD-eq-default, drop-of-length-le}
 use lib.Seq.{drop-cons, take-all, split-at}
-use lib.Dec.{ltb, leb}
+use lib.Dec.{ltb}
 use lib.Ieee as Ieee
 use lib.Ieee.{Float, inf, fin}
 use borrow.Author.Tests.{ltb-true, ltb-false}
@@ -17,8 +17,9 @@ use Rattle.bounds.specs.Inside.{mostNumber, Sized, Place, depot-inside, call-in
 use Rattle.bounds.specs.Bounds.{distance-most}
 use Rattle.definitions.specs.Domain.{mostCalls}
 use Rattle.definitions.specs.Sheet.{Sheet, customer, distance}
+use Rattle.definitions.specs.Run.{load, fits}
 use Rattle.definitions.specs.RunList.{callsOf}
-use Rattle.definitions.specs.Improver.{givenOf, distanceOf, total, load}
+use Rattle.definitions.specs.Improver.{givenOf, distanceOf, total}
 use Rattle.definitions.proofs.LegLaws.{final, insertion-before, insertion-last}
 use Rattle.definitions.proofs.EliminationLaws.{Calls}
 use Rattle.whole.specs.Whole.{fl, limit, Is, fl-add, fl-is}
@@ -130,14 +131,14 @@ module _ (s : Sheet) (S : Sized s) (T : TermsF) (I : Image s T) where
   pub demand-exact : (c : ℕ) → Place s c → demandF T c ≡ customer s c .demand
   demand-exact c p = asked (T .tables .customers) c ∙ Clock.demand-exact s S (T .tables .customers) (I .tables-hold .records-are) c p
 
-  load-exact : (run : List ℕ) → All (Place s) run → sum (demandF T) run ≡ load (givenOf s) run
+  load-exact : (run : List ℕ) → All (Place s) run → sum (demandF T) run ≡ load s run
   load-exact [] a = refl
   load-exact (c ∷ cs) a = ap₂ (λ (m n : ℕ). m + n) (demand-exact c (a .0)) (load-exact cs (a .1))
 
   pub room-exact : (c : ℕ) (run : List ℕ) → Place s c → All (Place s) run
-      → roomF (demandsOf (T .tables .customers)) (T .capacity) c run ≡ leb (load (givenOf s) run + customer s c .demand) (s .capacity)
+      → roomF (demandsOf (T .tables .customers)) (T .capacity) c run ≡ fits s (c ∷ run)
   unfolding roomF loadF
-  room-exact c run p a = rw (load-exact run a, demand-exact c p, I .capacity-holds)
+  room-exact c run p a = rw (load-exact run a, demand-exact c p, I .capacity-holds, add-comm (customer s c .demand) (load s run))
 
   leg-exact : (a b : ℕ) → Place s a → Place s b → legF T a b ≡ fl (distance s a b)
   leg-exact = distance-exact s S (T .tables) (I .tables-hold)

@@ -10,7 +10,7 @@ use lib.ListN.{length, drop}
 use lib.Ieee as Ieee
 use lib.Ieee.{Float, binary64}
 use borrow.Author.Tests.{lt-ltb}
-use Rattle.basics.specs.Options.{_>>=_, Holds, given}
+use Rattle.basics.specs.Options.{_>>=_, valueOr, orElse, Holds, given}
 use Rattle.basics.specs.Lists.{All}
 use Rattle.bounds.specs.Inside.{Sized, sized, Place, few-calls, calls-inside, all-take, all-drop}
 use Rattle.bounds.specs.Bounds.{distance-most}
@@ -21,7 +21,7 @@ use Rattle.definitions.specs.Sort.{rising, falling, sort}
 use Rattle.definitions.specs.RunList.{runsFrom, runsOf}
 use Rattle.definitions.proofs.RunListLaws.{RiseTo, calls-back}
 use Rattle.definitions.specs.Improver.{givenOf, distanceOf, total}
-use Rattle.definitions.specs.Elimination.{maybe, nonEmpty, Parted, parted, placedAll, emptied, firstEmptied, search, searches, eliminated}
+use Rattle.definitions.specs.Elimination.{nonEmpty, Parted, parted, placedAll, emptied, firstEmptied, search, searches, eliminated}
 use Rattle.definitions.proofs.SortLaws.{sort-all}
 use Rattle.definitions.proofs.EliminationLaws.{Calls}
 use Rattle.whole.specs.Whole.{fl}
@@ -128,14 +128,14 @@ module _ (s : Sheet) (S : Sized s) (T : TermsF) (I : Image s T) where
     first-exact : (ps : List Parted) → All (GoodPart s n) ps → firstEmptiedF T ps ≡ firstEmptied (givenOf s) ps
     unfolding firstEmptiedF firstEmptied
     first-exact [] a = refl
-    first-exact (p ∷ ps) a = ap₂ (λ (o later : Option (List (List ℕ))). maybe o later some) (emptied-exact p n h (a .0)) (first-exact ps (a .1))
+    first-exact (p ∷ ps) a = ap₂ (λ (o later : Option (List (List ℕ))). orElse o later) (emptied-exact p n h (a .0)) (first-exact ps (a .1))
 
     first-good : (ps : List Parted) → All (GoodPart s n) ps → Holds (Good s mostCalls) (firstEmptied (givenOf s) ps)
     unfolding firstEmptied
     first-good [] a = tt
     first-good (p ∷ ps) a = go (emptied (givenOf s) p) (emptied-good p n h (a .0)) (firstEmptied (givenOf s) ps) (first-good ps (a .1))
       where
-        go : (o : Option (List (List ℕ))) → Holds (Good s mostCalls) o → (later : Option (List (List ℕ))) → Holds (Good s mostCalls) later → Holds (Good s mostCalls) (maybe o later some)
+        go : (o : Option (List (List ℕ))) → Holds (Good s mostCalls) o → (later : Option (List (List ℕ))) → Holds (Good s mostCalls) later → Holds (Good s mostCalls) (orElse o later)
         go none x later y = y
         go (some new) x later y = x
 
@@ -155,11 +155,11 @@ module _ (s : Sheet) (S : Sized s) (T : TermsF) (I : Image s T) where
   unfolding searchesF searches
   searches-exact zero rs a h = refl
   searches-exact (suc bound) rs a h =
-      ap (λ (o : Option (List (List ℕ))). maybe o (nonEmpty rs) (searchesF T bound)) (search-exact (nonEmpty rs) (non-empty-good s rs a h))
+      ap (λ (o : Option (List (List ℕ))). valueOr (nonEmpty rs) (Option·map (searchesF T bound) o)) (search-exact (nonEmpty rs) (non-empty-good s rs a h))
       ∙ go (λ new W. searches-exact bound new (W .inside) (W .few)) (search (givenOf s) (nonEmpty rs)) (search-good (nonEmpty rs) (non-empty-good s rs a h))
     where
       go : ((new : List (List ℕ)) → Good s mostCalls new → searchesF T bound new ≡ searches (givenOf s) bound new) → (o : Option (List (List ℕ))) → Holds (Good s mostCalls) o
-          → maybe o (nonEmpty rs) (searchesF T bound) ≡ maybe o (nonEmpty rs) (searches (givenOf s) bound)
+          → valueOr (nonEmpty rs) (Option·map (searchesF T bound) o) ≡ valueOr (nonEmpty rs) (Option·map (searches (givenOf s) bound) o)
       go ih none W = refl
       go ih (some new) W = ih new W
 

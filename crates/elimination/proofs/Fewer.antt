@@ -4,16 +4,16 @@ use native.Mathlib.Omega.{arith}
 use mathlib.Core.Path.{_≡_, refl, ap}
 use mathlib.Core.Bool.{Bool, true, false}
 use mathlib.Core.List.{List, [], _∷_}
-use mathlib.Core.Option.{Option, none, some}
+use mathlib.Core.Option.{Option, none, some, Option·map}
 use lib.ListN.{length, take, drop, length-append, length-take, length-drop}
 use lib.Ieee as Ieee
 use lib.Ieee.{Float, binary64}
 use Rattle.basics.specs.Tests.{by-test}
-use Rattle.basics.specs.Options.{_>>=_, Holds, given}
+use Rattle.basics.specs.Options.{_>>=_, valueOr, orElse, Holds, given}
 use Rattle.basics.specs.Lists.{All, all-imp, all-map}
 use Rattle.definitions.specs.RunList.{callsOf}
 use Rattle.definitions.specs.Sort.{rising, falling, sort}
-use Rattle.definitions.specs.Elimination.{maybe, nonEmpty, Parted, past, parted}
+use Rattle.definitions.specs.Elimination.{nonEmpty, Parted, past, parted}
 use Rattle.definitions.proofs.SortLaws.{sort-all}
 use Rattle.whole.specs.Whole.{fl}
 use Rattle.run_lists.specs.RunLists.{insertAt, putIn, runAt}
@@ -125,7 +125,7 @@ module _ (T : TermsF) where
   first-fewer all [] a = tt
   first-fewer all (p ∷ ps) a = go (emptiedF T p) (emptied-grows p) (firstEmptiedF T ps) (first-fewer all ps (a .1))
     where
-      go : (o : Option (List (List ℕ))) → Holds (Grows (length (p .run)) (p .rest)) o → (later : Option (List (List ℕ))) → Holds (Fewer all) later → Holds (Fewer all) (maybe o later some)
+      go : (o : Option (List (List ℕ))) → Holds (Grows (length (p .run)) (p .rest)) o → (later : Option (List (List ℕ))) → Holds (Fewer all) later → Holds (Fewer all) (orElse o later)
       go none x later y = y
       go (some new) x later y = record { one-less = omega (arith, x .runs-same, a .0 .others); calls-kept = omega (arith, x .calls-more, a .0 .all-calls) }
 
@@ -142,7 +142,7 @@ module _ (T : TermsF) where
   searches-fewer zero rs = non-empty-fewer rs
   searches-fewer (suc bound) rs = go (λ new. searches-fewer bound new) (searchF T (nonEmpty rs)) (search-fewer (nonEmpty rs))
     where
-      go : ((new : List (List ℕ)) → NoMore new (searchesF T bound new)) → (o : Option (List (List ℕ))) → Holds (Fewer (nonEmpty rs)) o → NoMore rs (maybe o (nonEmpty rs) (searchesF T bound))
+      go : ((new : List (List ℕ)) → NoMore new (searchesF T bound new)) → (o : Option (List (List ℕ))) → Holds (Fewer (nonEmpty rs)) o → NoMore rs (valueOr (nonEmpty rs) (Option·map (searchesF T bound) o))
       go ih none a = non-empty-fewer rs
       go ih (some new) a =
           let m = non-empty-fewer rs in

@@ -18,7 +18,7 @@ use Rattle.definitions.specs.Domain.{mostCalls}
 use Rattle.definitions.specs.Sheet.{Sheet}
 use Rattle.definitions.specs.Sort.{rising, sort}
 use Rattle.definitions.specs.Improver.{givenOf, total, allowed}
-use Rattle.definitions.specs.Elimination.{maybe, Put, candidates, firstBelow, placed, placedAll}
+use Rattle.definitions.specs.Elimination.{Put, candidates, firstBelow, placed, placedAll}
 use Rattle.definitions.proofs.SortLaws.{sort-all, Rises, sort-rises}
 use Rattle.definitions.proofs.EliminationLaws.{first-stops}
 use Rattle.whole.specs.Whole.{fl, limit}
@@ -124,7 +124,7 @@ module _ (s : Sheet) (S : Sized s) (T : TermsF) (I : Image s T) where
       where
         go : ((new : List (List ℕ)) → Good s (suc n) new → placeAllF T (diff (total (givenOf s) new) base) (fl saved) cs new ≡ Option·map answered (placedAll (givenOf s) (saved + base) cs new))
             → (o : Option (List (List ℕ))) → Holds (Good s (suc n)) o
-            → (Option·map answered o >>= λ q. placeAllF T (q .added) (fl saved) cs (q .runs)) ≡ Option·map answered (maybe o none (placedAll (givenOf s) (saved + base) cs))
+            → (Option·map answered o >>= λ q. placeAllF T (q .added) (fl saved) cs (q .runs)) ≡ Option·map answered (o >>= placedAll (givenOf s) (saved + base) cs)
         go ih none Q = refl
         go ih (some new) Q = ih new Q
 
@@ -135,7 +135,7 @@ module _ (s : Sheet) (S : Sized s) (T : TermsF) (I : Image s T) where
         go (λ new Q. all-good cs new (suc n) (omega arith) (a .1) Q) (placed (givenOf s) (saved + base) c rs) (place-good c (a .0) rs n (omega arith) W)
       where
         go : ((new : List (List ℕ)) → Good s (suc n) new → Holds (Good s mostCalls) (placedAll (givenOf s) (saved + base) cs new)) → (o : Option (List (List ℕ))) → Holds (Good s (suc n)) o
-            → Holds (Good s mostCalls) (maybe o none (placedAll (givenOf s) (saved + base) cs))
+            → Holds (Good s mostCalls) (o >>= placedAll (givenOf s) (saved + base) cs)
         go ih none Q = tt
         go ih (some new) Q = ih new Q
 
@@ -158,7 +158,7 @@ module _ (s : Sheet) (bound : ℕ) where
   stays-below [] rs h = h
   stays-below (c ∷ cs) rs h = go (λ new b. stays-below cs new b) (placed (givenOf s) bound c rs) (first-below (sort (rising (λ (q : Put). total (givenOf s) (q .runs))) (candidates (givenOf s) c rs)))
     where
-      go : ((new : List (List ℕ)) → Below new → Holds Below (placedAll (givenOf s) bound cs new)) → (o : Option (List (List ℕ))) → Holds Below o → Holds Below (maybe o none (placedAll (givenOf s) bound cs))
+      go : ((new : List (List ℕ)) → Below new → Holds Below (placedAll (givenOf s) bound cs new)) → (o : Option (List (List ℕ))) → Holds Below o → Holds Below (o >>= placedAll (givenOf s) bound cs)
       go ih none b = tt
       go ih (some new) b = ih new b
 
@@ -167,6 +167,6 @@ module _ (s : Sheet) (bound : ℕ) where
   unfolding placedAll placed
   all-below c cs rs = go (placed (givenOf s) bound c rs) (first-below (sort (rising (λ (q : Put). total (givenOf s) (q .runs))) (candidates (givenOf s) c rs)))
     where
-      go : (o : Option (List (List ℕ))) → Holds Below o → Holds Below (maybe o none (placedAll (givenOf s) bound cs))
+      go : (o : Option (List (List ℕ))) → Holds Below o → Holds Below (o >>= placedAll (givenOf s) bound cs)
       go none b = tt
       go (some new) b = stays-below cs new b

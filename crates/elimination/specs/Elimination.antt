@@ -3,15 +3,15 @@ use Prim.Native.Nat.{ℕ, zero, suc}
 use mathlib.Core.Path.{_≡_}
 use mathlib.Core.Bool.{Bool, true, false, cond, _&&_}
 use mathlib.Core.List.{List, [], _∷_}
-use mathlib.Core.Option.{Option, none, some}
+use mathlib.Core.Option.{Option, none, some, Option·map}
 use lib.ListN.{length}
 use lib.Ieee as Ieee
 use lib.Ieee.{Float, binary64, inf}
-use Rattle.basics.specs.Options.{_>>=_, given}
+use Rattle.basics.specs.Options.{_>>=_, valueOr, orElse, given}
 use Rattle.basics.specs.Lists.{without}
 use Rattle.definitions.specs.Sort.{rising, falling, sort}
 use Rattle.definitions.specs.RunList.{callsOf}
-use Rattle.definitions.specs.Elimination.{maybe, nonEmpty, Parted, parted}
+use Rattle.definitions.specs.Elimination.{nonEmpty, Parted, parted}
 use Rattle.whole.specs.Whole.{fl}
 use Rattle.local_search.specs.Route.{routeDistanceF}
 use Rattle.run_lists.specs.RunLists.{Sound, runsIn, runAt}
@@ -40,9 +40,7 @@ module _ (T : TermsF) where
 
   unfoldable pub firstEmptiedF : List Parted → Option (List (List ℕ))
   firstEmptiedF [] = none
-  firstEmptiedF (p ∷ ps) =
-      let later = firstEmptiedF ps in
-      maybe (emptiedF p) later some
+  firstEmptiedF (p ∷ ps) = orElse (emptiedF p) (firstEmptiedF ps)
 
   -- the shortest run first: what is left after the first that can go
   unfoldable pub searchF : List (List ℕ) → Option (List (List ℕ))
@@ -51,7 +49,7 @@ module _ (T : TermsF) where
   -- the search begins again after a success
   unfoldable pub searchesF : ℕ → List (List ℕ) → List (List ℕ)
   searchesF zero runs = nonEmpty runs
-  searchesF (suc bound) runs = maybe (searchF (nonEmpty runs)) (nonEmpty runs) (searchesF bound)
+  searchesF (suc bound) runs = valueOr (nonEmpty runs) (Option·map (searchesF bound) (searchF (nonEmpty runs)))
 
   -- the runs that eliminate_routes gives
   unfoldable pub eliminatedF : List (List ℕ) → List (List ℕ)

@@ -13,6 +13,8 @@ use Rattle.definitions.specs.Answers as Call
 use Rattle.definitions.specs.Room.{written}
 use Rattle.marker.specs.declared.verdict.Verdict.{Verdict}
 use Rattle.marker.specs.Image.{flVerdict}
+use Rattle.marker.specs.Figures.{numberIn, valuesIn}
+use Rattle.marker.proofs.Figures.{same-number, same-values}
 use Rattle.sheet.specs.Summary as Summary
 use Rattle.sheet.specs.Summary.{summaryOf}
 use Rattle.checked_cuts.specs.declared.marking.Marking.{Marking}
@@ -23,8 +25,7 @@ use Rattle.exports.specs.Called.{callNumber, setBy, listBy}
 use Rattle.exports.specs.Mark.{markAnswer}
 use Rattle.exports.proofs.Answering.{unread, was-read}
 use Rattle.sheet_mark.specs.Mark.{markedOn}
-use Rattle.sheet_mark.specs.Values.{numberIn, valuesIn, Small}
-use Rattle.sheet_mark.proofs.Verdicts.{same-number, same-values}
+use Rattle.sheet_mark.specs.Values.{Small}
 use Rattle.sheet_mark.proofs.Small.{marked-fits}
 
 -- ---- the cases of the code's answer

@@ -6,3 +6,4 @@ pub mod Runs
 pub mod WalkExact
 pub mod RunExact
 pub mod MarkExact
+pub mod Figures

@@ -29,7 +29,8 @@ use Rattle.marker.specs.declared.verdict.Verdict.the-variants.{OtherCall
 use Rattle.marker.specs.RunMark.{Ground, runMarkF}
 use Rattle.marker.specs.Marks.{runsMarkF, againstF, verdictF, markF}
 use Rattle.marker.specs.Image.{flVerdict, flMarked, Image}
-use Rattle.marker.proofs.GivenRuns.{rises, with-calls, with-all, Inside, runs-inside, Filled, runs-filled}
+use Rattle.definitions.proofs.GivenRuns.{rises, with-calls, with-all, Filled, runs-filled}
+use Rattle.marker.proofs.GivenRuns.{Inside, runs-inside}
 use Rattle.marker.proofs.RunExact.{run-exact}
 
 -- ---- the runs' mark

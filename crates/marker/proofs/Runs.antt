@@ -20,7 +20,7 @@ use Rattle.marker.specs.declared.run.Marked.{Marked}
 use Rattle.marker.specs.declared.run.Marked.the-variants.{Faulty, Costs}
 use Rattle.marker.specs.RunMark.{Ground, runMarkF}
 use Rattle.marker.specs.Marks.{runsMarkF}
-use Rattle.marker.proofs.GivenRuns.{rises}
+use Rattle.definitions.proofs.GivenRuns.{rises}
 
 -- the runs from number k on, from 0, where p calls stand before them
 abbrev left : List ℕ → List ℕ → List ℕ → ℕ → ℕ → List Run

@@ -16,7 +16,7 @@ use Rattle.definitions.specs.Domain.{mostCalls}
 use Rattle.definitions.specs.Sheet.{Break, Sheet, customer, distance, time}
 use Rattle.definitions.specs.Run as Whole
 use Rattle.definitions.specs.Run.{breakStart, ready, serve, breakAt, serveAll, lastOf, distanceFrom}
-use Rattle.definitions.specs.Visits.{dueOf}
+use Rattle.definitions.specs.Window.{dueOf}
 use Rattle.definitions.specs.Marker.{Verdict, breakTooLate, windowMissed, breakOr, callFault, walkFault}
 use Rattle.bounds.specs.Inside.{SmallBreak, Sized, Place, depot-inside, time-small, customer-small, break-small}
 use Rattle.bounds.specs.Bounds.{Early, arriveBy, serve-early}

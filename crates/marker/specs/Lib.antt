@@ -4,3 +4,5 @@ pub mod RunMark
 pub mod Marks
 -- Verdicts of whole numbers, held in floats.
 pub mod Image
+-- A verdict by its number and values.
+pub mod Figures

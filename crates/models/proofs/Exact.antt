@@ -12,9 +12,8 @@ use lib.Ieee.{binary64}
 use Rattle.basics.specs.Tests.{by-test}
 use Rattle.basics.specs.Options.{Holds, valueOr}
 use Rattle.definitions.specs.Sheet.{Window}
-use Rattle.definitions.specs.Window.{late, waiting, lateness}
+use Rattle.definitions.specs.Window.{dueOf, late, waiting, lateness}
 use Rattle.definitions.specs.Limits.{within}
-use Rattle.definitions.specs.Visits.{dueOf}
 use Rattle.whole.specs.Whole.{fl, limit, fl-sub, fl-lt, fl-le}
 use Rattle.whole.specs.Difference.{fl-diff, diff-lt-fl}
 use Rattle.models.specs.Window.{lateF, waitingF, latenessF, dueF}

@@ -17,8 +17,10 @@ pub mod ReversalLists
 -- The marker.
 pub mod MarkRow
 pub mod MarkLists
+pub mod MarkGiven
 -- The visits of a run.
 pub mod RouteRows
+pub mod RouteFigures
 -- Route elimination.
 pub mod EliminationRow
 pub mod EliminationLists

@@ -69,7 +69,7 @@ module _ (s : Sheet) (tour served ends dropped : List ℕ) (x : Result) (kept : 
   given-all none small =
       let K = front-kept in
       let means = value-fl (x .cost) (small refl) in
-      (refl, (tt, (K .legal, ((x .cost, means, K .sum), ((x .cost, means, K .least), (K .drops, (K .partition, tt)))))))
+      (refl, (tt, (K .legal, ((x .cost, means, K .sum), ((x .cost, means, K .least), ((K .held, K .served-are, K .drops), ((K .held, K .served-are, K .partition), tt)))))))
 
 -- ---- the two ways to cut
 

@@ -4,7 +4,7 @@ ghost use mathlib.Core.List.{[], _∷_};
 ghost use Rattle.basics.specs.Options.{present};
 ghost use Rattle.definitions.specs.Domain.{isPenalty, isNumber};
 ghost use Rattle.definitions.specs.Sheet.{soft};
-ghost use Rattle.definitions.specs.Refusals.{badLimit, badBreak, badWindow, badCustomer, badDepot};
+ghost use Rattle.definitions.specs.Refusals.{badOptional, badBreak, badWindow, badCustomer, badDepot};
 ghost use Rattle.models.specs.Records.{openingOf, penaltyOf, customerOf, restOf, limitOf};
 ghost use Rattle.whole.specs.Value.{value};
 ghost use Rattle.ranges.specs.Falling.{windowFallsF, breakFallsF};
@@ -19,7 +19,7 @@ use models::limits::Limit;
 use models::vehicle::Rest;
 
 pub fn bad_limit(limit: Limit) -> bool
-    ensures { λ r. ⌜ r ≡ badLimit value isNumber (limitOf limit) ⌝ }
+    ensures { λ r. ⌜ r ≡ badOptional value isNumber (limitOf limit) ⌝ }
 {
     match limit {
         Limit::Unlimited => false,
@@ -48,7 +48,7 @@ pub fn bad_window(opening: Opening) -> bool
 }
 
 pub fn bad_penalty(penalty: Penalty) -> bool
-    ensures { λ r. ⌜ r ≡ badLimit value isPenalty (penaltyOf penalty) ⌝ }
+    ensures { λ r. ⌜ r ≡ badOptional value isPenalty (penaltyOf penalty) ⌝ }
 {
     match penalty {
         Penalty::Hard => false,

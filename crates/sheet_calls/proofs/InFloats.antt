@@ -13,7 +13,7 @@ use Rattle.basics.specs.Lists.{any}
 use Rattle.definitions.specs.Domain.{isNumber}
 use Rattle.definitions.specs.Sheet.{Window, Break, Customer, SheetOf, Sheet, records, mapWindow, mapBreak, mapCustomer, mapSheet}
 use Rattle.definitions.specs.Lent.{Call}
-use Rattle.definitions.specs.Refusals.{unfit, badLimit, badBreak, badWindow, badCustomer, Within}
+use Rattle.definitions.specs.Refusals.{unfit, badOptional, badBreak, badWindow, badCustomer, Within}
 use Rattle.definitions.specs.Answers.{answer}
 use Rattle.definitions.proofs.Ranges.{break-in-range, window-in-range, customer-in-range, InRange, in-range}
 use Rattle.models.specs.Image.{flWindow, flBreak, flCustomer, flSheet}
@@ -29,7 +29,7 @@ module _ (m : ℕ) (l : m ≤ limit) where
   exact : (n : ℕ) → unfit some (λ (k : ℕ). leb k m) n ≡ false → value (fl n) ≡ some n
   exact n h = let b = leb-true n m (not-false (leb n m) h) in value-fl n (omega arith)
 
-  exact-limit : (o : Option ℕ) → badLimit some (λ (k : ℕ). leb k m) o ≡ false → Option·map value (Option·map fl o) ≡ Option·map some o
+  exact-limit : (o : Option ℕ) → badOptional some (λ (k : ℕ). leb k m) o ≡ false → Option·map value (Option·map fl o) ≡ Option·map some o
   exact-limit none h = refl
   exact-limit (some n) h = ap some (exact n h)
 

@@ -9,8 +9,8 @@ use Rattle.basics.specs.Options.{present}
 use Rattle.basics.specs.Lists.{isEmpty, any}
 use Rattle.definitions.specs.Domain.{isPenalty, isNumber}
 use Rattle.definitions.specs.Sheet.{WindowOf, BreakOf, CustomerOf, SheetOf, Sheet, records, mapWindow, mapBreak, mapCustomer, mapSheet, soft, anySoft}
-use Rattle.definitions.specs.Lent.{Lent, Call}
-use Rattle.definitions.specs.Refusals.{unfit, badLimit, badBreak, badWindow, badCustomer, badDepot, badSheet, outOfRange, windowFalls, breakFalls, pairsFall, refusals, refusalOf, whole, wholeSheet}
+use Rattle.definitions.specs.Lent.{Lent, whole, wholeSheet, Call}
+use Rattle.definitions.specs.Refusals.{unfit, badOptional, badBreak, badWindow, badCustomer, badDepot, badSheet, outOfRange, windowFalls, breakFalls, pairsFall, refusals, refusalOf}
 use Rattle.definitions.specs.Answers.{unlessRefused, answer}
 
 -- ---- maps
@@ -52,7 +52,7 @@ module _ {F : Type 0} (value : F → Option ℕ) where
 
   -- ---- the tests
 
-  limit-meant : (p : ℕ → Bool) (o : Option F) → badLimit itself p (Option·map value o) ≡ badLimit value p o
+  limit-meant : (p : ℕ → Bool) (o : Option F) → badOptional itself p (Option·map value o) ≡ badOptional value p o
   limit-meant p none = refl
   limit-meant p (some x) = refl
 

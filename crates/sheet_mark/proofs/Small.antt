@@ -19,8 +19,8 @@ use Rattle.definitions.specs.Run.{ready, Label, start, serve, Run, breakAt, Tot
 use Rattle.definitions.specs.RunList.{runsFrom, runsOf, callsOf}
 use Rattle.definitions.specs.Cutting.{joined, cuttingCost}
 use Rattle.definitions.specs.Drop.{Result, splitTw}
-use Rattle.definitions.specs.Lent.{Lent, marking}
-use Rattle.definitions.specs.Refusals.{refusalOf, wholeSheet}
+use Rattle.definitions.specs.Lent.{Lent, wholeSheet, marking}
+use Rattle.definitions.specs.Refusals.{refusalOf}
 use Rattle.definitions.specs.Answers.{gives, unlessRefused, answer, markOf}
 use Rattle.definitions.specs.Marker.{Verdict, overload, breakMissing, tooFar, tooLong, withPlaces, breakOr, differ, callFault, walkFault, totalFault, runFault, firstFault, against, markAgainst, mark}
 use Rattle.definitions.proofs.RunListLaws.{calls-back}
@@ -29,7 +29,8 @@ use Rattle.bounds.specs.Inside.{Place, Sized, sized, few-calls, calls-inside}
 use Rattle.bounds.specs.Bounds.{load-most}
 use Rattle.whole.specs.Whole.{limit}
 use Rattle.marker.specs.Image.{flVerdict}
-use Rattle.marker.proofs.GivenRuns.{rises, with-calls, with-all, Inside, runs-inside}
+use Rattle.definitions.proofs.GivenRuns.{rises, with-calls, with-all}
+use Rattle.marker.proofs.GivenRuns.{Inside, runs-inside}
 use Rattle.sheet_calls.specs.Lent.{lentWith}
 use Rattle.sheet_mark.specs.Mark.{markedOn}
 use Rattle.sheet_mark.specs.Values.{Small}

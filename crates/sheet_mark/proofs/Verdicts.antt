@@ -1,45 +1,19 @@
--- The code's verdicts by number and values are those of whole numbers; values at the front of five. Assumes nothing.
+-- The values of a verdict at the front of five, and which verdict it is by its tag. Assumes nothing.
 use Prim.Native.Nat.{ℕ, suc, _≤_}
 use native.Mathlib.Omega.{arith}
 use mathlib.Core.Path.{_≡_, refl, sym, ap, _∙_}
-use mathlib.Core.Logic.{_⊎_, inl, inr}
-use mathlib.Core.List.{List, [], _∷_, map}
+use mathlib.Core.Logic.{inl, inr}
+use mathlib.Core.List.{List, [], _∷_}
 use lib.ListN.{length, set}
 use lib.Ieee.{Float}
 use denote.Enum.Declared.{tagOf}
 use types.Run.{OneOf}
-use Rattle.whole.specs.Whole.{fl}
-use Rattle.definitions.specs.Marker.{Verdict, otherCalls, overload, breakTooLate, windowMissed, breakMissing, tooFar, tooLong, best, dearer, cheaper, verdictNumber, verdictValues}
+use Rattle.definitions.specs.Marker.{Verdict}
 use Rattle.definitions.specs.Room.{written}
 use Rattle.marker.specs.declared.verdict.Verdict as Code
 use Rattle.marker.specs.declared.verdict.Verdict.the-variants.{OtherCalls, Overload, BreakTooLate, WindowMissed, BreakMissing, TooFar, TooLong, Best, Dearer, Cheaper}
 use Rattle.marker.proofs.verdict.Verdict.{the-type}
-use Rattle.marker.specs.Image.{flVerdict}
-use Rattle.sheet_mark.specs.Values.{numberIn, valuesIn}
-
-pub same-number : (v : Verdict) → numberIn (flVerdict v) ≡ verdictNumber v
-same-number (otherCalls position) = refl
-same-number (overload run load capacity) = refl
-same-number (breakTooLate run place customer start latest) = refl
-same-number (windowMissed run place customer readiness due) = refl
-same-number (breakMissing run duration earliest) = refl
-same-number (tooFar run distance max) = refl
-same-number (tooLong run duration max) = refl
-same-number best = refl
-same-number (dearer by) = refl
-same-number (cheaper by) = refl
-
-pub same-values : (v : Verdict) → valuesIn (flVerdict v) ≡ map fl (verdictValues v)
-same-values (otherCalls position) = refl
-same-values (overload run load capacity) = refl
-same-values (breakTooLate run place customer start latest) = refl
-same-values (windowMissed run place customer readiness due) = refl
-same-values (breakMissing run duration earliest) = refl
-same-values (tooFar run distance max) = refl
-same-values (tooLong run duration max) = refl
-same-values best = refl
-same-values (dearer by) = refl
-same-values (cheaper by) = refl
+use Rattle.marker.specs.Figures.{numberIn, valuesIn}
 
 -- what holds of every five elements holds of a list of five
 pub five : {A : Type 0} (P : List A → Type 0) → ((a b c d e : A) → P (a ∷ b ∷ c ∷ d ∷ e ∷ [])) → (l : List A) → length l ≡ 5 → P l

@@ -1,3 +1,3 @@
--- The mark on a sheet, and the verdict by number and values.
+-- The mark on a sheet, and what is asked of a verdict whose values are written.
 pub mod Mark
 pub mod Values

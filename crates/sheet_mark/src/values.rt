@@ -5,7 +5,8 @@ ghost use Prim.Native.Nat.{_≤_};
 ghost use lib.ListN.{length};
 ghost use Rattle.whole.specs.Whole.{fl, limit};
 ghost use Rattle.definitions.specs.Room.{written};
-ghost use Rattle.sheet_mark.specs.Values.{numberIn, valuesIn, Small};
+ghost use Rattle.marker.specs.Figures.{numberIn, valuesIn};
+ghost use Rattle.sheet_mark.specs.Values.{Small};
 use marker::verdict::Verdict;
 
 // The verdicts are numbered from 1.

@@ -17,8 +17,8 @@ use Rattle.definitions.specs.Sheet.{Break, Sheet, time}
 use Rattle.definitions.specs.Limits.{within}
 use Rattle.definitions.specs.Run as Whole
 use Rattle.definitions.specs.Run.{start, placeAfter, lastOf, distanceFrom, Totals, home, load}
-use Rattle.definitions.specs.Clock.{clock, startOf}
-use Rattle.definitions.specs.Visits.{Violation, breakNotPlaceable, overCapacity, overDistance, overDuration, visited, windowsFrom, lastLabel, unless, placeOr, buildRoute}
+use Rattle.definitions.specs.Clock.{clock, placeOr, startOf}
+use Rattle.definitions.specs.Visits.{Violation, breakNotPlaceable, overCapacity, overDistance, overDuration, visited, windowsFrom, lastLabel, unless, buildRoute}
 use Rattle.definitions.specs.Refusals.{Within, WithinCalls}
 use Rattle.definitions.proofs.Visiting.{visits-clock}
 use Rattle.bounds.specs.Inside.{Small, Sized, sized, Place, few-calls, calls-inside, depot-inside, last-inside, time-small}

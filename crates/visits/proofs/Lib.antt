@@ -6,3 +6,4 @@ pub mod Assembling
 pub mod Resting
 pub mod VisitsExact
 pub mod BuildExact
+pub mod Figures

@@ -12,8 +12,8 @@ use Rattle.basics.specs.Tests.{by-test}
 use Rattle.basics.specs.Options.{_>>=_, valueOr, same, clash, bound}
 use Rattle.definitions.specs.Sheet.{Break, Sheet, time}
 use Rattle.definitions.specs.Run.{breakStart, tooLate, ready, Label, start, serveAt, serve, breakAt, serveAll, lastOf, Totals, placed}
-use Rattle.definitions.specs.Clock.{clock, startOf}
-use Rattle.definitions.specs.Visits.{readyFor, visited, placeOr}
+use Rattle.definitions.specs.Clock.{clock, placeOr, startOf}
+use Rattle.definitions.specs.Visits.{readyFor, visited}
 use Rattle.definitions.proofs.Legality.{clock-own, ridden}
 use Rattle.definitions.proofs.Marking.{served-none}
 use Rattle.definitions.proofs.Visiting.{visited-served}

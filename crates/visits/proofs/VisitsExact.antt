@@ -15,10 +15,10 @@ use Rattle.basics.specs.Options.{_>>=_, Holds, present, valueOr}
 use Rattle.basics.specs.Lists.{All}
 use Rattle.definitions.specs.Domain.{mostCalls}
 use Rattle.definitions.specs.Sheet.{Window, Break, Customer, Sheet, customer, distance, time}
-use Rattle.definitions.specs.Window.{begins, Entry, enter}
+use Rattle.definitions.specs.Window.{dueOf, begins, Entry, enter}
 use Rattle.definitions.specs.Run as Whole
 use Rattle.definitions.specs.Run.{breakAt, lastOf, load}
-use Rattle.definitions.specs.Visits.{windowShut, readyFor, entered, dueOf, visited, visitsFrom, windowsFrom, lastLabel}
+use Rattle.definitions.specs.Visits.{windowShut, readyFor, entered, visited, visitsFrom, windowsFrom, lastLabel}
 use Rattle.bounds.specs.Inside.{Small, SmallWindow, SmallBreak, SmallCustomer, Sized, Place, time-small, customer-small, break-small}
 use Rattle.bounds.specs.Bounds.{Early, readyBy, begins-most, enter-most, readiness-most, visited-early}
 use Rattle.whole.specs.Whole.{fl, limit, fl-add}

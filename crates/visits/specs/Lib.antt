@@ -6,3 +6,5 @@ pub mod Violations
 pub mod Building
 -- A route of whole numbers, held in floats.
 pub mod Image
+-- A violation by its number and values.
+pub mod Figures

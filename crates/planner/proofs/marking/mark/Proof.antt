@@ -14,13 +14,15 @@ use denote.Triple.Clauses.{AtExit}
 use Rattle.definitions.specs.Answers.{markOf}
 use Rattle.whole.specs.Value.{value}
 use Rattle.lending.specs.Padding.{padded}
-use Rattle.walks.proofs.Calling.{asked, asked-none}
+use Rattle.walks.proofs.Calling.{asked-none}
 use Rattle.checked.specs.Answers.{Answers}
 use Rattle.checked_cuts.specs.Marking.{markLent, markIn}
 use Rattle.planner.proofs.MarkRow.{Md, mark-lawful}
 use Rattle.checked.proofs.Padded.{padded-gathered}
 use Rattle.planner.proofs.PublicCall.{Carries, call-spec}
+use Rattle.planner.proofs.ManyClauses.{told-each}
 use Rattle.planner.proofs.MarkLists.{markLists, mark-coded}
+use Rattle.planner.proofs.MarkGiven.{promises, promised}
 use Rattle.checked_cuts.proofs.marking.mark as core
 use Rattle.checked_cuts.proofs.marking.mark.Symbol as core-def
 use Rattle.checked_cuts.proofs.marking.mark.Met as core-thm
@@ -41,7 +43,10 @@ carries 𝓤 H A mem run =
       asks = λ κs a. asked-none 𝓤;
       Said = Said;
       heard = λ κs a r e. id⊢ 𝓤 _;
-      told = λ κs a g r ws said. asked 𝓤 (said (a .1 .0 .now) (padded-gathered (a .1 .0 .now)));
+      told = λ κs a g r ws said.
+          let (head, (customers, (distances, (times, (tour, (calls, (ends, (places, u)))))))) = a in
+          told-each 𝓤 (promises head (customers .now) (distances .now) (times .now) (tour .now) (calls .now) (ends .now) (places .now) r)
+          (promised head (customers .now) (distances .now) (times .now) (tour .now) (calls .now) (ends .now) (places .now) (said (customers .now) (padded-gathered (customers .now))));
     }
 
 pub mark-spec : {M : Type 1} → stated.statement M

@@ -37,6 +37,7 @@ use denote.Triple.Spec.{Meets, tripleOf}
 use denote.Triple.Table.{entered, cited}
 use denote.Triple.Walked.{Stays, walkOf, Walks, walked, walk-meets}
 use Rattle.definitions.specs.Visits.{Route}
+use Rattle.definitions.specs.Lent.{Lent}
 use Rattle.definitions.specs.Answers.{Answer, buildRouteOf}
 use Rattle.whole.specs.Value.{value}
 use Rattle.models.specs.declared.customer.Customer.{Customer}
@@ -66,6 +67,7 @@ use Rattle.planner.proofs.Answers as answers
 use Rattle.planner.proofs.Answers.{Hd}
 use Rattle.checked.proofs.Padded.{padded-gathered}
 use Rattle.checked_runs.proofs.RouteAnswers.{listed-left}
+use Rattle.planner.proofs.RouteFigures.{figures-left}
 use Rattle.planner.proofs.RouteRows as routes
 use Rattle.planner.proofs.RouteRows.{RouteRow, ListedRow, OneVisit, OneViolation}
 use Rattle.walks.proofs.Locals.{held, args, set, opens, passed-in, closes}
@@ -166,9 +168,12 @@ module _ {M : Type 1} (𝓤 : URA M) (H : Heap 𝓤) (A : Atoms 𝓤) (W : Given
   abbrev onWrite : Listed → Args write.signature (κs .1 .1 .1 .1)
   onWrite l = (l, a .1 .1 .1 .1 .1)
 
-  -- what is answered, what the core says of what is listed, and what `write` says of the answer and of the two lists
+  -- what is lent and answered, what the core says of what is listed, and what `write` says of the answer and of the two lists
+  abbrev lentOn : List Customer → Lent Float
+  lentOn cs = visitLent head cs (d .now) (t .now) (calls .now) (length (visits .now)) (length (violations .now))
+
   abbrev answered : List Customer → Answer Route
-  answered cs = buildRouteOf value (visitLent head cs (d .now) (t .now) (calls .now) (length (visits .now)) (length (violations .now)))
+  answered cs = buildRouteOf value (lentOn cs)
 
   abbrev Said : Listed → Type 0
   Said l = ListsFrom answered (length (visits .now)) (length (violations .now)) (length (s .now)) all l
@@ -180,6 +185,7 @@ module _ {M : Type 1} (𝓤 : URA M) (H : Heap 𝓤) (A : Atoms 𝓤) (W : Given
       → ent 𝓤 (⋆ 𝓤 H A (‵ (RouteRow .own r (u ∷ [])) ∷ Writing ∷ ‵ (lasts write.ended (κs .1 .1 .1 .1) (onWrite l) ws) ∷ Reading ∷ ‵ (flft (κs .0) (qs .0)) ∷ [])) (Post u)
   exits l said r u ws left =
       let x = said (s .now) (padded-gathered (s .now)) in
+      let written-all = listed-left (l .found) (l .violations) _ (violations .now) (ws .1 .1 .0) (x .violations-are) (x .violations-fit) (left .violations-left) in
       qed W (‵ (RouteRow .own r (u ∷ [])) ∷ Writing ∷ ‵ (lasts write.ended (κs .1 .1 .1 .1) (onWrite l) ws) ∷ Reading ∷ ‵ (flft (κs .0) (qs .0)) ∷ []) ∵
       move ! (3 ∷ []) $ use1 W (reading (‵ ftrue)) (id⊢ 𝓤 _) $ split ! $ move ! (1 ∷ []) $ split ! $ move ! (1 ∷ []) $ split ! $
       -- [the run's token; true; the times'; the distances'; the result; those of the lists that are written; of their last values; the customers']
@@ -189,7 +195,7 @@ module _ {M : Type 1} (𝓤 : URA M) (H : Heap 𝓤) (A : Atoms 𝓤) (W : Given
       by ! (leaves 𝓤 H A W build-route.ended (build-route.clauses 𝓤 H A mem run) ((κs, qs, tt, a, vals), tt) u r (tt, (tt, (tt, (tt, (tt, ws .1)))))
       (told-both 𝓤 (asked 𝓤 (left .answer ∙ x .route-is))
       (told-both 𝓤 (asked 𝓤 (listed-left (l .count) (l .visits) _ (visits .now) (ws .1 .0) (x .visits-are) (x .visits-fit) (left .visits-left)))
-      (asked 𝓤 (listed-left (l .found) (l .violations) _ (violations .now) (ws .1 .1 .0) (x .violations-are) (x .violations-fit) (left .violations-left))))))
+      (told-both 𝓤 (asked 𝓤 written-all) (asked 𝓤 (figures-left (lentOn (s .now)) (violations .now) r _ (left .answer ∙ x .route-is) written-all))))))
 
   module _ (C : Calls 𝓤 H) (Λ : Loops 𝓤 H) (fm : FmC 𝓤 H (W .laws) C) (known : Known 𝓤 H A mem run C) where
     walk : Are (typesAt (build-route.signature .params) κs) (Ises (typesAt (build-route.signature .params) κs)) a vals → ent 𝓤 (onEntry 𝓤 H A build-route.signature κs qs a vals) (WpFn 𝓤 H C Λ code.function passed Post)
