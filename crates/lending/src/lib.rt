@@ -1,7 +1,7 @@
 // Lent lists of customers: read and written record by record, and carried to and from an array of 64.
 ghost use mathlib.Core.Path.{_≡_};
 ghost use Prim.Native.Nat.{_<_, min};
-ghost use lib.ListN.{length, getD, set, replicate, take};
+ghost use lib.ListN.{length, getD, replicate, take};
 ghost use Rattle.definitions.specs.Room.{written};
 ghost use Rattle.lending.specs.Padding.{blankOf, padded};
 use models::count::fewer;
@@ -41,22 +41,6 @@ pub fn blanks() -> [Customer; 64]
     [c; 64]
 }
 
-pub fn put(records: [Customer; 64], i: usize, c: Customer) -> [Customer; 64]
-    requires { ⌜ i < 64 ⌝ }
-    ensures { λ r. ⌜ r ≡ set records i c ⌝ }
-{
-    let mut all = records;
-    all[i] = c;
-    all
-}
-
-pub fn picked(records: [Customer; 64], i: usize) -> Customer
-    requires { ⌜ i < 64 ⌝ }
-    ensures { λ r. ⌜ r ≡ getD records i blankOf ⌝ }
-{
-    records[i]
-}
-
 // How many of n records an array of `held` holds and a list of so many takes.
 pub fn fitting(n: usize, held: usize, room: usize) -> usize
     ensures { λ r. ⌜ r ≡ min (min n held) room ⌝ }
@@ -74,7 +58,7 @@ pub fn gathered(customers: &[Customer]) -> [Customer; 64]
     let mut i = 0;
     while i < n {
         let c = customer_at(customers, i);
-        all = put(all, i, c);
+        all[i] = c;
         i += 1;
     }
     all
@@ -87,8 +71,7 @@ pub fn scattered(records: [Customer; 64], n: usize, customers: &mut [Customer])
     let m = fitting(n, 64, customers.len());
     let mut i = 0;
     while i < m {
-        let c = picked(records, i);
-        customers[i] = c;
+        customers[i] = records[i];
         i += 1;
     }
 }
