@@ -1,10 +1,10 @@
 // The sheet with all that one may have: service, windows, a penalty, a fixed cost, both limits and a break. Each customer can be served alone, so that of no tour a call is dropped.
 ghost use mathlib.Core.Path.{_≡_};
-use lending::blanks;
 use models::customer::Customer;
 use models::customer::Opening;
 use models::customer::Penalty;
 use models::customer::TimeWindow;
+use models::customer::depots;
 use models::head::Head;
 use models::limits::Limit;
 use models::limits::RouteLimits;
@@ -37,7 +37,7 @@ fn windowed(service_duration: f64, ready: f64, due: f64, lateness_penalty: Penal
 
 // The customers 1 to 5.
 fn customers() -> [Customer; 64] {
-    let mut all = blanks();
+    let mut all = depots();
     all[1] = windowed(1.0, 0.0, 14.0, Penalty::Hard);
     all[2] = customer(2, 0.0);
     all[3] = windowed(20.0, 0.0, 31.0, Penalty::Hard);

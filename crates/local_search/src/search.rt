@@ -3,18 +3,18 @@ ghost use mathlib.Core.Path.{_≡_};
 ghost use mathlib.Core.List.{map};
 ghost use lib.ListN.{take};
 ghost use Rattle.basics.specs.Options.{present};
-ghost use Rattle.models.specs.Records.{customerOf, limitOf, restOf};
+ghost use Rattle.models.specs.Records.{customerOf, limitOf};
 ghost use Rattle.evaluation.specs.Records.{limitsOf};
-ghost use Rattle.local_search.specs.Search.{windowed, windowedAny, limitedF, checksNeededF, searchOf, searchF};
+ghost use Rattle.local_search.specs.Search.{windowedAny, limitedF, checksNeededF, searchOf, searchF};
 use crate::gain::gain_floor;
 use crate::gain::scale;
 use crate::gain::symmetric;
 use models::count::fewer;
 use models::customer::Customer;
-use models::customer::Opening;
+use models::customer::has_window;
 use models::limits::Limit;
 use models::limits::RouteLimits;
-use models::vehicle::Rest;
+use models::vehicle::has_rest;
 
 pub struct Search {
     pub limits: RouteLimits,
@@ -23,17 +23,6 @@ pub struct Search {
     pub symmetric: bool,
     // the least gain that counts
     pub floor: f64,
-}
-
-// Whether the customer has a window.
-pub fn has_window(customer: Customer) -> bool
-    ensures { λ r. ⌜ r ≡ windowed (customerOf customer) ⌝ }
-{
-    let opening = customer.time_window;
-    match opening {
-        Opening::Always => false,
-        Opening::Window(_) => true,
-    }
 }
 
 // Whether one of the first n customers has a window.
@@ -59,16 +48,6 @@ pub fn has_limit(limit: Limit) -> bool
     match limit {
         Limit::Unlimited => false,
         Limit::At(_) => true,
-    }
-}
-
-// Whether the break is set.
-pub fn has_rest(rest: Rest) -> bool
-    ensures { λ r. ⌜ r ≡ present (restOf rest) ⌝ }
-{
-    match rest {
-        Rest::Unbroken => false,
-        Rest::Break(_) => true,
     }
 }
 

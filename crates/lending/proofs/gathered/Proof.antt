@@ -1,4 +1,4 @@
--- `lending::gathered` meets its contract: a walk of its MIR, by hand, with a loop. A turn calls `customer_at` and stores the record in the array; all that the proof knows of it, of `fewer` and of `blanks` is that each meets its contract.
+-- `lending::gathered` meets its contract: a walk of its MIR, by hand, with a loop. A turn calls `customer_at` and stores the record in the array; all that the proof knows of it, of `fewer` and of `depots` is that each meets its contract.
 -- The loop is `Types/Run.antt`'s `loops`. Its variant is a number i up to n with the array's machine value u, and that u is the machine value of the first i records padded to 64. An array of records owns only facts, so
 -- the context has nothing of it but its cell: what it owns is made anew where a record is taken out (`record-out`).
 -- Assumes nothing.
@@ -44,7 +44,8 @@ use denote.Triple.Spec.{Meets, tripleOf}
 use denote.Triple.Table.{entered, cited}
 use denote.Triple.Walked.{says, Stays, stay-none-slice, walkOf, goes-none-slice, Walks, ends-at, walked, walk-meets}
 use denote.Exit.{yes as kept}
-use Rattle.lending.specs.Padding.{blankOf, padded}
+use Rattle.models.specs.Records.{depotRecord}
+use Rattle.lending.specs.Padding.{padded}
 use Rattle.models.specs.declared.customer.Customer.{Customer}
 use Rattle.walks.proofs.Calling.{Met, asked, asked-none, calls-said, calls-plain}
 use Rattle.lending.proofs.Lists.{padded-length, padded-none, padded-more, padded-all}
@@ -61,10 +62,10 @@ use Rattle.models.proofs.count.fewer as fewer′
 use Rattle.models.proofs.count.fewer.Symbol as fewer-def
 use Rattle.models.proofs.count.fewer.Symbol.{name as #fewer}
 use Rattle.models.proofs.count.fewer.Met as fewer-thm
-use Rattle.lending.proofs.blanks as blanks′
-use Rattle.lending.proofs.blanks.Symbol as blanks-def
-use Rattle.lending.proofs.blanks.Symbol.{name as #lending·blanks}
-use Rattle.lending.proofs.blanks.Met as blanks-thm
+use Rattle.models.proofs.customer.depots as depots′
+use Rattle.models.proofs.customer.depots.Symbol as depots-def
+use Rattle.models.proofs.customer.depots.Symbol.{name as #depots}
+use Rattle.models.proofs.customer.depots.Met as depots-thm
 use Rattle.lending.proofs.gathered.Key.{name as #lending·gathered}
 use Rattle.lending.proofs.gathered as gathered′
 use Rattle.lending.proofs.gathered.Statement as stated
@@ -83,7 +84,7 @@ module _ {M : Type 1} (𝓤 : URA M) (H : Heap 𝓤) (A : Atoms 𝓤) (mem : Mem
   abbrev Known : Calls 𝓤 H → Type 1
   Known C =
       Triple 𝓤 (C #lending·customer-at) (Met 𝓤 H A at′.ended (at′.clauses 𝓤 H A mem run))
-      × Triple 𝓤 (C #fewer) (Met 𝓤 H A fewer′.ended (fewer′.clauses 𝓤 H A mem run)) × Triple 𝓤 (C #lending·blanks) (Met 𝓤 H A blanks′.ended (blanks′.clauses 𝓤 H A mem run))
+      × Triple 𝓤 (C #fewer) (Met 𝓤 H A fewer′.ended (fewer′.clauses 𝓤 H A mem run)) × Triple 𝓤 (C #depots) (Met 𝓤 H A depots′.ended (depots′.clauses 𝓤 H A mem run))
 
 module _ {M : Type 1} (𝓤 : URA M) (H : Heap 𝓤) (A : Atoms 𝓤) (W : Given 𝓤 H A) (mem : Memory → SProp 𝓤) (run : Routine → Fun 𝓤) (κ : Lft) (q : Share) (s : RefT (List Customer)) (len-fits : length (s .now) < 2 ^ 64) where
   abbrev ys : List Customer
@@ -150,7 +151,7 @@ module _ {M : Type 1} (𝓤 : URA M) (H : Heap 𝓤) (A : Atoms 𝓤) (W : Given
           -- `customer_at`: the reference is Copy
           move ! (1 ∷ []) $ use1 W (‵ Own ⊛ ‵ Own) (shr-slice-copy 𝓤 H A W (named 0) κ R .twice s (v ∷ [])) $ split ! $
           nothing ! $ owned ! usize (Is usize) (uint-makes 𝓤 H A W w64) i _ (refl, i-fits) $ fjoin ! $ move ! (1 ∷ 0 ∷ []) $ fjoin ! $ move ! (2 ∷ 0 ∷ []) $
-          calls-said ! (fmOf 𝓤 H (W .laws) 𝓣) at′.ended (at′.clauses 𝓤 H A mem run) (known .0) (κ, tt) (q, tt) tt (s, (i, tt)) (v ∷ [], (vint w64 i ∷ [], tt)) tt (asked 𝓤 within) (λ r _. r ≡ getD ys i blankOf) (λ r e. id⊢ 𝓤 _)
+          calls-said ! (fmOf 𝓤 H (W .laws) 𝓣) at′.ended (at′.clauses 𝓤 H A mem run) (known .0) (κ, tt) (q, tt) tt (s, (i, tt)) (v ∷ [], (vint w64 i ∷ [], tt)) tt (asked 𝓤 within) (λ r _. r ≡ getD ys i depotRecord) (λ r e. id⊢ 𝓤 _)
           (and-then ! (load ! (from ! (stop !)) (look ! 22 refl)) (and-then ! (load ! (from ! (stop !)) (look ! 16 refl)) (no-more !))) (λ w c ws e is. drop ! $ move ! (1 ∷ []) $ drop ! $
           land ! (from ! (stop !)) (init ! 14 refl (rows.lawful 𝓤 H A W .typed c _ is .0)) $
           -- the record stored at i
@@ -158,7 +159,7 @@ module _ {M : Type 1} (𝓤 : URA M) (H : Heap 𝓤) (A : Atoms 𝓤) (W : Given
           assigns ! (addr ! (from ! (stop !))) (from ! (stop !)) (init ! 4 refl (tt, tt)) $
           assigns ! (bin ! (load ! (from ! (stop !)) (look ! 4 refl)) (load ! (from ! (stop !)) (look ! 6 refl)) tt) (from ! (stop !)) (init ! 2 refl (tt, tt)) $
           rewrite ! 2 (λ (p : ℕ). ‵ (fat fullShare tyPtr l₁₁ 0 (vptr l₃ p))) (sym (place-is 56 0 i)) refl $
-          move ! (18 ∷ []) $ record-out T.the-type T′.the-laws T′.the-plain 64 ! xs (t .2) l₃ i blankOf (t .3) i-in (λ _.
+          move ! (18 ∷ []) $ record-out T.the-type T′.the-laws T′.the-plain 64 ! xs (t .2) l₃ i depotRecord (t .3) i-in (λ _.
           -- [record i; what it owns; the others; the token; what cs owns; _11; …; _10; …; _9; …; _8; …; _7; …; _6; …; _5; …]
           assigns ! (of-opd ! (load ! (from ! (stop !)) (look ! 17 refl))) (from ! (hop ! (look ! 5 refl) (stop !))) (store-raw ! 0 refl (rows.lawful 𝓤 H A W .typed c _ is .0)) $
           move ! (1 ∷ []) $ drop ! $ owned ! R (Is R) (rows.makes 𝓤 H A) c _ is $ move ! (1 ∷ 0 ∷ []) $ elem-put ! R fullShare xs i c (w ∷ []) l₃ 0 i-in $
@@ -200,7 +201,7 @@ module _ {M : Type 1} (𝓤 : URA M) (H : Heap 𝓤) (A : Atoms 𝓤) (W : Given
       assigns ! (of-opd ! (load ! (from ! (fld ! refl (stop !))) (look-in ! 20 (sub ! 1 refl (whole !))))) (from ! (stop !)) (init ! 10 refl (tt, record { fits = len-fits })) $
       calls-plain ! (fmOf 𝓤 H (W .laws) 𝓣) fewer′.ended (fewer′.clauses 𝓤 H A mem run) (known .1) tt tt tt (length ys, (64, tt)) (vint w64 (length ys) ∷ [], (vint w64 64 ∷ [], tt)) tt (id⊢ 𝓤 _) (uint-makes 𝓤 H A W w64, (uint-makes 𝓤 H A W w64, tt)) ((refl, len-fits), ((refl, lit< tt), tt)) (asked-none 𝓤) (λ r _. r ≡ min (length ys) 64) (λ r e. id⊢ 𝓤 _)
       (and-then ! (load ! (from ! (stop !)) (look ! 11 refl)) (and-then ! (lit ! tt) (no-more !))) (λ u n ws e is. land ! (from ! (stop !)) (init ! 18 refl (uint-lawful 𝓤 H A W w64 .typed n _ is .0)) $ rewrite ! 18 (λ (z : Val). ‵ (fat fullShare (τ 2) l₂ 0 z)) (ap only (is .0)) refl $
-      calls-plain ! (fmOf 𝓤 H (W .laws) 𝓣) blanks′.ended (blanks′.clauses 𝓤 H A mem run) (known .2) tt tt tt tt tt tt (id⊢ 𝓤 _) tt tt (asked-none 𝓤) (λ r _. r ≡ lib.ListN.replicate 64 blankOf) (λ r e. id⊢ 𝓤 _)
+      calls-plain ! (fmOf 𝓤 H (W .laws) 𝓣) depots′.ended (depots′.clauses 𝓤 H A mem run) (known .2) tt tt tt tt tt tt (id⊢ 𝓤 _) tt tt (asked-none 𝓤) (λ r _. r ≡ lib.ListN.replicate 64 depotRecord) (λ r e. id⊢ 𝓤 _)
       (no-more !) (λ u₂ xs ws₂ e₂ is₂. land ! (from ! (stop !)) (init ! 8 refl (rows.all-lawful 𝓤 H A W .typed xs _ is₂ .0)) $
       assigns ! (of-opd ! (load ! (from ! (stop !)) (look ! 8 refl))) (from ! (stop !)) (init ! 16 refl (rows.all-lawful 𝓤 H A W .typed xs _ is₂ .0)) $
       assigns ! (of-opd ! (lit ! tt)) (from ! (stop !)) (init ! 14 refl (tt, record { fits = lit< tt })) $ forget ! 8 refl $
@@ -227,5 +228,5 @@ gathered-spec 𝓤 H 𝓜 𝓖 𝓡 =
     (gathered-meets 𝓤 H (𝓖 .A) (givenOf 𝓤 H 𝓜 𝓖) (𝓜 .mem) (𝓡 .run) (tablesOf 𝓤 H 𝓜 (tables 𝓤 H 𝓜 𝓡 code.env)) (
       cited 𝓤 H (Met 𝓤 H (𝓖 .A) at′.ended (at′.clauses 𝓤 H (𝓖 .A) (𝓜 .mem) (𝓡 .run))) 𝓜 𝓡 code.env #lending·customer-at at-def.routine code.calls-lending·customer-at (at-thm.met 𝓤 H 𝓜 𝓖 𝓡),
       cited 𝓤 H (Met 𝓤 H (𝓖 .A) fewer′.ended (fewer′.clauses 𝓤 H (𝓖 .A) (𝓜 .mem) (𝓡 .run))) 𝓜 𝓡 code.env #fewer fewer-def.routine code.calls-models·count·fewer (fewer-thm.met 𝓤 H 𝓜 𝓖 𝓡),
-      cited 𝓤 H (Met 𝓤 H (𝓖 .A) blanks′.ended (blanks′.clauses 𝓤 H (𝓖 .A) (𝓜 .mem) (𝓡 .run))) 𝓜 𝓡 code.env #lending·blanks blanks-def.routine code.calls-lending·blanks (blanks-thm.met 𝓤 H 𝓜 𝓖 𝓡),
+      cited 𝓤 H (Met 𝓤 H (𝓖 .A) depots′.ended (depots′.clauses 𝓤 H (𝓖 .A) (𝓜 .mem) (𝓡 .run))) 𝓜 𝓡 code.env #depots depots-def.routine code.calls-models·customer·depots (depots-thm.met 𝓤 H 𝓜 𝓖 𝓡),
     ))

@@ -1,9 +1,9 @@
--- `customers::depots` meets its contract. Assumes nothing.
+-- `customer::depots` meets its contract. Assumes nothing.
 use mathlib.Core.Path.{ap}
 use lib.ListN.{replicate}
 use borrow.Author.Needs.{needs}
-use Rattle.sheet.proofs.customers.depots.Statement.{statement}
-use Rattle.sheet.proofs.customers.depots.Tie as tie
+use Rattle.models.proofs.customer.depots.Statement.{statement}
+use Rattle.models.proofs.customer.depots.Tie as tie
 
 depot-requires : tie.Need-depot-requires
 depot-requires c κs = search needs
