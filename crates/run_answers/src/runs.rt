@@ -19,7 +19,7 @@ use local_search::two_opt::two_opt_improve;
 use models::count::fewer;
 use plan_listing::held::Loaded;
 use ranges::customers::Test;
-use ranges::customers::any_fits;
+use ranges::customers::any_applies;
 use visits::evaluator::build_route;
 
 // The visits of a run.
@@ -286,7 +286,7 @@ pub fn runs_text(
     let mut end = each_run(recorded, 0, Part::Visits, all, ends, held, distances, times);
     let head = held.head;
     let customers = held.customers;
-    if any_fits(Test::Soft, customers, head.places) {
+    if any_applies(Test::Soft, customers, head.places) {
         return end;
     }
     end = each_run(

@@ -6,10 +6,10 @@ ghost use lib.ListN.{length, set};
 ghost use Rattle.definitions.specs.Drop.{callsAt};
 ghost use Rattle.definitions.specs.Room.{written};
 ghost use Rattle.stretch.specs.Tariff.{RowOf, TableOf, CutDone};
-ghost use Rattle.ga.specs.Answer.{Counted};
+ghost use Rattle.split.specs.Answer.{Counted};
 ghost use Rattle.distance.specs.Lookup.{lookupF};
 ghost use Rattle.evaluation.specs.Tables.{askedF};
-ghost use Rattle.ga.specs.Split.{lent, tariffBy, LegsOf, lightOnes, splitF};
+ghost use Rattle.split.specs.Split.{lent, tariffBy, LegsOf, carryables, splitF};
 use distance::matrix::get;
 use evaluation::load::demands_of;
 use evaluation::route::call_at;
@@ -177,21 +177,21 @@ pub fn cut(
     }
 }
 
-// A light call is put after the n that are held, and the position of another, which is k + 1, after those that are dropped. Gives the number held.
-pub fn sort_call(
+// A carryable call is put after the n that are kept, and the position of another, which is k + 1, after those that are dropped. Gives the number kept.
+pub fn keep_or_drop(
     served: &mut [usize],
     dropped: &mut [usize],
     n: usize,
     k: usize,
     cid: usize,
-    light: bool,
+    carryable: bool,
 ) -> usize
     requires { ⌜ (n ≤ k) × (k < length (now served)) × (k < length (now dropped)) ⌝ }
-    ensures { λ r. ⌜ r ≡ cond light (n + 1) n ⌝ }
-    ensures { λ _. ⌜ now (served .exit) ≡ cond light (set (now (served .entry)) n cid) (now (served .entry)) ⌝ }
-    ensures { λ _. ⌜ now (dropped .exit) ≡ cond light (now (dropped .entry)) (set (now (dropped .entry)) (k - n) (k + 1)) ⌝ }
+    ensures { λ r. ⌜ r ≡ cond carryable (n + 1) n ⌝ }
+    ensures { λ _. ⌜ now (served .exit) ≡ cond carryable (set (now (served .entry)) n cid) (now (served .entry)) ⌝ }
+    ensures { λ _. ⌜ now (dropped .exit) ≡ cond carryable (now (dropped .entry)) (set (now (dropped .entry)) (k - n) (k + 1)) ⌝ }
 {
-    if light {
+    if carryable {
         served[n] = cid;
         n + 1
     } else {
@@ -200,8 +200,8 @@ pub fn sort_call(
     }
 }
 
-// Calls whose demand exceeds capacity are dropped, and the others are held. Gives the number held.
-pub fn hold_light(
+// Calls whose demand exceeds capacity are dropped, and the others are kept. Gives the number kept.
+pub fn keep_carryable(
     tour: &[usize],
     demands: &[u32],
     capacity: u32,
@@ -209,17 +209,17 @@ pub fn hold_light(
     dropped: &mut [usize],
 ) -> usize
     requires { ⌜ (length (now demands) ≡ 64) × (length (now tour) ≤ length (now served)) × (length (now tour) ≤ length (now dropped)) ⌝ }
-    ensures { λ r. ⌜ r ≡ length (lightOnes (askedF (now (demands .entry))) capacity (now (tour .entry)) .held) ⌝ }
-    ensures { λ _. ⌜ now (served .exit) ≡ written (callsAt (now (tour .entry)) (lightOnes (askedF (now (demands .entry))) capacity (now (tour .entry)) .held)) (now (served .entry)) ⌝ }
-    ensures { λ _. ⌜ now (dropped .exit) ≡ written (lightOnes (askedF (now (demands .entry))) capacity (now (tour .entry)) .dropped) (now (dropped .entry)) ⌝ }
+    ensures { λ r. ⌜ r ≡ length (carryables (askedF (now (demands .entry))) capacity (now (tour .entry)) .held) ⌝ }
+    ensures { λ _. ⌜ now (served .exit) ≡ written (callsAt (now (tour .entry)) (carryables (askedF (now (demands .entry))) capacity (now (tour .entry)) .held)) (now (served .entry)) ⌝ }
+    ensures { λ _. ⌜ now (dropped .exit) ≡ written (carryables (askedF (now (demands .entry))) capacity (now (tour .entry)) .dropped) (now (dropped .entry)) ⌝ }
 {
     let mut n = 0;
     let mut k = 0;
     while k < tour.len() {
         let cid = tour[k];
         let index = record_index(cid);
-        let light = fits(wide(demands[index]), capacity);
-        n = sort_call(&mut *served, &mut *dropped, n, k, cid, light);
+        let carryable = fits(wide(demands[index]), capacity);
+        n = keep_or_drop(&mut *served, &mut *dropped, n, k, cid, carryable);
         k += 1;
     }
     n
@@ -254,7 +254,7 @@ pub fn split(
     ensures { λ _. ⌜ now (dropped .exit) ≡ written (splitF (lent customers (now (distances .entry)) size capacity fixed) (now (tour .entry)) .dropped) (now (dropped .entry)) ⌝ }
 {
     let demands = demands_of(customers);
-    let n = hold_light(tour, &demands, capacity, &mut *served, &mut *dropped);
+    let n = keep_carryable(tour, &demands, capacity, &mut *served, &mut *dropped);
     let mut ends = [0usize; 129];
     let c = cut(
         &served[..n],

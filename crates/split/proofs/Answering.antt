@@ -10,8 +10,8 @@ use Rattle.definitions.specs.Drop.{callAt, callsAt, Held}
 use Rattle.definitions.specs.Room.{written}
 use Rattle.table.proofs.Writing.{front-written}
 use Rattle.stretch.specs.Tariff.{Tariff, CutDone}
-use Rattle.ga.specs.Answer.{planF, Counted}
-use Rattle.ga.proofs.Cutting.{part-is, few-runs, runs-are}
+use Rattle.split.specs.Answer.{planF, Counted}
+use Rattle.split.proofs.Cutting.{part-is, few-runs, runs-are}
 
 -- each call of the tour is held or dropped, and n are held
 module _ (tour : List ℕ) (h : Held) (each : length (h .held) + length (h .dropped) ≡ length tour) (n : ℕ) (count : n ≡ length (h .held)) where

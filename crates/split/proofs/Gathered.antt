@@ -16,7 +16,7 @@ use Rattle.models.specs.Records.{customerOf}
 use Rattle.evaluation.specs.Tables.{demandsOf, askedF}
 use Rattle.evaluation.proofs.Demands.{asked}
 use Rattle.stretch.specs.Stretch.{placeOf}
-use Rattle.ga.specs.Split.{lent, planBy, splitF, LegsOf}
+use Rattle.split.specs.Split.{lent, planBy, splitF, LegsOf}
 
 -- ---- lists written from the front
 

@@ -6,11 +6,11 @@ use Rattle.whole.specs.Bits.{fl-zero}
 use Rattle.cutting.specs.Carried.{none-done}
 use Rattle.stretch.specs.Tariff.{stretches, runsOf, farsOf}
 use Rattle.evaluation.specs.Tables.{askedF}
-use Rattle.ga.specs.Split.{tariffBy}
-use Rattle.ga.proofs.Cutting.{table-falls, table-cut}
+use Rattle.split.specs.Split.{tariffBy}
+use Rattle.split.proofs.Cutting.{table-falls, table-cut}
 use borrow.Author.Needs.{needs}
-use Rattle.ga.proofs.split.cut.Statement.{statement}
-use Rattle.ga.proofs.split.cut.Tie as tie
+use Rattle.split.proofs.split.cut.Statement.{statement}
+use Rattle.split.proofs.split.cut.Tie as tie
 
 infinity-requires : tie.Need-infinity-requires
 infinity-requires c κs = search needs

@@ -8,12 +8,12 @@ use Rattle.whole.specs.Bits.{fl-zero}
 use Rattle.distance.specs.Lookup.{lookupF}
 use Rattle.stretch.specs.Stretch.{placeOf}
 use Rattle.evaluation.specs.Tables.{askedF}
-use Rattle.ga.specs.Split.{tariffBy}
+use Rattle.split.specs.Split.{tariffBy}
 use Rattle.stretch.proofs.Branches.{fails, holds}
 use Rattle.stretch.proofs.Along.{Along, setout, in-place, overfull, at-end, onward, unreached}
-use Rattle.ga.proofs.Gathered.{leg-into}
-use Rattle.ga.proofs.split.row.Statement.{statement}
-use Rattle.ga.proofs.split.row.Tie as tie
+use Rattle.split.proofs.Gathered.{leg-into}
+use Rattle.split.proofs.split.row.Statement.{statement}
+use Rattle.split.proofs.split.row.Tie as tie
 
 abbrev Inv-loop : tie.InvT-loop
 Inv-loop cost₀ dist₀ pred₀ stretch demands ins backs distances size capacity fixed i base before out load₀ gone₀ m₀ cost dist pred load gone m =

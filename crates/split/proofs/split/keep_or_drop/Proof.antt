@@ -1,8 +1,8 @@
--- `split::sort_call` meets its contract. Assumes nothing.
+-- `split::keep_or_drop` meets its contract. Assumes nothing.
 use mathlib.Core.Path.{refl}
 use borrow.Author.Needs.{needs}
-use Rattle.ga.proofs.split.sort_call.Statement.{statement}
-use Rattle.ga.proofs.split.sort_call.Tie as tie
+use Rattle.split.proofs.split.keep_or_drop.Statement.{statement}
+use Rattle.split.proofs.split.keep_or_drop.Tie as tie
 
 mul-served : tie.Need-mul-served
 mul-served c = search needs
@@ -37,8 +37,8 @@ same-length-2 c = search needs
 returns-2 : tie.Need-returns-2
 returns-2 c = rw (c .if1 .left) (refl, (refl, refl))
 
-pub sort-call-spec : {M : Type 1} → statement M
-sort-call-spec =
+pub keep-or-drop-spec : {M : Type 1} → statement M
+keep-or-drop-spec =
     tie.close
     (tie.spec
     mul-served

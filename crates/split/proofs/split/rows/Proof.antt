@@ -11,11 +11,11 @@ use Rattle.distance.specs.Lookup.{lookupF}
 use Rattle.stretch.specs.Tariff.{stretches, runsOf, farsOf, TableOf}
 use Rattle.evaluation.specs.Tables.{askedF}
 use Rattle.basics.specs.Parts.{rest-is}
-use Rattle.ga.specs.Split.{tariffBy}
+use Rattle.split.specs.Split.{tariffBy}
 use Rattle.stretch.proofs.Along.{held-row}
-use Rattle.ga.proofs.Gathered.{legs-from}
-use Rattle.ga.proofs.split.rows.Statement.{statement}
-use Rattle.ga.proofs.split.rows.Tie as tie
+use Rattle.split.proofs.Gathered.{legs-from}
+use Rattle.split.proofs.split.rows.Statement.{statement}
+use Rattle.split.proofs.split.rows.Tie as tie
 
 abbrev Inv-loop : tie.InvT-loop
 Inv-loop cost₀ dist₀ pred₀ held demands distances size capacity fixed ins backs i₀ cost dist pred i =

@@ -3,9 +3,9 @@ use Prim.Native.Nat.{_-_}
 use lib.ListN.{length}
 use borrow.Author.Needs.{needs}
 use Rattle.distance.specs.Lookup.{lookupF}
-use Rattle.ga.proofs.Gathered.{Laid, none-laid, one-laid, all-laid}
-use Rattle.ga.proofs.split.write_legs.Statement.{statement}
-use Rattle.ga.proofs.split.write_legs.Tie as tie
+use Rattle.split.proofs.Gathered.{Laid, none-laid, one-laid, all-laid}
+use Rattle.split.proofs.split.write_legs.Statement.{statement}
+use Rattle.split.proofs.split.write_legs.Tie as tie
 
 abbrev Inv-loop : tie.InvT-loop
 Inv-loop held distances size ins₀ backs₀ prev₀ k₀ ins backs prev k = Laid (lookupF distances size) held ins backs prev k

@@ -1,4 +1,4 @@
--- `customers::any_fits` meets its contract. Assumes nothing.
+-- `customers::any_applies` meets its contract. Assumes nothing.
 use mathlib.Core.Path.{refl, sym, _∙_}
 use Prim.Native.Nat.{_-_}
 use native.Mathlib.Omega.{arith}
@@ -8,8 +8,8 @@ use Rattle.models.specs.Records.{customerOf}
 use Rattle.ranges.specs.Customers.{testOf}
 use Rattle.ranges.proofs.Searching.{Passed, found-first, next-first, missed-first, any-image}
 use borrow.Author.Needs.{needs}
-use Rattle.ranges.proofs.customers.any_fits.Statement.{statement}
-use Rattle.ranges.proofs.customers.any_fits.Tie as tie
+use Rattle.ranges.proofs.customers.any_applies.Statement.{statement}
+use Rattle.ranges.proofs.customers.any_applies.Tie as tie
 
 abbrev Inv-loop : tie.InvT-loop
 Inv-loop test places customers n i₀ i = Passed (λ (c : Customer). testOf test (customerOf c)) (take places customers) i
@@ -29,15 +29,15 @@ mul-c c = search needs
 array-copy-out-c : tie.Need-array-copy-out-c Inv-loop μ-loop
 array-copy-out-c c = search needs
 
-fits-requires : tie.Need-fits-requires Inv-loop μ-loop
-fits-requires c κs = search needs
+applies-requires : tie.Need-applies-requires Inv-loop μ-loop
+applies-requires c κs = search needs
 
 returns : tie.Need-returns Inv-loop μ-loop
 returns c =
     let l = c .before .before .before .before in
     let s = l .before .before in
     let a = s .args in
-    found-first (λ (c : Customer). testOf (a .test) (customerOf c)) (a .places) (a .t2) (l .loop .i) _ (omega (arith, l .before .fewer .ensures, s .good .1 .0 .1 .0 .1)) (sym (c .before .fits2 .ensures) ∙ c .if1 .taken) (l .loop .inv)
+    found-first (λ (c : Customer). testOf (a .test) (customerOf c)) (a .places) (a .t2) (l .loop .i) _ (omega (arith, l .before .fewer .ensures, s .good .1 .0 .1 .0 .1)) (sym (c .before .applies .ensures) ∙ c .if1 .taken) (l .loop .inv)
     ∙ sym (any-image customerOf (testOf (a .test)) (a .places) (a .t2))
 
 add-i : tie.Need-add-i Inv-loop μ-loop
@@ -51,7 +51,7 @@ loop-again c =
     let l = c .before .before .before .before in
     let s = l .before .before in
     let a = s .args in
-    next-first (λ (c : Customer). testOf (a .test) (customerOf c)) (a .places) (a .t2) (l .loop .i) _ (omega (arith, l .before .fewer .ensures, s .good .1 .0 .1 .0 .1)) (sym (c .before .fits2 .ensures) ∙ c .if1 .left) (l .loop .inv)
+    next-first (λ (c : Customer). testOf (a .test) (customerOf c)) (a .places) (a .t2) (l .loop .i) _ (omega (arith, l .before .fewer .ensures, s .good .1 .0 .1 .0 .1)) (sym (c .before .applies .ensures) ∙ c .if1 .left) (l .loop .inv)
 
 returns-2 : tie.Need-returns-2 Inv-loop μ-loop
 returns-2 c =
@@ -61,8 +61,8 @@ returns-2 c =
     missed-first (λ (c : Customer). testOf (a .test) (customerOf c)) (a .places) (a .t2) (l .loop .i) (omega (arith, l .before .fewer .ensures, s .good .1 .0 .1 .0 .1)) (l .loop .inv)
     ∙ sym (any-image customerOf (testOf (a .test)) (a .places) (a .t2))
 
-pub any-fits-spec : {M : Type 1} → statement M
-any-fits-spec =
+pub any-applies-spec : {M : Type 1} → statement M
+any-applies-spec =
     tie.close
     (tie.spec
     Inv-loop
@@ -71,7 +71,7 @@ any-fits-spec =
     loop-holds
     mul-c
     array-copy-out-c
-    fits-requires
+    applies-requires
     returns
     add-i
     loop-less

@@ -1,9 +1,9 @@
--- `customers::fits` meets its contract. Assumes nothing.
+-- `customers::applies` meets its contract. Assumes nothing.
 use mathlib.Core.Path.{_≡_}
 use Rattle.ranges.specs.declared.customers.Test.the-variants.{OutOfRange, Soft}
 use borrow.Author.Needs.{needs}
-use Rattle.ranges.proofs.customers.fits.Statement.{statement}
-use Rattle.ranges.proofs.customers.fits.Tie as tie
+use Rattle.ranges.proofs.customers.applies.Statement.{statement}
+use Rattle.ranges.proofs.customers.applies.Tie as tie
 
 enum-told : tie.Need-enum-told
 enum-told c = search needs
@@ -36,8 +36,8 @@ returns-3 c =
     let e : c .before .before .before .args .test ≡ Soft = search needs in
     rw e (c .is-soft .ensures)
 
-pub fits-spec : {M : Type 1} → statement M
-fits-spec =
+pub applies-spec : {M : Type 1} → statement M
+applies-spec =
     tie.close
     (tie.spec
     enum-told

@@ -1,4 +1,4 @@
--- `split::hold_light` meets its contract. Assumes nothing.
+-- `split::keep_carryable` meets its contract. Assumes nothing.
 use Prim.Native.Nat.{ℕ, _-_}
 use native.Mathlib.Omega.{arith}
 use mathlib.Core.Path.{_≡_, ap, subst, _∙_}
@@ -7,9 +7,9 @@ use denote.Ref.{now}
 use borrow.Author.Needs.{needs}
 use Rattle.models.specs.Load.{fitsLoad}
 use Rattle.evaluation.specs.Tables.{askedF}
-use Rattle.ga.proofs.Sorting.{Sorted, none-sorted, few-held, one-sorted}
-use Rattle.ga.proofs.split.hold_light.Statement.{statement}
-use Rattle.ga.proofs.split.hold_light.Tie as tie
+use Rattle.split.proofs.Keeping.{Sorted, none-keptOf, few-held, one-keptOf}
+use Rattle.split.proofs.split.keep_carryable.Statement.{statement}
+use Rattle.split.proofs.split.keep_carryable.Tie as tie
 
 abbrev Inv-loop : tie.InvT-loop
 Inv-loop tour demands capacity served₀ dropped₀ n₀ k₀ served dropped n k =
@@ -19,7 +19,7 @@ abbrev μ-loop : tie.MeasureT-loop
 μ-loop tour demands capacity served₀ dropped₀ n₀ k₀ served dropped n k = length tour - k
 
 loop-holds : tie.Need-loop-holds Inv-loop μ-loop
-loop-holds c = none-sorted _ _ _ _
+loop-holds c = none-keptOf _ _ _ _
 
 mul-cid : tie.Need-mul-cid Inv-loop μ-loop
 mul-cid c = search needs
@@ -42,8 +42,8 @@ wide-requires c κs = search needs
 fits-requires : tie.Need-fits-requires Inv-loop μ-loop
 fits-requires c κs = search needs
 
-sort-call-requires : tie.Need-sort-call-requires Inv-loop μ-loop
-sort-call-requires c κs =
+keep-or-drop-requires : tie.Need-keep-or-drop-requires Inv-loop μ-loop
+keep-or-drop-requires c κs =
     let l = c .before .before .before .before .before .before .before .before .loop in
     (few-held _ _ _ _ _ _ _ _ (l .inv), omega arith, omega arith)
 
@@ -57,8 +57,8 @@ loop-again : tie.Need-loop-again Inv-loop μ-loop
 loop-again c =
     let l = c .before .before .before .before .before .before .before .before .before .before .before .before .before .loop in
     let a = c .before .before .before .before .before .before .before .before .before .before .before .before .before .before .before .before .before .before .args in
-    let o = c .before .before .before .before .sort-call .ensures in
-    one-sorted (λ c. fitsLoad (askedF (now (a .demands)) c) (a .capacity)) (now (a .tour)) (now (a .served)) (now (a .dropped)) (l .served) (l .dropped) (l .n) (l .k) (l .inv) _ _ _ _ (c .before .before .before .before .before .before .before .before .before .before .before .before .loop-test .taken) (c .before .before .before .before .before .before .before .before .before .before .before .before .before .before .before .before .before .before .pre .1) (c .before .before .before .before .before .before .before .before .before .before .before .before .before .before .before .before .before .before .pre .2)
+    let o = c .before .before .before .before .keep-or-drop .ensures in
+    one-keptOf (λ c. fitsLoad (askedF (now (a .demands)) c) (a .capacity)) (now (a .tour)) (now (a .served)) (now (a .dropped)) (l .served) (l .dropped) (l .n) (l .k) (l .inv) _ _ _ _ (c .before .before .before .before .before .before .before .before .before .before .before .before .loop-test .taken) (c .before .before .before .before .before .before .before .before .before .before .before .before .before .before .before .before .before .before .pre .1) (c .before .before .before .before .before .before .before .before .before .before .before .before .before .before .before .before .before .before .pre .2)
     (c .before .before .before .before .before .before .before .fits2 .ensures ∙ ap (λ (x : ℕ). fitsLoad x (a .capacity)) (c .before .before .before .before .before .before .before .before .wide .ensures .0 ∙ ap (λ (j : ℕ). getD (now (a .demands)) j 0) (c .before .before .before .before .before .before .before .before .before .before .record-index .ensures .0))) (o .0) (o .1 .0) (o .1 .1)
 
 same-length : tie.Need-same-length Inv-loop μ-loop
@@ -75,8 +75,8 @@ returns c =
     let S = subst (λ (k : ℕ). Sorted (λ c. fitsLoad (askedF (now (a .demands)) c) (a .capacity)) (now (a .tour)) (now (a .served)) (now (a .dropped)) (l .served) (l .dropped) (l .n) k) e (l .inv) in
     (S .held-count, (S .served-are, S .dropped-are))
 
-pub hold-light-spec : {M : Type 1} → statement M
-hold-light-spec =
+pub keep-carryable-spec : {M : Type 1} → statement M
+keep-carryable-spec =
     tie.close
     (tie.spec
     Inv-loop
@@ -89,7 +89,7 @@ hold-light-spec =
     shared-slice-read-wide
     wide-requires
     fits-requires
-    sort-call-requires
+    keep-or-drop-requires
     add-k
     loop-less
     loop-again

@@ -8,38 +8,38 @@ use borrow.Author.Needs.{needs}
 use borrow.Author.Needs.{needs}
 use Rattle.models.specs.Load.{fitsLoad}
 use Rattle.evaluation.specs.Tables.{askedF}
-use Rattle.ga.specs.Split.{tariffBy, lightOnes}
-use Rattle.ga.proofs.Sorting.{sorted-long}
-use Rattle.ga.proofs.Answering.{few-served, cut-lent, lent-few, few-ends, ends-written, answered}
-use Rattle.ga.proofs.Gathered.{split-by}
-use Rattle.ga.proofs.split.split.Statement.{statement}
-use Rattle.ga.proofs.split.split.Tie as tie
+use Rattle.split.specs.Split.{tariffBy, carryables}
+use Rattle.split.proofs.Keeping.{kept-long}
+use Rattle.split.proofs.Answering.{few-served, cut-lent, lent-few, few-ends, ends-written, answered}
+use Rattle.split.proofs.Gathered.{split-by}
+use Rattle.split.proofs.split.split.Statement.{statement}
+use Rattle.split.proofs.split.split.Tie as tie
 
 demands-of-requires : tie.Need-demands-of-requires
 demands-of-requires c κs = search needs
 
-slice-aggregate-hold-light : tie.Need-slice-aggregate-hold-light
-slice-aggregate-hold-light c = search needs
+slice-aggregate-keep-carryable : tie.Need-slice-aggregate-keep-carryable
+slice-aggregate-keep-carryable c = search needs
 
-hold-light-requires : tie.Need-hold-light-requires
-hold-light-requires c κs = (c .before .before .before .demands-of .ensures .0, c .before .before .before .before .before .before .before .before .before .pre .1 .0, c .before .before .before .before .before .before .before .before .before .pre .1 .2)
+keep-carryable-requires : tie.Need-keep-carryable-requires
+keep-carryable-requires c κs = (c .before .before .before .demands-of .ensures .0, c .before .before .before .before .before .before .before .before .before .pre .1 .0, c .before .before .before .before .before .before .before .before .before .pre .1 .2)
 
 slice-reshare-prefix-cut : tie.Need-slice-reshare-prefix-cut
 slice-reshare-prefix-cut c =
     let a = c .before .before .before .before .before .before .before .before .before .before .before .before .before .before .args in
     let D = askedF (c .before .before .before .before .before .before .before .before .demands-of .result) in
-    let h = lightOnes D (a .capacity) (now (a .tour)) in
-    let each = sorted-long (λ c. fitsLoad (D c) (a .capacity)) (now (a .tour)) (length (now (a .tour))) in
-    let k = c .before .before .before .before .hold-light in
+    let h = carryables D (a .capacity) (now (a .tour)) in
+    let each = kept-long (λ c. fitsLoad (D c) (a .capacity)) (now (a .tour)) (length (now (a .tour))) in
+    let k = c .before .before .before .before .keep-carryable in
     omega (arith, few-served (now (a .tour)) h each _ (k .ensures .0), k .kept)
 
 slice-aggregate-cut : tie.Need-slice-aggregate-cut
 slice-aggregate-cut c =
     let a = c .before .before .before .before .before .before .before .before .before .before .before .before .before .before .before .args in
     let D = askedF (c .before .before .before .before .before .before .before .before .before .demands-of .result) in
-    let h = lightOnes D (a .capacity) (now (a .tour)) in
-    let each = sorted-long (λ c. fitsLoad (D c) (a .capacity)) (now (a .tour)) (length (now (a .tour))) in
-    let k = c .before .before .before .before .before .hold-light in
+    let h = carryables D (a .capacity) (now (a .tour)) in
+    let each = kept-long (λ c. fitsLoad (D c) (a .capacity)) (now (a .tour)) (length (now (a .tour))) in
+    let k = c .before .before .before .before .before .keep-carryable in
     sym (length-take-le _ _ (omega (arith, few-served (now (a .tour)) h each _ (k .ensures .0), k .kept)))
 
 slice-aggregate-cut-2 : tie.Need-slice-aggregate-cut-2
@@ -49,9 +49,9 @@ cut-requires : tie.Need-cut-requires
 cut-requires c κs =
     let a = c .before .before .before .before .before .before .before .before .before .before .before .before .before .before .before .before .before .args in
     let D = askedF (c .before .before .before .before .before .before .before .before .before .before .before .demands-of .result) in
-    let h = lightOnes D (a .capacity) (now (a .tour)) in
-    let each = sorted-long (λ c. fitsLoad (D c) (a .capacity)) (now (a .tour)) (length (now (a .tour))) in
-    let k = c .before .before .before .before .before .before .before .hold-light in
+    let h = carryables D (a .capacity) (now (a .tour)) in
+    let each = kept-long (λ c. fitsLoad (D c) (a .capacity)) (now (a .tour)) (length (now (a .tour))) in
+    let k = c .before .before .before .before .before .before .before .keep-carryable in
     let few = lent-few (now (a .tour)) h each (k .result) (k .ensures .0) _ (cut-lent (now (a .tour)) h each (k .result) (k .ensures .0) (now (a .served)) _ (k .ensures .1 .0)) in
     (omega (arith, few, c .before .before .before .before .before .before .before .before .before .before .before .before .before .before .before .before .before .pre .0), c .before .before .before .before .before .before .before .before .before .before .before .demands-of .ensures .0, refl)
 
@@ -71,9 +71,9 @@ write-front-requires : tie.Need-write-front-requires
 write-front-requires c κs =
     let a = c .before .before .before .before .before .before .before .before .before .before .before .before .before .before .before .before .before .before .before .before .before .args in
     let D = askedF (c .before .before .before .before .before .before .before .before .before .before .before .before .before .before .before .demands-of .result) in
-    let h = lightOnes D (a .capacity) (now (a .tour)) in
-    let each = sorted-long (λ c. fitsLoad (D c) (a .capacity)) (now (a .tour)) (length (now (a .tour))) in
-    let k = c .before .before .before .before .before .before .before .before .before .before .before .hold-light in
+    let h = carryables D (a .capacity) (now (a .tour)) in
+    let each = kept-long (λ c. fitsLoad (D c) (a .capacity)) (now (a .tour)) (length (now (a .tour))) in
+    let k = c .before .before .before .before .before .before .before .before .before .before .before .keep-carryable in
     let T = tariffBy D (now (a .distances)) (a .size) (a .capacity) (a .fixed) in
     let few = few-ends (now (a .tour)) h each (k .result) (k .ensures .0) T _ (cut-lent (now (a .tour)) h each (k .result) (k .ensures .0) (now (a .served)) _ (k .ensures .1 .0)) _ _ _ _ (c .before .before .before .cut .ensures) in
     omega (arith, few, c .before .before .before .before .before .before .before .before .before .before .before .before .before .before .before .before .before .before .before .before .before .pre)
@@ -85,9 +85,9 @@ sub-t36 : tie.Need-sub-t36
 sub-t36 c =
     let a = c .before .before .before .before .before .before .before .before .before .before .before .before .before .before .before .before .before .before .before .before .before .before .before .before .args in
     let D = askedF (c .before .before .before .before .before .before .before .before .before .before .before .before .before .before .before .before .before .before .demands-of .result) in
-    let h = lightOnes D (a .capacity) (now (a .tour)) in
-    let each = sorted-long (λ c. fitsLoad (D c) (a .capacity)) (now (a .tour)) (length (now (a .tour))) in
-    let k = c .before .before .before .before .before .before .before .before .before .before .before .before .before .before .hold-light in
+    let h = carryables D (a .capacity) (now (a .tour)) in
+    let each = kept-long (λ c. fitsLoad (D c) (a .capacity)) (now (a .tour)) (length (now (a .tour))) in
+    let k = c .before .before .before .before .before .before .before .before .before .before .before .before .before .before .keep-carryable in
     few-served (now (a .tour)) h each _ (k .ensures .0)
 
 same-length : tie.Need-same-length
@@ -103,9 +103,9 @@ returns : tie.Need-returns
 returns c =
     let a = c .before .before .before .before .before .before .before .before .before .before .before .before .before .before .before .before .before .before .before .before .before .before .before .before .args in
     let D = askedF (c .before .before .before .before .before .before .before .before .before .before .before .before .before .before .before .before .before .before .demands-of .result) in
-    let h = lightOnes D (a .capacity) (now (a .tour)) in
-    let each = sorted-long (λ c. fitsLoad (D c) (a .capacity)) (now (a .tour)) (length (now (a .tour))) in
-    let k = c .before .before .before .before .before .before .before .before .before .before .before .before .before .before .hold-light in
+    let h = carryables D (a .capacity) (now (a .tour)) in
+    let each = kept-long (λ c. fitsLoad (D c) (a .capacity)) (now (a .tour)) (length (now (a .tour))) in
+    let k = c .before .before .before .before .before .before .before .before .before .before .before .before .before .before .keep-carryable in
     let T = tariffBy D (now (a .distances)) (a .size) (a .capacity) (a .fixed) in
     let l = cut-lent (now (a .tour)) h each (k .result) (k .ensures .0) (now (a .served)) _ (k .ensures .1 .0) in
     let m = c .before .before .before .before .before .before .cut .ensures in
@@ -125,8 +125,8 @@ split-spec =
     tie.close
     (tie.spec
     demands-of-requires
-    slice-aggregate-hold-light
-    hold-light-requires
+    slice-aggregate-keep-carryable
+    keep-carryable-requires
     slice-reshare-prefix-cut
     slice-aggregate-cut
     slice-aggregate-cut-2

@@ -1,4 +1,4 @@
--- The cut by capacity alone on floats, as the code has it: the price of a run, which calls are light, and the answer. Definitions only.
+-- The cut by capacity alone on floats, as the code has it: the price of a run, which calls are carryable, and the answer. Definitions only.
 use Prim.Native.Nat.{ℕ, suc, _<_, _≤_}
 use mathlib.Core.Path.{_≡_}
 use mathlib.Core.Bool.{Bool, true, not}
@@ -14,7 +14,7 @@ use Rattle.models.specs.Records.{customerOf}
 use Rattle.models.specs.Load.{fitsLoad}
 use Rattle.evaluation.specs.Tables.{demandF}
 use Rattle.stretch.specs.Tariff.{Tariff}
-use Rattle.ga.specs.Answer.{ResultF, planF}
+use Rattle.split.specs.Answer.{ResultF, planF}
 
 -- ---- what is lent
 
@@ -56,30 +56,30 @@ pub record LegsOf (leg : ℕ → ℕ → Float) (calls : List ℕ) (ins backs : 
 
 -- ---- the calls held
 
--- a call that a vehicle holds by itself
-abbrev pub lightF : List (CustomerOf Float) → ℕ → ℕ → Bool
-lightF customers capacity c = fitsLoad (demandF customers c) capacity
+-- a call that a vehicle carries by itself
+abbrev pub carryableF : List (CustomerOf Float) → ℕ → ℕ → Bool
+carryableF customers capacity c = fitsLoad (demandF customers c) capacity
 
--- of the first k calls of the tour, the light ones are held and the others are dropped
-unfoldable pub sorted : (ℕ → Bool) → List ℕ → ℕ → Held
-sorted light tour k =
+-- of the first k calls of the tour, the carryable ones are kept and the others are dropped
+unfoldable pub keptOf : (ℕ → Bool) → List ℕ → ℕ → Held
+keptOf carryable tour k =
     record {
-      held = only (λ p. light (callAt tour p)) (count 1 k);
-      dropped = only (λ p. not (light (callAt tour p))) (count 1 k);
+      held = only (λ p. carryable (callAt tour p)) (count 1 k);
+      dropped = only (λ p. not (carryable (callAt tour p))) (count 1 k);
     }
 
 -- the same for the whole tour, by what a call asks for
-abbrev pub lightOnes : (ℕ → ℕ) → ℕ → List ℕ → Held
-lightOnes demand capacity tour = sorted (λ c. fitsLoad (demand c) capacity) tour (length tour)
+abbrev pub carryables : (ℕ → ℕ) → ℕ → List ℕ → Held
+carryables demand capacity tour = keptOf (λ c. fitsLoad (demand c) capacity) tour (length tour)
 
 abbrev pub removalsF : List (CustomerOf Float) → ℕ → List ℕ → Held
-removalsF customers capacity tour = lightOnes (demandF customers) capacity tour
+removalsF customers capacity tour = carryables (demandF customers) capacity tour
 
 -- ---- the answer
 
--- the calls that are too heavy are removed, and the others are cut, by what a call asks for
+-- the calls that no vehicle carries are removed, and the others are cut, by what a call asks for
 abbrev pub planBy : (ℕ → ℕ) → List Float → ℕ → ℕ → Float → List ℕ → ResultF
-planBy demand distances size capacity fixed tour = planF (tariffBy demand distances size capacity fixed) tour (lightOnes demand capacity tour)
+planBy demand distances size capacity fixed tour = planF (tariffBy demand distances size capacity fixed) tour (carryables demand capacity tour)
 
 unfoldable pub splitF : Instance → List ℕ → ResultF
 splitF I tour = planBy (demandF (I .customers)) (I .distances) (I .size) (I .capacity) (I .fixed) tour
