@@ -1,11 +1,10 @@
 // The sheet with all that one may have: service, windows, a penalty, a fixed cost, both limits and a break. Each customer can be served alone, so that of no tour a call is dropped.
 ghost use mathlib.Core.Path.{_≡_};
-use lending::blanks;
-use lending::put;
 use models::customer::Customer;
 use models::customer::Opening;
 use models::customer::Penalty;
 use models::customer::TimeWindow;
+use models::customer::depots;
 use models::head::Head;
 use models::limits::Limit;
 use models::limits::RouteLimits;
@@ -38,11 +37,13 @@ fn windowed(service_duration: f64, ready: f64, due: f64, lateness_penalty: Penal
 
 // The customers 1 to 5.
 fn customers() -> [Customer; 64] {
-    let one = put(blanks(), 1, windowed(1.0, 0.0, 14.0, Penalty::Hard));
-    let two = put(one, 2, customer(2, 0.0));
-    let three = put(two, 3, windowed(20.0, 0.0, 31.0, Penalty::Hard));
-    let four = put(three, 4, customer(1, 3.0));
-    put(four, 5, windowed(1.0, 26.0, 27.0, Penalty::Soft(5.0)))
+    let mut all = depots();
+    all[1] = windowed(1.0, 0.0, 14.0, Penalty::Hard);
+    all[2] = customer(2, 0.0);
+    all[3] = windowed(20.0, 0.0, 31.0, Penalty::Hard);
+    all[4] = customer(1, 3.0);
+    all[5] = windowed(1.0, 26.0, 27.0, Penalty::Soft(5.0));
+    all
 }
 
 fn limits() -> RouteLimits {

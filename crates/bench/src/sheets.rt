@@ -2,12 +2,11 @@
 ghost use mathlib.Core.Path.{_≡_};
 ghost use Prim.Native.Nat.{_+_, _*_, _<_};
 ghost use lib.ListN.{set};
-use lending::blanks;
-use lending::put;
 use models::customer::Customer;
 use models::customer::Opening;
 use models::customer::Penalty;
 use models::customer::TimeWindow;
+use models::customer::depots;
 use models::head::Head;
 use models::limits::Limit;
 use models::limits::RouteLimits;
@@ -48,7 +47,9 @@ pub fn base() -> Sheet
         limits: limits(Limit::Unlimited, Rest::Unbroken),
     };
     let c = customer(Opening::Always, Penalty::Hard);
-    let customers = put(put(blanks(), 1, c), 2, c);
+    let mut customers = depots();
+    customers[1] = c;
+    customers[2] = c;
     let distances = [0.0, 10.0, 12.0, 10.0, 0.0, 5.0, 12.0, 5.0, 0.0];
     Sheet {
         head,

@@ -1,5 +1,5 @@
 -- On a sheet within the limits every sum of a plan stays below 2 ^ 53, where floats hold whole numbers exactly: each kind of sum has its bound. Assumes nothing.
-use Prim.Native.Nat.{ℕ, zero, suc, _+_, _-_, _*_, _≤_, _<_, max}
+use Prim.Native.Nat.{ℕ, zero, suc, _+_, _*_, _≤_, _<_}
 use native.Mathlib.Omega.{arith}
 use native.Mathlib.Nat.{mul-le-mul}
 use mathlib.Core.Path.{_≡_, refl, subst}
@@ -8,14 +8,13 @@ use mathlib.Core.Option.{Option, none, some}
 use lib.ListN.{length, take, getD, length-take}
 use Rattle.basics.specs.Tests.{by-test}
 use Rattle.basics.specs.Options.{_>>=_, holds, Holds, valueOr, same, clash, bound}
-use Rattle.basics.specs.Lists.{All}
 use Rattle.definitions.specs.Domain.{mostCalls}
 use Rattle.definitions.specs.Sheet.{Window, Break, Customer, Sheet, customer, distance, time}
-use Rattle.definitions.specs.Window.{late, lateness, waiting, begins, Entry, enter}
+use Rattle.definitions.specs.Window.{late, lateness, begins, Entry, enter}
 use Rattle.definitions.specs.Limits.{excused}
-use Rattle.definitions.specs.Run.{breakStart, tooLate, ready, Label, start, placeAfter, serveAt, serve, breakAt, serveAll, Run, lastOf, legsFrom, distanceFrom, Totals, home, ride, load}
-use Rattle.definitions.specs.Clock.{Clock, sooner, smaller, tick, clockFrom, counts, clock, placeOr, startOf}
-use Rattle.definitions.specs.Visits.{Visit, readyFor, entered, visited, visitsFrom, lastLabel, buildRoute}
+use Rattle.definitions.specs.Run.{tooLate, ready, Label, start, placeAfter, serveAt, serve, breakAt, serveAll, Run, lastOf, legsFrom, distanceFrom, Totals, home, ride, load}
+use Rattle.definitions.specs.Clock.{Clock, sooner, smaller, tick, clockFrom, counts, clock, startOf}
+use Rattle.definitions.specs.Visits.{readyFor, entered, visited, lastLabel}
 use Rattle.whole.specs.Whole.{limit}
 use Rattle.bounds.specs.Inside.{mostNumber, mostDemand, mostPenalty, Small, SmallWindow, SmallBreak, SmallCustomer, Sized, distance-small, time-small, customer-small, break-small}
 
@@ -53,9 +52,6 @@ arriveBy k = k * step + mostNumber
 
 abbrev pub readyBy : ℕ → ℕ
 readyBy k = k * step + 2 * mostNumber
-
-pub break-start-most : (b : Break) → SmallBreak b → (k t : ℕ) → t ≤ arriveBy k → breakStart b t ≤ arriveBy k
-break-start-most b B k t h = omega arith
 
 pub ready-most : (here : Option Break) → Holds SmallBreak here → (k t : ℕ) → t ≤ arriveBy k → (r : ℕ) → ready here t ≡ some r → r ≤ readyBy k
 unfolding ready
@@ -120,11 +116,6 @@ pub record SmallTotals (n : ℕ) (t : Totals) : Type 0 where
   pub duration-most : t .duration ≤ n * step + mostNumber
   pub lateness-most : t .lateness ≤ n * mostLate
   pub pay-most : t .pay ≤ n * mostPay
-
-pub record SmallVisit (v : Visit) : Type 0 where
-  pub arrival-fits : v .arrival ≤ limit
-  pub departure-fits : v .departure ≤ limit
-  pub load-fits : v .load ≤ mostCalls * mostDemand
 
 -- the legs from p through the calls and home
 pub legs-most : (leg : ℕ → ℕ → ℕ) → ((a b : ℕ) → Small (leg a b)) → (p : ℕ) (calls : List ℕ) → legsFrom leg p calls ≤ (length calls + 1) * mostNumber
@@ -258,10 +249,6 @@ module _ (s : Sheet) (S : Sized s) where
       let back = time s (lastOf 0 calls) 0 in
       homes-most calls (counts (s .rest) back x) (counts-early (s .rest) back (length calls) x (labels-most calls few)) t e
 
-  pub build-most : (calls : List ℕ) → length calls ≤ mostCalls → SmallTotals (length calls) (buildRoute s calls .totals)
-  unfolding buildRoute
-  build-most calls few = home-most calls _ (last-most (placeOr (clock s calls)) calls few)
-
   -- when the break starts
   pub start-most : (calls : List ℕ) (place : ℕ) → length calls ≤ mostCalls → (t : ℕ) → startOf s (record { calls = calls; place = place }) ≡ some t → t ≤ arriveBy (length calls)
   unfolding startOf
@@ -275,25 +262,7 @@ module _ (s : Sheet) (S : Sized s) where
       let E : Early (length done) (y .0) = subst (λ (o : Option Label). Holds (Early (length done)) o) (y .1) (serve-all-most 0 done (omega arith)) in
       omega (arith, same (y .2), time-small s S (lastOf 0 done) (getD calls k 0))
 
-  -- the visits of n calls in all, k of them before these
-  module _ (n : ℕ) (few : n ≤ mostCalls) (place : ℕ) where
-    pub visits-most : (k j a : ℕ) (l : Label) (carried : ℕ) (calls : List ℕ) → k + length calls ≤ n → Early k l → carried ≤ k * mostDemand
-        → All SmallVisit (visitsFrom s place j a l carried calls)
-    unfolding visitsFrom
-    visits-most k j a l carried [] h E c = tt
-    visits-most k j a l carried (d ∷ cs) h E c =
-        let here = breakAt s place j in
-        let m : Label = visited s here j a d l in
-        let M : Early (suc k) m = visited-early k (omega arith) here (break-small s S place j) j a d l E in
-        let D : carried + customer s d .demand ≤ suc k * mostDemand = omega (arith, customer-small s S d .demand-small) in (
-          record { arrival-fits = omega (arith, time-small s S a d); departure-fits = omega (arith, M .time-most); load-fits = omega (arith, D) },
-          visits-most (suc k) (suc j) d m (carried + customer s d .demand) cs (omega arith) M D,
-        )
-
 -- ---- below the limit
-
-pub small-fits : (n : ℕ) → Small n → n ≤ limit
-small-fits n h = omega arith
 
 -- the figures of a label
 pub record LabelFits (l : Label) : Type 0 where
@@ -310,56 +279,9 @@ pub record TotalsFit (t : Totals) : Type 0 where
   -- what `effective_cost` gives
   pub cost-fits : t .distance + t .pay ≤ limit
 
--- the sums at a call, with the break b there or without it
-pub record CallSums (b : Break) (travel : ℕ) (l : Label) : Type 0 where
-  pub arrival-fits : l .time + travel ≤ limit
-  pub start-fits : breakStart b (l .time + travel) ≤ limit
-  pub end-fits : breakStart b (l .time + travel) + b .duration ≤ limit
-
--- the sums from readiness r on, at a window
-pub record WindowSums (w : Window) (penalty service : ℕ) (l : Label) (r : ℕ) : Type 0 where
-  pub readiness-fits : r ≤ limit
-  pub waiting-fits : r + waiting w r ≤ limit
-  pub start-fits : max r (w .ready) ≤ limit
-  pub leaving-fits : max r (w .ready) + service ≤ limit
-  pub late-fits : r - w .due ≤ limit
-  pub lateness-fits : l .lateness + (r - w .due) ≤ limit
-  pub due-fits : penalty * (r - w .due) ≤ limit
-  pub pay-fits : l .pay + penalty * (r - w .due) ≤ limit
-
 module _ (k : ℕ) (few : k ≤ mostCalls) where
   pub label-fits : (l : Label) → Early k l → LabelFits l
   label-fits l E = omega arith
 
   pub totals-fit : (t : Totals) → SmallTotals k t → TotalsFit t
   totals-fit t T = omega arith
-
-  pub home-fits : (l : Label) → Early k l → (back : ℕ) → Small back → l .time + back ≤ limit
-  home-fits l E back h = omega arith
-
-  -- the legs of a walk, on top of k legs before it
-  pub distance-room : (s : Sheet) → Sized s → (far a : ℕ) (calls : List ℕ) → far ≤ k * mostNumber → length calls ≤ mostCalls → far + distanceFrom s a calls ≤ limit
-  distance-room s S far a calls h g = omega (arith, distance-most s S a calls)
-
-module _ (k : ℕ) (few : k < mostCalls) (l : Label) (E : Early k l) where
-  pub call-sums : (b : Break) → SmallBreak b → (travel : ℕ) → Small travel → CallSums b travel l
-  call-sums b B travel h = omega arith
-
-  pub window-sums : (w : Window) → SmallWindow w → (penalty service r : ℕ) → penalty ≤ mostPenalty → Small service → r ≤ readyBy k → WindowSums w penalty service l r
-  window-sums w W penalty service r p v h = let due = late-pay-most w penalty k r few p h in omega arith
-
-  -- without a window
-  pub leaving-fits : (service r : ℕ) → Small service → r ≤ readyBy k → r + service ≤ limit
-  leaving-fits service r v h = omega arith
-
-holds-fit : (k : ℕ) → k ≤ mostCalls → (o : Option Label) → Holds (Early k) o → Holds LabelFits o
-holds-fit k few none E = tt
-holds-fit k few (some l) E = label-fits k few l E
-
--- both labels of the clock, at every stretch of a run
-pub labels-bounded : (s : Sheet) → Sized s → (calls : List ℕ) → length calls ≤ mostCalls
-    → Holds LabelFits (clockFrom s 1 0 begun calls .before) × Holds LabelFits (clockFrom s 1 0 begun calls .after)
-labels-bounded s S calls few =
-    let E = labels-most s S calls few in
-    let x = clockFrom s 1 0 begun calls in
-    (holds-fit (length calls) few (x .before) (E .before-early), holds-fit (length calls) few (x .after) (E .after-early))

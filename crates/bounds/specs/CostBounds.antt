@@ -2,10 +2,10 @@
 use Prim.Native.Nat.{ℕ, _+_, _*_, _≤_}
 use native.Mathlib.Omega.{arith}
 use mathlib.Core.Path.{_≡_, refl, sym, ap, subst, _∙_}
-use mathlib.Core.Bool.{true, false, not, _&&_, false≢true}
+use mathlib.Core.Bool.{true, not, _&&_, false≢true}
 use mathlib.Core.List.{List, [], _∷_}
 use mathlib.Core.Option.{Option, none, some}
-use lib.ListN.{length, take, length-append, length-map, length-take}
+use lib.ListN.{length, length-append, length-map}
 use Rattle.basics.specs.Tests.{and-left}
 use Rattle.basics.specs.Options.{valueOr, granted, unbound, clash}
 use Rattle.basics.specs.Lists.{isEmpty, sum, All, length-count}
@@ -13,16 +13,14 @@ use Rattle.definitions.specs.Domain.{mostCalls}
 use Rattle.definitions.specs.Sheet.{Sheet}
 use Rattle.definitions.specs.Run.{Run, distanceFrom, Totals, ride, fits, price, payOf, runCost}
 use Rattle.definitions.specs.Clock.{clock, Arc, arc}
-use Rattle.definitions.specs.RunList.{callsOf}
 use Rattle.definitions.specs.Cutting.{joined, cuttingCost, Best, nothing, cheapest}
 use Rattle.definitions.specs.Drop.{callAt, callsAt, drops, planBy, plainArc}
 use Rattle.definitions.specs.Promise.{Parts, ended, kept, gone}
-use Rattle.definitions.specs.Improver.{Given, distanceOf, total}
+use Rattle.definitions.specs.Improver.{Given, distanceOf}
 use Rattle.definitions.proofs.Legality.{arc-clock}
 use Rattle.definitions.proofs.Least.{Reach, more, Made, best-reach, best-of}
 use Rattle.definitions.proofs.Dropping.{drops-parts}
 use Rattle.definitions.proofs.LegLaws as Legs
-use Rattle.definitions.proofs.LegLaws.{back}
 use Rattle.bounds.specs.Inside.{mostNumber, Small, Sized}
 use Rattle.whole.specs.Whole.{limit}
 use Rattle.bounds.specs.Bounds.{mostPay, legs-most, distance-most, ride-most, clock-most}
@@ -34,10 +32,6 @@ mostCost = 3 * mostNumber + mostPay
 -- and to the distance of runs: two legs
 abbrev pub mostFar : ℕ
 mostFar = 2 * mostNumber
-
--- the cost of a cutting, with that of another on top
-pub costs-fit : mostCalls * mostCost + mostCalls * mostCost ≤ limit
-costs-fit = omega arith
 
 pub cost-fits : (j cost : ℕ) → j ≤ mostCalls → cost ≤ j * mostCost → cost ≤ limit
 cost-fits j cost few h = omega arith
@@ -140,12 +134,6 @@ module _ (arc : List ℕ → Option Arc) (P : Priced arc) where
   pub best-most : (calls : List ℕ) → length calls ≤ mostCalls → (b : Best) → cheapest arc calls ≡ some b → b .cost ≤ length calls * mostCost
   best-most calls few b e = reach-most (best-reach arc calls (cheapest arc calls) (best-of arc (P .no-run) calls) b e) few
 
-  -- the best of the first j calls
-  pub table-most : (j : ℕ) (calls : List ℕ) → j ≤ mostCalls → (b : Best) → cheapest arc (take j calls) ≡ some b → b .cost ≤ j * mostCost
-  table-most j calls few b e =
-      let z : length (take j calls) ≤ j = simp length-take (omega arith) in
-      omega (arith, best-most (take j calls) (omega arith) b e)
-
   made-called : (runs : List Run) → Made arc runs → All Called runs
   made-called [] m = tt
   made-called (r ∷ rs) m = (go (r .calls) (m .0 .1), made-called rs (m .1))
@@ -198,38 +186,7 @@ module _ (arc : List ℕ → Option Arc) (P : Priced arc) (tour : List ℕ) (few
 -- ---- the improvers
 
 module _ (G : Given) (near : (a b : ℕ) → Small (G .leg a b)) where
-  -- the distance of a run, and of several
+  -- the distance of a run
   pub run-far : (run : List ℕ) → distanceOf G run ≤ length run * mostFar
   run-far [] = omega arith
   run-far (c ∷ cs) = omega (arith, legs-most (G .leg) near 0 (c ∷ cs))
-
-  pub total-far : (runs : List (List ℕ)) → total G runs ≤ length (callsOf runs) * mostFar
-  total-far [] = omega arith
-  total-far (r ∷ rs) = omega (arith, run-far r, total-far rs, length-append r (callsOf rs))
-
-  -- a stretch, and the stretch the other way round
-  pub gone-far : (p : ℕ) (calls : List ℕ) → Legs.gone G p calls ≤ length calls * mostNumber
-  gone-far p [] = omega arith
-  gone-far p (c ∷ cs) = omega (arith, near p c, gone-far c cs)
-
-  pub back-far : (p : ℕ) (calls : List ℕ) → back G p calls ≤ length calls * mostNumber
-  back-far p [] = omega arith
-  back-far p (c ∷ cs) = omega (arith, near c p, back-far c cs)
-
-  -- two legs: what a reversal or an insertion puts in or takes out
-  pub two-legs : (a b c d : ℕ) → G .leg a b + G .leg c d ≤ mostFar
-  two-legs a b c d = omega (arith, near a b, near c d)
-
-  -- what a run saves when it goes, and what k of its customers add in other runs
-  pub saved-fits : Small (G .fixed) → (run : List ℕ) → length run ≤ mostCalls → distanceOf G run + G .fixed ≤ limit
-  saved-fits f run few = omega (arith, run-far run)
-
-  pub added-fits : (k added : ℕ) → k ≤ mostCalls → added ≤ k * mostFar → (a b c d : ℕ) → added + (G .leg a b + G .leg c d) ≤ limit
-  added-fits k added few h a b c d = omega (arith, two-legs a b c d)
-
-  pub total-fits : Small (G .fixed) → (runs : List (List ℕ)) → length (callsOf runs) ≤ mostCalls → total G runs + G .fixed ≤ limit
-  total-fits f runs few = omega (arith, total-far runs)
-
-  pub reversal-fits : (a b c d p : ℕ) (stretch : List ℕ) → length stretch ≤ mostCalls
-      → (G .leg a b + G .leg c d + Legs.gone G p stretch ≤ limit) × (G .leg a b + G .leg c d + back G p stretch ≤ limit)
-  reversal-fits a b c d p stretch few = (omega (arith, two-legs a b c d, gone-far p stretch), omega (arith, two-legs a b c d, back-far p stretch))

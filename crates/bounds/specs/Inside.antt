@@ -192,10 +192,6 @@ module _ (s : Sheet) where
   calls-inside calls e =
       all-imp (λ (c : ℕ). isCall (s .places) c ≡ true) (Place s) (λ c h. ltb-true c (s .places) (and-right (leb 1 c) _ h)) calls (are-calls calls e)
 
-  pub calls-customers : (calls : List ℕ) → WithinCalls s calls → All (λ (c : ℕ). 1 ≤ c) calls
-  calls-customers calls e =
-      all-imp (λ (c : ℕ). isCall (s .places) c ≡ true) (λ (c : ℕ). 1 ≤ c) (λ c h. leb-true 1 c (and-left (leb 1 c) _ h)) calls (are-calls calls e)
-
   -- the last place before the return
   pub last-inside : (a : ℕ) (calls : List ℕ) → Place s a → All (Place s) calls → Place s (lastOf a calls)
   last-inside a [] h i = h

@@ -8,10 +8,10 @@ use checked_cuts::cutting::Cut;
 use checked_runs::evaluating::Evaluation;
 use evaluation::route::RouteEval;
 use evaluation::route::Start;
-use ga::split::SplitResult;
 use io::print_decimal;
 use io::write_all;
 use report::number::whole_part;
+use split::split::SplitResult;
 
 fn text(bytes: &[u8]) {
     write_all(1, bytes);

@@ -21,9 +21,9 @@ use Rattle.models.specs.declared.head.Head.{Head}
 use Rattle.lending.specs.Padding.{padded}
 use Rattle.checks.specs.Lent.{sheetOf, Gathered}
 use Rattle.checks.specs.Order.{Refuses, Images}
-use Rattle.ga.specs.Answer.{ResultF, Counted}
+use Rattle.split.specs.Answer.{ResultF, Counted}
 use Rattle.exact.specs.Image.{flResult}
-use Rattle.ga.specs.declared.split.SplitResult.{SplitResult}
+use Rattle.split.specs.declared.split.SplitResult.{SplitResult}
 use Rattle.checked_cuts.specs.declared.cutting.Cut.the-variants as Cases
 use Rattle.checked.specs.Answers.{Answers}
 use Rattle.checked_cuts.specs.Cutting.{cutLent, countsOf, cutOf, Cuts}

@@ -19,7 +19,7 @@ use Rattle.models.specs.declared.head.Head.{Head}
 use Rattle.lending.specs.Padding.{padded}
 use Rattle.checks.specs.Lent.{sheetOf}
 use Rattle.checks.specs.Order.{Refuses, Images}
-use Rattle.ga.specs.Answer.{ResultF}
+use Rattle.split.specs.Answer.{ResultF}
 use Rattle.marker.specs.declared.verdict.Verdict as Code
 use Rattle.marker.specs.RunMark.{groundOf}
 use Rattle.marker.specs.Marks.{markF}

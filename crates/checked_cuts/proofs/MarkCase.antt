@@ -19,7 +19,7 @@ use Rattle.models.specs.Image.{flSheet}
 use Rattle.models.specs.declared.customer.Customer.{Customer}
 use Rattle.models.specs.declared.head.Head.{Head}
 use Rattle.checks.specs.Lent.{Gathered}
-use Rattle.ga.specs.Answer.{ResultF}
+use Rattle.split.specs.Answer.{ResultF}
 use Rattle.stretch.specs.Runs.{lent}
 use Rattle.ga.specs.SplitTw.{splitTwF}
 use Rattle.exact.specs.Image.{flResult}

@@ -14,8 +14,8 @@ use Rattle.models.specs.Image.{flSheet}
 use Rattle.models.specs.declared.customer.Customer.{Customer}
 use Rattle.models.specs.declared.head.Head.{Head}
 use Rattle.checks.specs.Lent.{sheetOf, lentOf, Gathered}
-use Rattle.ga.specs.Split as Split
-use Rattle.ga.specs.Split.{splitF}
+use Rattle.split.specs.Split as Split
+use Rattle.split.specs.Split.{splitF}
 use Rattle.stretch.specs.Runs as Runs
 use Rattle.ga.specs.SplitTw.{splitTwF}
 use Rattle.exact.specs.Image.{Image, flResult}

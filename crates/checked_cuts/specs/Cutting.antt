@@ -12,7 +12,7 @@ use Rattle.whole.specs.Value.{value}
 use Rattle.models.specs.declared.customer.Customer.{Customer}
 use Rattle.models.specs.declared.head.Head.{Head}
 use Rattle.checks.specs.Lent.{sheetOf, lentOf}
-use Rattle.ga.specs.declared.split.SplitResult.{SplitResult}
+use Rattle.split.specs.declared.split.SplitResult.{SplitResult}
 use Rattle.checked_cuts.specs.declared.cutting.Cut.{Cut}
 use Rattle.checked_cuts.specs.declared.cutting.Cut.the-variants as Cases
 use Rattle.checked.specs.Answers.{Answers}

@@ -1,9 +1,9 @@
 // The cutting of a tour on an array of customers: refused by number with nothing written, or the counts of the lists that are written.
 ghost use Rattle.checked_cuts.specs.Cutting.{splitAnswer, splitTwAnswer, Cuts};
 use checks::by_call::refuse_cutting;
-use ga::split::SplitResult;
 use models::customer::Customer;
 use models::head::Head;
+use split::split::SplitResult;
 
 // What is written is told by its counts.
 pub enum Cut {
@@ -39,7 +39,7 @@ pub fn split(
     if number != 0 {
         return Cut::Refused(number);
     }
-    let counts = ga::split::split(
+    let counts = split::split::split(
         tour,
         all,
         distances,

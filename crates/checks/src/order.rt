@@ -10,7 +10,7 @@ use lists::lengths::too_short;
 use lists::runs::runs_odd;
 use models::customer::Customer;
 use models::head::Head;
-use ranges::records::has_break;
+use models::vehicle::has_rest;
 
 // `count` customers are lent, and the array holds the first of them.
 pub fn refusal(
@@ -43,7 +43,7 @@ pub fn refusal(
     }
     let limits = head.limits;
     let rest = limits.rest;
-    if runs_odd(kind, has_break(rest), calls.len(), ends, breaks) {
+    if runs_odd(kind, has_rest(rest), calls.len(), ends, breaks) {
         return 5;
     }
     if lateness_pay(kind.improves, customers, head.places) {

@@ -11,12 +11,12 @@ ghost use Rattle.checks.specs.Order.{badHead, byRows};
 ghost use Rattle.ranges.specs.Falling.{pairsFallF};
 use lists::lengths::is_square;
 use models::customer::Customer;
+use models::domain::is_capacity;
 use models::head::Head;
 use ranges::calls::bad_run_list;
 use ranges::calls::bad_tour;
 use ranges::customers::Test;
-use ranges::customers::any_fits;
-use ranges::numbers::is_capacity;
+use ranges::customers::any_applies;
 use ranges::numbers::is_places;
 use ranges::numbers::unfit_number;
 use ranges::records::bad_break;
@@ -66,7 +66,7 @@ pub fn out_of_range(
     if bad_depot(depot) {
         return true;
     }
-    if any_fits(Test::OutOfRange, customers, places) {
+    if any_applies(Test::OutOfRange, customers, places) {
         return true;
     }
     if bad_tables(distances, times, places) {
@@ -80,11 +80,11 @@ pub fn pairs_fall(head: Head, customers: [Customer; 64]) -> bool
 {
     let limits = head.limits;
     let rest = limits.rest;
-    break_falls(rest) | any_fits(Test::Falling, customers, head.places)
+    break_falls(rest) | any_applies(Test::Falling, customers, head.places)
 }
 
 pub fn lateness_pay(improves: bool, customers: [Customer; 64], places: usize) -> bool
     ensures { λ r. ⌜ r ≡ improves && anySoft (take places (map customerOf customers)) ⌝ }
 {
-    improves && any_fits(Test::Soft, customers, places)
+    improves && any_applies(Test::Soft, customers, places)
 }

@@ -2,7 +2,7 @@
 use Prim.Native.Nat.{ℕ, zero, suc, _+_, _<_, _≤_}
 use native.Mathlib.Nat.{le-refl, le-antisymm, eq-or-lt-of-le}
 use native.Mathlib.Omega.{arith}
-use mathlib.Core.Path.{_≡_, refl, sym, ap, subst, _∙_}
+use mathlib.Core.Path.{_≡_, refl, ap, subst, _∙_}
 use mathlib.Core.Logic.{⊎-elim}
 use mathlib.Core.Bool.{Bool, true, false, cond}
 use mathlib.Core.Option.{Option, none, some}
@@ -65,15 +65,3 @@ first-some p n r F h = go (found p n 0)
         by-test (ltb k r) (λ t. not-both (p k) (F .passes k (ltb-true k r t)) x)
         (λ f. by-test (ltb r k) (λ t. not-both (p r) (a r (omega arith) (ltb-true r k t)) (F .fails h))
         (λ g. e ∙ ap some (le-antisymm (ltb-false r k g) (ltb-false k r f))))
-
--- a test that agrees below n has the same first
-pub first-cong : (p q : ℕ → Bool) (n r : ℕ) → ((k : ℕ) → k < n → p k ≡ q k) → FirstOf p n r → FirstOf q n r
-first-cong p q n r e F =
-    record {
-      within = F .within;
-      passes = λ k h. sym (e k (below k h (F .within))) ∙ F .passes k h;
-      fails = λ h. sym (e r h) ∙ F .fails h;
-    }
-  where
-    below : (k : ℕ) → k < r → r ≤ n → k < n
-    below k a b = omega arith

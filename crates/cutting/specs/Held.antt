@@ -1,18 +1,15 @@
 -- The drop rule of `Drop` at the cuttings of `Runs`: what is legal may turn on the whole held list.
 -- A beginning is taken to have a cutting where the table's best is there, which is so just where some legal cutting comes to less than `top` (`have→cuttable`, `cuttable→have`). So every beginning of what is kept has a legal cutting (`kept-cuttable`).
 -- Assumes nothing.
-use Prim.Native.Nat.{ℕ, zero, suc, _<_, _≤_}
-use native.Mathlib.Nat.{le-of-eq}
+use Prim.Native.Nat.{ℕ, zero, suc, _≤_}
 use mathlib.Core.Path.{_≡_, refl}
 use mathlib.Core.Bool.{Bool, true, false}
 use mathlib.Core.List.{List, []}
 use lib.ListN.{length}
 use Rattle.basics.specs.Tests.{not-both}
-use Rattle.basics.specs.Lists.{without}
 use Rattle.cutting.specs.Cut.{best, ends}
 use Rattle.cutting.specs.Runs.{Runs, RunLaws, ruleOf, LegalCut, sumOf, there, attained}
-use Rattle.cutting.specs.First.{FirstOf, first-none, first-some}
-use Rattle.cutting.specs.Drop.{held, held-all, held-done, held-less, Settles, settles}
+use Rattle.cutting.specs.Drop.{held, held-all}
 
 module _ {A C : Type 0} (R : List A → Runs C) where
   -- a legal cutting of the first n calls of l that comes to less than `top`
@@ -25,17 +22,6 @@ module _ {A C : Type 0} (R : List A → Runs C) where
   -- the list that is held in the end
   abbrev pub kept : List A → List A
   kept l = held have l
-
-  -- a turn of a loop that has found the first beginning with no cutting: there is none, or its last call goes
-  pub kept-done : (l : List A) (r : ℕ) → FirstOf (λ k. have l (suc k)) (length l) r → length l ≡ r → kept l ≡ l
-  kept-done l r F e = held-done have l (first-none _ (length l) r F (le-of-eq e))
-
-  pub kept-less : (l : List A) (r : ℕ) → FirstOf (λ k. have l (suc k)) (length l) r → r < length l → kept l ≡ kept (without r l)
-  kept-less l r F b = held-less have l r b (first-some _ (length l) r F b)
-
-  -- each call that was removed was the last of the shortest beginning with no cutting, of the list that was held then
-  pub kept-settles : (l : List A) → Settles have l (kept l)
-  kept-settles l = settles have l
 
 module _ {A C : Type 0} (R : List A → Runs C) (Good : ℕ → C → Type 0) (L : (l : List A) → RunLaws (R l) Good) where
   pub have→cuttable : (l : List A) (n : ℕ) → have R l n ≡ true → Cuttable R l n

@@ -3,26 +3,15 @@ ghost use mathlib.Core.Path.{_≡_};
 ghost use mathlib.Core.List.{map};
 ghost use lib.ListN.{take};
 ghost use Rattle.basics.specs.Options.{present};
-ghost use Rattle.models.specs.Records.{customerOf, limitOf, restOf};
+ghost use Rattle.models.specs.Records.{customerOf, limitOf};
 ghost use Rattle.evaluation.specs.Records.{limitsOf};
-ghost use Rattle.evaluation.specs.Checks.{windowed, windowedAny, limitedF, checksNeededF};
+ghost use Rattle.evaluation.specs.Checks.{windowedAny, limitedF, checksNeededF};
 use models::count::fewer;
 use models::customer::Customer;
-use models::customer::Opening;
+use models::customer::has_window;
 use models::limits::Limit;
 use models::limits::RouteLimits;
-use models::vehicle::Rest;
-
-// Whether the customer has a window.
-pub fn has_window(customer: Customer) -> bool
-    ensures { λ r. ⌜ r ≡ windowed (customerOf customer) ⌝ }
-{
-    let opening = customer.time_window;
-    match opening {
-        Opening::Always => false,
-        Opening::Window(_) => true,
-    }
-}
+use models::vehicle::has_rest;
 
 // Whether one of the first n customers has a window.
 pub fn has_time_windows(customers: [Customer; 64], n: usize) -> bool
@@ -47,16 +36,6 @@ pub fn has_limit(limit: Limit) -> bool
     match limit {
         Limit::Unlimited => false,
         Limit::At(_) => true,
-    }
-}
-
-// Whether the break is set.
-pub fn has_rest(rest: Rest) -> bool
-    ensures { λ r. ⌜ r ≡ present (restOf rest) ⌝ }
-{
-    match rest {
-        Rest::Unbroken => false,
-        Rest::Break(_) => true,
     }
 }
 

@@ -27,16 +27,16 @@ use Rattle.definitions.proofs.Least.{Reach, start, more, reach-append, best-of}
 use Rattle.distance.proofs.Exact.{lookup-exact}
 use Rattle.distance.specs.Lookup.{lookupF}
 use Rattle.whole.specs.Whole.{fl}
-use Rattle.evaluation.proofs.ClockExact.{demand-exact}
-use Rattle.ga.specs.Answer.{ResultF, planF}
-use Rattle.ga.specs.Split as Split
-use Rattle.ga.specs.Split.{lightF, sorted, removalsF, splitF}
-use Rattle.stops.specs.Stops.{Below64}
 use Rattle.stretch.specs.Tariff.{endsF, costF, distanceF}
+use Rattle.split.specs.Answer.{ResultF, planF}
+use Rattle.split.specs.Split as Split
+use Rattle.split.specs.Split.{carryableF, keptOf, removalsF, splitF}
+use Rattle.stops.specs.Stops.{Below64}
+use Rattle.stretch.specs.Runs.{Instance, tariff}
 use Rattle.ga.specs.SplitTw.{splitTwF}
 use Rattle.exact.specs.Image.{Image, flResult}
-use Rattle.stretch.specs.Runs.{Instance, tariff}
-use Rattle.ga.proofs.Sorting.{sorted-long}
+use Rattle.evaluation.proofs.ClockExact.{demand-exact}
+use Rattle.split.proofs.Keeping.{kept-long}
 use Rattle.exact.specs.TableExact.{costFl, farFl, Setting, RunIs, cost-exact, distance-exact, ends-exact}
 use Rattle.exact.specs.SplitExact as SplitExact
 use Rattle.exact.specs.SplitTwExact as SplitTwExact
@@ -58,16 +58,16 @@ only-same p q [] e = refl
 only-same p q (x ∷ l) e = rw (e x, only-same p q l e)
 
 module _ (s : Sheet) (S : Sized s) (I : Split.Instance) (M : Image s I) (tour : List ℕ) (inside : All (Place s) tour) where
-  light-exact : (p : ℕ) → lightF (I .customers) (I .capacity) (callAt tour p) ≡ light s tour p
+  light-exact : (p : ℕ) → carryableF (I .customers) (I .capacity) (callAt tour p) ≡ light s tour p
   light-exact p =
       ap₂ (λ (x y : ℕ). leb x y) (demand-exact s S (I .customers) (M .customers-hold) (callAt tour p) (call-inside s S tour _ inside) ∙ sym (add-zero (customer s (callAt tour p) .demand))) (M .capacity-holds)
 
   removals-exact : removalsF (I .customers) (I .capacity) tour ≡ removals s tour
-  unfolding sorted removals
+  unfolding keptOf removals
   removals-exact =
       ap₂ (λ (h d : List ℕ). record { held = h; dropped = d })
-      (only-same (λ p. lightF (I .customers) (I .capacity) (callAt tour p)) (light s tour) (count 1 (length tour)) light-exact)
-      (only-same (λ p. not (lightF (I .customers) (I .capacity) (callAt tour p))) (λ p. not (light s tour p)) (count 1 (length tour)) (λ p. ap not (light-exact p)))
+      (only-same (λ p. carryableF (I .customers) (I .capacity) (callAt tour p)) (light s tour) (count 1 (length tour)) light-exact)
+      (only-same (λ p. not (carryableF (I .customers) (I .capacity) (callAt tour p))) (λ p. not (light s tour p)) (count 1 (length tour)) (λ p. ap not (light-exact p)))
 
 -- ---- light calls can be cut
 
@@ -126,7 +126,7 @@ split-exact s W tour T I M =
     let h = removals s tour in
     let held = callsAt tour (h .held) in
     let m = some-best s held (held-light s tour) in
-    let few : length held ≤ mostCalls = omega (arith, few-calls s tour T, length-map (h .held) (callAt tour), ap (λ (k : Held). length (k .held)) (removals-exact s S I M tour inside), sorted-long (lightF (I .customers) (I .capacity)) tour (length tour)) in
+    let few : length held ≤ mostCalls = omega (arith, few-calls s tour T, length-map (h .held) (callAt tour), ap (λ (k : Held). length (k .held)) (removals-exact s S I M tour inside), kept-long (carryableF (I .customers) (I .capacity)) tour (length tour)) in
     let ins = held-inside s S tour (h .held) inside in
     let D = demand-exact s S (I .customers) (M .customers-hold) in
     let L = leg-exact s S I M in

@@ -6,8 +6,8 @@ use Rattle.definitions.specs.Sheet.{Sheet}
 use Rattle.definitions.specs.Drop.{Result}
 use Rattle.models.specs.Image.{flCustomer}
 use Rattle.whole.specs.Whole.{fl}
-use Rattle.ga.specs.Answer.{ResultF}
-use Rattle.ga.specs.Split.{Instance}
+use Rattle.split.specs.Answer.{ResultF}
+use Rattle.split.specs.Split.{Instance}
 
 -- what is lent holds the sheet; customers beyond its places are not read
 pub record Image (s : Sheet) (I : Instance) : Type 0 where

@@ -20,7 +20,7 @@ use Rattle.definitions.specs.Drop.{plainArc}
 use Rattle.whole.specs.Whole.{fl, fl-sum}
 use Rattle.evaluation.specs.Tables.{demandF}
 use Rattle.stretch.specs.Tariff.{legalOf, runsOf, stretches}
-use Rattle.ga.specs.Split.{Instance, tariff}
+use Rattle.split.specs.Split.{Instance, tariff}
 use Rattle.exact.specs.StretchExact.{fits-exact}
 use Rattle.exact.specs.TableExact.{Setting, calls, calls-taken, room, calls-many, from-inside, far-is, run-far, RunIs, barred, priced}
 

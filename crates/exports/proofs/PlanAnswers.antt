@@ -10,7 +10,7 @@ use Rattle.basics.specs.Tests.{Falses, falses}
 use Rattle.whole.specs.Whole.{fl}
 use Rattle.definitions.specs.Room.{short, written}
 use Rattle.exports.specs.Answer.{Answer, refused, gives, numberOf, wordOf, front, setTo}
-use Rattle.ga.specs.declared.split.SplitResult.{SplitResult}
+use Rattle.split.specs.declared.split.SplitResult.{SplitResult}
 use Rattle.sheet_plan.specs.Plan.{Plan, countsOf, totalsOf, Left}
 use Rattle.exports.specs.Plan.{planNeeds}
 

@@ -21,7 +21,7 @@ use Rattle.ga.specs.SplitTw.{Settled}
 use Rattle.holding.specs.Drops.{dropsF}
 use Rattle.holding.specs.Refill.{Stayed, Unfilled, ListsOf, SomeLists, Holds}
 use Rattle.table.proofs.Writing.{front-written}
-use Rattle.ga.proofs.Cutting.{table-falls, table-cut}
+use Rattle.split.proofs.Cutting.{table-falls, table-cut}
 
 module _ (distances times : List Float) (size : ℕ) (codes : List ℕ) (figures : List Float) (customers : List Customer) (W : ListsOf distances times size codes figures customers) where
   -- the lists are of these customers

@@ -1,5 +1,2 @@
--- What a cutting gives.
-pub mod Answer
--- The cut by capacity alone, and the cut by capacity, windows, limits and break.
-pub mod Split
+-- The cut by capacity, windows, limits and break.
 pub mod SplitTw

@@ -8,7 +8,7 @@ use Rattle.definitions.specs.Drop.{callsAt}
 use Rattle.stretch.specs.Tariff.{CutDone}
 use Rattle.stretch.specs.Runs.{Instance, tariff}
 use Rattle.holding.specs.Drops.{dropsF}
-use Rattle.ga.specs.Answer.{ResultF, planF}
+use Rattle.split.specs.Answer.{ResultF, planF}
 
 module _ (I : Instance) where
   -- those held at the end are cut

@@ -1,3 +1,2 @@
-// The cut of a giant tour into runs.
-pub mod split;
+// The cut of a giant tour into runs by all that a run may be held to.
 pub mod split_tw;

@@ -1,4 +1,4 @@
-// The cut of a tour by capacity, windows, limits and break (ga/split_tw.rs): row i of the table tries the runs that start at call i.
+// The cut of a tour by capacity, windows, limits and break (ga/split_tw.rs), from the calls that are held and the table of their rows (holding) to the answer.
 ghost use mathlib.Core.Path.{_≡_};
 ghost use Prim.Native.Nat.{_≤_};
 ghost use lib.ListN.{length};
@@ -6,12 +6,12 @@ ghost use Rattle.definitions.specs.Room.{written};
 ghost use Rattle.stops.specs.Stops.{Below64};
 ghost use Rattle.stretch.specs.Runs.{lent};
 ghost use Rattle.holding.specs.Drops.{dropsF};
-ghost use Rattle.ga.specs.Answer.{Counted};
+ghost use Rattle.split.specs.Answer.{Counted};
 ghost use Rattle.ga.specs.SplitTw.{Settled, splitTwF};
-use crate::split::SplitResult;
 use holding::hold::hold;
 use models::customer::Customer;
 use models::limits::RouteLimits;
+use split::split::SplitResult;
 use stops::stops::work_out;
 use stretch::terms::Terms;
 use table::cells::read_back;

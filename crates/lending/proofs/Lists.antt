@@ -9,7 +9,8 @@ use mathlib.Core.List.{List, [], _∷_}
 use lib.ListN.{length, getD, set, take, replicate}
 use lib.Seq.{take-all, take-length}
 use Rattle.definitions.specs.Room.{written}
-use Rattle.lending.specs.Padding.{blankOf, padded}
+use Rattle.models.specs.Records.{depotRecord}
+use Rattle.lending.specs.Padding.{padded}
 use Rattle.models.specs.declared.customer.Customer.{Customer}
 
 -- ---- padded lists
@@ -20,19 +21,10 @@ padded-length zero xs = refl
 padded-length (suc k) [] = ap suc (padded-length k [])
 padded-length (suc k) (x ∷ xs) = ap suc (padded-length k xs)
 
-pub padded-none : (k : ℕ) → replicate k blankOf ≡ padded k []
+pub padded-none : (k : ℕ) → replicate k depotRecord ≡ padded k []
 unfolding padded
 padded-none zero = refl
-padded-none (suc k) = ap (λ (l : List Customer). blankOf ∷ l) (padded-none k)
-
--- the record at a place, and the depot's where there is none
-pub getD-padded : (k : ℕ) (xs : List Customer) (i : ℕ) → i < k → getD (padded k xs) i blankOf ≡ getD xs i blankOf
-unfolding padded
-getD-padded zero xs i l = absurd (not-suc-le-zero l)
-getD-padded (suc k) [] zero l = refl
-getD-padded (suc k) [] (suc i) l = getD-padded k [] i (le-of-suc-le-suc l)
-getD-padded (suc k) (x ∷ xs) zero l = refl
-getD-padded (suc k) (x ∷ xs) (suc i) l = getD-padded k xs i (le-of-suc-le-suc l)
+padded-none (suc k) = ap (λ (l : List Customer). depotRecord ∷ l) (padded-none k)
 
 -- the first records of a padded list are the list's
 pub take-padded : (n k : ℕ) (xs : List Customer) → n ≤ k → n ≤ length xs → take n (padded k xs) ≡ take n xs
@@ -47,14 +39,14 @@ pub padded-whole : (k : ℕ) (xs : List Customer) → length xs ≤ k → take (
 padded-whole k xs l = take-padded (length xs) k xs l (omega arith) ∙ take-length xs
 
 -- one record more
-set-padded : (k i : ℕ) (xs : List Customer) → i < k → i < length xs → set (padded k (take i xs)) i (getD xs i blankOf) ≡ padded k (take (suc i) xs)
+set-padded : (k i : ℕ) (xs : List Customer) → i < k → i < length xs → set (padded k (take i xs)) i (getD xs i depotRecord) ≡ padded k (take (suc i) xs)
 unfolding padded
 set-padded zero i xs l m = absurd (not-suc-le-zero l)
 set-padded (suc k) i [] l m = absurd (not-suc-le-zero m)
 set-padded (suc k) zero (x ∷ xs) l m = refl
 set-padded (suc k) (suc i) (x ∷ xs) l m = ap (λ (l : List Customer). x ∷ l) (set-padded k i xs (le-of-suc-le-suc l) (le-of-suc-le-suc m))
 
-pub padded-more : (k i : ℕ) (xs : List Customer) → i < k → i < length xs → set (padded k (take i xs)) i (getD xs i blankOf) ≡ padded k (take (i + 1) xs)
+pub padded-more : (k i : ℕ) (xs : List Customer) → i < k → i < length xs → set (padded k (take i xs)) i (getD xs i depotRecord) ≡ padded k (take (i + 1) xs)
 padded-more k i xs l m = set-padded k i xs l m ∙ ap (λ (j : ℕ). padded k (take j xs)) (sym (add-one i))
 
 -- all of them

@@ -1,13 +1,13 @@
 // Lent lists of customers: read and written record by record, and carried to and from an array of 64.
 ghost use mathlib.Core.Path.{_≡_};
 ghost use Prim.Native.Nat.{_<_, min};
-ghost use lib.ListN.{length, getD, set, replicate, take};
+ghost use lib.ListN.{length, getD, take};
 ghost use Rattle.definitions.specs.Room.{written};
-ghost use Rattle.lending.specs.Padding.{blankOf, padded};
+ghost use Rattle.models.specs.Records.{depotRecord};
+ghost use Rattle.lending.specs.Padding.{padded};
 use models::count::fewer;
 use models::customer::Customer;
-use models::customer::Opening;
-use models::customer::Penalty;
+use models::customer::depots;
 
 pub fn count(customers: &[Customer]) -> usize
     ensures { λ r. ⌜ r ≡ length (now (customers .entry)) ⌝ }
@@ -17,44 +17,9 @@ pub fn count(customers: &[Customer]) -> usize
 
 pub fn customer_at(customers: &[Customer], i: usize) -> Customer
     requires { ⌜ i < length (now customers) ⌝ }
-    ensures { λ r. ⌜ r ≡ getD (now (customers .entry)) i blankOf ⌝ }
+    ensures { λ r. ⌜ r ≡ getD (now (customers .entry)) i depotRecord ⌝ }
 {
     customers[i]
-}
-
-// The depot's record.
-pub fn blank() -> Customer
-    ensures { λ r. ⌜ r ≡ blankOf ⌝ }
-{
-    Customer {
-        demand: 0,
-        service_duration: 0.0,
-        time_window: Opening::Always,
-        lateness_penalty: Penalty::Hard,
-    }
-}
-
-pub fn blanks() -> [Customer; 64]
-    ensures { λ r. ⌜ r ≡ replicate 64 blankOf ⌝ }
-{
-    let c = blank();
-    [c; 64]
-}
-
-pub fn put(records: [Customer; 64], i: usize, c: Customer) -> [Customer; 64]
-    requires { ⌜ i < 64 ⌝ }
-    ensures { λ r. ⌜ r ≡ set records i c ⌝ }
-{
-    let mut all = records;
-    all[i] = c;
-    all
-}
-
-pub fn picked(records: [Customer; 64], i: usize) -> Customer
-    requires { ⌜ i < 64 ⌝ }
-    ensures { λ r. ⌜ r ≡ getD records i blankOf ⌝ }
-{
-    records[i]
 }
 
 // How many of n records an array of `held` holds and a list of so many takes.
@@ -70,11 +35,11 @@ pub fn gathered(customers: &[Customer]) -> [Customer; 64]
     ensures { λ r. ⌜ r ≡ padded 64 (now (customers .entry)) ⌝ }
 {
     let n = fewer(customers.len(), 64);
-    let mut all = blanks();
+    let mut all = depots();
     let mut i = 0;
     while i < n {
         let c = customer_at(customers, i);
-        all = put(all, i, c);
+        all[i] = c;
         i += 1;
     }
     all
@@ -87,8 +52,7 @@ pub fn scattered(records: [Customer; 64], n: usize, customers: &mut [Customer])
     let m = fitting(n, 64, customers.len());
     let mut i = 0;
     while i < m {
-        let c = picked(records, i);
-        customers[i] = c;
+        customers[i] = records[i];
         i += 1;
     }
 }

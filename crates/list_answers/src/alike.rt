@@ -42,8 +42,8 @@ fn accepted_alike(sheet: &[u8], ends: &[u8], recorded: &[u8]) -> bool
         recorded,
         &tour[..held.calls],
         held,
-        &distances[..held.far],
-        &times[..held.long],
+        &distances[..held.distance_count],
+        &times[..held.time_count],
     )
 }
 

@@ -2,8 +2,8 @@
 ghost use Prim.Native.Nat.{_≤_};
 ghost use lib.ListN.{length};
 ghost use Rattle.run_answers.specs.Along.{Inside};
-use ga::split::SplitResult;
-use ga::split::split;
+use split::split::SplitResult;
+use split::split::split;
 use models::count::fewer;
 use plan_listing::held::Loaded;
 use run_answers::recorded::UNLIKE;

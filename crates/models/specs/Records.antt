@@ -1,6 +1,8 @@
 -- What the code's structs and enums hold, as the records of crates/definitions over floats. Definitions only.
+use mathlib.Core.Bool.{false}
 use mathlib.Core.Option.{Option, none, some}
-use lib.Ieee.{Float}
+use lib.IntN.{pos}
+use lib.Ieee.{Float, fin}
 use Rattle.definitions.specs.Sheet.{WindowOf, BreakOf, CustomerOf}
 use Rattle.models.specs.declared.customer.TimeWindow.{TimeWindow}
 use Rattle.models.specs.declared.customer.Opening.{Opening}
@@ -33,6 +35,10 @@ customerOf c =
       window = openingOf (c .«time_window»);
       penalty = penaltyOf (c .«lateness_penalty»);
     }
+
+-- the depot's record: no demand, no service time, no window, no penalty
+abbrev pub depotRecord : Customer
+depotRecord = record { demand = 0; «service_duration» = fin false 0 (pos 0); «time_window» = Always; «lateness_penalty» = Hard }
 
 abbrev pub breakOf : VehicleBreak → BreakOf Float
 breakOf b = record { earliest = b .earliest; latest = b .latest; duration = b .duration }

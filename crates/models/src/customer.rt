@@ -1,6 +1,8 @@
 // Customer and time window (models/customer.rs).
 ghost use mathlib.Core.Path.{_≡_};
-ghost use Rattle.models.specs.Records.{windowOf, openingOf};
+ghost use lib.ListN.{replicate};
+ghost use Rattle.basics.specs.Options.{present};
+ghost use Rattle.models.specs.Records.{windowOf, openingOf, customerOf, depotRecord};
 ghost use Rattle.models.specs.Window.{lateF, waitingF, latenessF, dueF};
 use whole::later;
 
@@ -26,6 +28,34 @@ pub struct Customer {
     pub service_duration: f64,
     pub time_window: Opening,
     pub lateness_penalty: Penalty,
+}
+
+// The depot's record.
+pub fn depot() -> Customer
+    ensures { λ r. ⌜ r ≡ depotRecord ⌝ }
+{
+    Customer {
+        demand: 0,
+        service_duration: 0.0,
+        time_window: Opening::Always,
+        lateness_penalty: Penalty::Hard,
+    }
+}
+
+pub fn depots() -> [Customer; 64]
+    ensures { λ r. ⌜ r ≡ replicate 64 depotRecord ⌝ }
+{
+    [depot(); 64]
+}
+
+pub fn has_window(customer: Customer) -> bool
+    ensures { λ r. ⌜ r ≡ present (customerOf customer .window) ⌝ }
+{
+    let opening = customer.time_window;
+    match opening {
+        Opening::Always => false,
+        Opening::Window(_) => true,
+    }
 }
 
 // When the window closes, and 0 where there is none.

@@ -1,6 +1,7 @@
-// Customers and vehicles: windows, loads, breaks and limits, counts, and the head of a sheet.
+// Customers and vehicles: windows, loads, breaks and limits, counts, the head of a sheet, and the range of its numbers.
 pub mod count;
 pub mod customer;
+pub mod domain;
 pub mod head;
 pub mod limits;
 pub mod load;

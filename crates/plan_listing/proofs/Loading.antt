@@ -34,8 +34,8 @@ part l {old = old} e c w = record { count = c ∙ ap length e; are = w ∙ ap (�
 module _ (bytes : List ℕ) (l : Loaded) (distances₀ times₀ : List Float) (tour₀ : List ℕ) (distances times : List Float) (tour : List ℕ) where
   -- what the functions that write each part ensure
   pub record Written : Type 0 where
-    pub far-count : l .far ≡ length (fitting (floatsOf 0xC bytes) distances₀)
-    pub long-count : l .long ≡ length (fitting (floatsOf 0xD bytes) times₀)
+    pub far-count : l .«distance_count» ≡ length (fitting (floatsOf 0xC bytes) distances₀)
+    pub long-count : l .«time_count» ≡ length (fitting (floatsOf 0xD bytes) times₀)
     pub calls-count : l .calls ≡ length (fitting (tourOf (wordsOf bytes)) tour₀)
     pub distances-are : distances ≡ written (fitting (floatsOf 0xC bytes) distances₀) distances₀
     pub times-are : times ≡ written (fitting (floatsOf 0xD bytes) times₀) times₀
@@ -44,10 +44,10 @@ module _ (bytes : List ℕ) (l : Loaded) (distances₀ times₀ : List Float) (t
     pub customers-are : map customerOf (l .customers) ≡ written (fitting (map flCustomer (sheetOf (wordsOf bytes) .customers)) depots) depots
 
   module _ (W : Written) (far-room : 4096 ≤ length distances₀) (long-room : 4096 ≤ length times₀) (calls-room : 128 ≤ length tour₀) (s : Sheet) (calls : List ℕ) (e : read bytes ≡ sheet s calls) where
-    D : Part (map fl (s .distances)) (l .far) distances₀ distances
+    D : Part (map fl (s .distances)) (l .«distance_count») distances₀ distances
     D = part (floatsOf 0xC bytes) (distances-whole bytes s calls e distances₀ far-room) (W .far-count) (W .distances-are)
 
-    M : Part (map fl (s .times)) (l .long) times₀ times
+    M : Part (map fl (s .times)) (l .«time_count») times₀ times
     M = part (floatsOf 0xD bytes) (times-whole bytes s calls e times₀ long-room) (W .long-count) (W .times-are)
 
     T : Part calls (l .calls) tour₀ tour
@@ -65,25 +65,25 @@ module _ (bytes : List ℕ) (l : Loaded) (distances₀ times₀ : List Float) (t
           customers-are = W .customers-are ∙ ap (λ (x : List _). written x depots) (customers-whole bytes s calls e);
           in-memory =
               holds bytes s calls e (l .head) (W .head-is) (l .customers) (W .customers-are) (take (l .calls) tour) (front (l .calls) calls tour₀ tour (T .count) (T .are))
-              (take (l .far) distances) (take (l .long) times)
-              (front (l .far) (map fl (s .distances)) distances₀ distances (D .count) (D .are)) (front (l .long) (map fl (s .times)) times₀ times (M .count) (M .are));
+              (take (l .«distance_count») distances) (take (l .«time_count») times)
+              (front (l .«distance_count») (map fl (s .distances)) distances₀ distances (D .count) (D .are)) (front (l .«time_count») (map fl (s .times)) times₀ times (M .count) (M .are));
         }
 
 -- ---- what callers of `load` ask for
 
 module _ {s : Sheet} {calls : List ℕ} {l : Loaded} {distances₀ times₀ : List Float} {tour₀ : List ℕ} {distances times : List Float} {tour : List ℕ} (H : Holds s calls l distances₀ times₀ tour₀ distances times tour) where
   -- the parts at the front of the arrays lie inside them, and are as long as is counted
-  pub far-inside : l .far ≤ length distances
-  far-inside = inside (l .far) (map fl (s .distances)) distances₀ distances (H .far-count) (H .distances-are)
+  pub far-inside : l .«distance_count» ≤ length distances
+  far-inside = inside (l .«distance_count») (map fl (s .distances)) distances₀ distances (H .far-count) (H .distances-are)
 
-  pub far-counted : l .far ≡ length (take (l .far) distances)
-  far-counted = counted (l .far) (map fl (s .distances)) distances₀ distances (H .far-count) (H .distances-are)
+  pub far-counted : l .«distance_count» ≡ length (take (l .«distance_count») distances)
+  far-counted = counted (l .«distance_count») (map fl (s .distances)) distances₀ distances (H .far-count) (H .distances-are)
 
-  pub long-inside : l .long ≤ length times
-  long-inside = inside (l .long) (map fl (s .times)) times₀ times (H .long-count) (H .times-are)
+  pub long-inside : l .«time_count» ≤ length times
+  long-inside = inside (l .«time_count») (map fl (s .times)) times₀ times (H .long-count) (H .times-are)
 
-  pub long-counted : l .long ≡ length (take (l .long) times)
-  long-counted = counted (l .long) (map fl (s .times)) times₀ times (H .long-count) (H .times-are)
+  pub long-counted : l .«time_count» ≡ length (take (l .«time_count») times)
+  long-counted = counted (l .«time_count») (map fl (s .times)) times₀ times (H .long-count) (H .times-are)
 
   pub calls-inside : l .calls ≤ length tour
   calls-inside = inside (l .calls) calls tour₀ tour (H .calls-count) (H .tour-is)
@@ -95,5 +95,5 @@ module _ {s : Sheet} {calls : List ℕ} {l : Loaded} {distances₀ times₀ : Li
   pub calls-are : take (l .calls) tour ≡ calls
   calls-are = front (l .calls) calls tour₀ tour (H .calls-count) (H .tour-is)
 
-  pub held : Held (take (l .calls) tour) (l .head) (l .customers) (take (l .far) distances) (take (l .long) times)
+  pub held : Held (take (l .calls) tour) (l .head) (l .customers) (take (l .«distance_count») distances) (take (l .«time_count») times)
   held = (s, H .in-memory)

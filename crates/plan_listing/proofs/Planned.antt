@@ -18,8 +18,8 @@ use Rattle.evaluation.specs.Records.{LimitsF}
 use Rattle.report.specs.Plan.{planF}
 use Rattle.report.proofs.PlanExact.{plan-whole}
 use Rattle.report.proofs.PlanRoom.{plan-rises, plan-room}
-use Rattle.ga.specs.declared.split.SplitResult.{SplitResult}
-use Rattle.ga.specs.Answer.{ResultF, Counted}
+use Rattle.split.specs.declared.split.SplitResult.{SplitResult}
+use Rattle.split.specs.Answer.{ResultF, Counted}
 use Rattle.stops.specs.Stops.{Below64}
 use Rattle.stretch.specs.Runs.{lent}
 use Rattle.ga.specs.SplitTw.{splitTwF}

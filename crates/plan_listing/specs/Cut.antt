@@ -6,7 +6,7 @@ use lib.ListN.{length}
 use Rattle.whole.specs.Whole.{fl}
 use Rattle.definitions.specs.Drop.{Result}
 use Rattle.definitions.specs.Room.{written}
-use Rattle.ga.specs.declared.split.SplitResult.{SplitResult}
+use Rattle.split.specs.declared.split.SplitResult.{SplitResult}
 
 -- how many calls are served, runs made and calls dropped, what they come to, and the lists as they are left
 pub record CutLeft (x : Result) (r : SplitResult) (served₀ ends₀ dropped₀ served ends dropped : List ℕ) : Type 0 where

@@ -5,10 +5,10 @@ ghost use Rattle.definitions.specs.Sheet.{Sheet};
 ghost use Rattle.definitions.specs.Drop.{splitTw};
 ghost use Rattle.plan_listing.specs.Held.{InMemory, Held};
 ghost use Rattle.plan_listing.specs.Cut.{CutLeft};
-use ga::split::SplitResult;
 use ga::split_tw::split_tw;
 use models::customer::Customer;
 use models::head::Head;
+use split::split::SplitResult;
 
 // The served customers, the run ends and the dropped positions are written at the front of the lists.
 pub fn cut_held(

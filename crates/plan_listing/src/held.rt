@@ -17,8 +17,8 @@ use sheet::values::write_values;
 pub struct Loaded {
     pub head: Head,
     pub customers: [Customer; 64],
-    pub far: usize,
-    pub long: usize,
+    pub distance_count: usize,
+    pub time_count: usize,
     pub calls: usize,
 }
 
@@ -32,16 +32,16 @@ pub fn load(
     requires { ⌜ Accepted (now bytes) ⌝ }
     ensures { λ r. ⌜ ((s : Sheet) (calls : List ℕ) → Reader.read (now (bytes .entry)) ≡ Reader.sheet s calls → Holds s calls r (now (distances .entry)) (now (times .entry)) (now (tour .entry)) (now (distances .exit)) (now (times .exit)) (now (tour .exit))) ⌝ }
 {
-    let far = write_values(bytes, 0xC, &mut *distances);
-    let long = write_values(bytes, 0xD, &mut *times);
+    let distance_count = write_values(bytes, 0xC, &mut *distances);
+    let time_count = write_values(bytes, 0xD, &mut *times);
     let calls = write_tour(bytes, &mut *tour);
     let head = head_of(bytes);
     let customers = customers_of(bytes);
     Loaded {
         head,
         customers,
-        far,
-        long,
+        distance_count,
+        time_count,
         calls,
     }
 }

@@ -81,8 +81,8 @@ fn sheet_text(out: &mut [u8], bytes: &[u8]) -> usize
         &tour[..l.calls],
         l.head,
         customers,
-        &distances[..l.far],
-        &times[..l.long],
+        &distances[..l.distance_count],
+        &times[..l.time_count],
     )
 }
 

@@ -10,7 +10,7 @@ use Rattle.definitions.specs.Refusals.{refusalOf}
 use Rattle.whole.specs.Value.{value}
 use Rattle.models.specs.declared.customer.Customer.{Customer}
 use Rattle.models.specs.declared.head.Head.{Head}
-use Rattle.ga.specs.declared.split.SplitResult.{SplitResult}
+use Rattle.split.specs.declared.split.SplitResult.{SplitResult}
 use Rattle.checked_cuts.specs.declared.cutting.Cut.{Cut}
 use Rattle.checked_cuts.specs.declared.cutting.Cut.the-variants as Cases
 use Rattle.checked_cuts.specs.Cutting.{cutLent}

@@ -21,7 +21,8 @@ pub enum Test {
     Soft,
 }
 
-pub fn fits(test: Test, c: Customer) -> bool
+// Whether the refusal that is tested for applies to a customer.
+pub fn applies(test: Test, c: Customer) -> bool
     ensures { λ r. ⌜ r ≡ testOf test (customerOf c) ⌝ }
 {
     match test {
@@ -34,15 +35,15 @@ pub fn fits(test: Test, c: Customer) -> bool
     }
 }
 
-// Whether the test fits one of the first `places` customers.
-pub fn any_fits(test: Test, customers: [Customer; 64], places: usize) -> bool
+// Whether the test applies to one of the first `places` customers.
+pub fn any_applies(test: Test, customers: [Customer; 64], places: usize) -> bool
     ensures { λ r. ⌜ r ≡ any (testOf test) (take places (map customerOf customers)) ⌝ }
 {
     let n = fewer(places, 64);
     let mut i = 0;
     while i < n {
         let c = customers[i];
-        if fits(test, c) {
+        if applies(test, c) {
             return true;
         }
         i += 1;

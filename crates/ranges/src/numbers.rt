@@ -2,9 +2,11 @@
 ghost use mathlib.Core.Path.{_≡_};
 ghost use Prim.Native.Nat.{ℕ};
 ghost use lib.Dec.{eqb};
-ghost use Rattle.definitions.specs.Domain.{isPlaces, isCapacity, isDemand, isPenalty, isNumber, isCall};
+ghost use Rattle.definitions.specs.Domain.{isPlaces, isPenalty, isNumber, isCall};
 ghost use Rattle.definitions.specs.Refusals.{unfit};
 ghost use Rattle.whole.specs.Value.{value};
+use models::domain::MOST_NUMBER;
+use models::domain::MOST_PENALTY;
 use whole::is_whole;
 
 // From 1 to 64 places, the depot among them.
@@ -12,18 +14,6 @@ pub fn is_places(n: usize) -> bool
     ensures { λ r. ⌜ r ≡ isPlaces n ⌝ }
 {
     1 <= n && n <= 64
-}
-
-pub fn is_capacity(n: u32) -> bool
-    ensures { λ r. ⌜ r ≡ isCapacity n ⌝ }
-{
-    n <= 1_000_000
-}
-
-pub fn is_demand(n: u32) -> bool
-    ensures { λ r. ⌜ r ≡ isDemand n ⌝ }
-{
-    n <= 32_767
 }
 
 // A call's customer, on a sheet with that many places.
@@ -37,14 +27,14 @@ pub fn is_call(places: usize, c: usize) -> bool
 pub fn unfit_number(x: f64) -> bool
     ensures { λ r. ⌜ r ≡ unfit value isNumber x ⌝ }
 {
-    !is_whole(x, 10_000_000)
+    !is_whole(x, MOST_NUMBER)
 }
 
 // Whether x is no lateness penalty.
 pub fn unfit_penalty(x: f64) -> bool
     ensures { λ r. ⌜ r ≡ unfit value isPenalty x ⌝ }
 {
-    !is_whole(x, 1_000)
+    !is_whole(x, MOST_PENALTY)
 }
 
 // Whether x is not 0.

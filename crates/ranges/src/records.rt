@@ -1,4 +1,4 @@
-// Refusals 1 and 2 of single records. Each test of a record is a few comparisons, so all are made and none is skipped.
+// Refusals 1, 2 and 4 of single records. Each test of a record is a few comparisons, so all are made and none is skipped.
 ghost use mathlib.Core.Path.{_≡_};
 ghost use mathlib.Core.List.{[], _∷_};
 ghost use Rattle.basics.specs.Options.{present};
@@ -8,13 +8,14 @@ ghost use Rattle.definitions.specs.Refusals.{badOptional, badBreak, badWindow, 
 ghost use Rattle.models.specs.Records.{openingOf, penaltyOf, customerOf, restOf, limitOf};
 ghost use Rattle.whole.specs.Value.{value};
 ghost use Rattle.ranges.specs.Falling.{windowFallsF, breakFallsF};
-use crate::numbers::is_demand;
 use crate::numbers::unfit_number;
 use crate::numbers::unfit_penalty;
 use crate::numbers::unfit_zero;
 use models::customer::Customer;
 use models::customer::Opening;
 use models::customer::Penalty;
+use models::customer::has_window;
+use models::domain::is_demand;
 use models::limits::Limit;
 use models::vehicle::Rest;
 
@@ -67,15 +68,6 @@ pub fn bad_customer(c: Customer) -> bool
         | bad_penalty(penalty)
 }
 
-pub fn has_window(opening: Opening) -> bool
-    ensures { λ r. ⌜ r ≡ present (openingOf opening) ⌝ }
-{
-    match opening {
-        Opening::Always => false,
-        Opening::Window(_) => true,
-    }
-}
-
 pub fn has_penalty(penalty: Penalty) -> bool
     ensures { λ r. ⌜ r ≡ present (penaltyOf penalty) ⌝ }
 {
@@ -85,22 +77,12 @@ pub fn has_penalty(penalty: Penalty) -> bool
     }
 }
 
-pub fn has_break(rest: Rest) -> bool
-    ensures { λ r. ⌜ r ≡ present (restOf rest) ⌝ }
-{
-    match rest {
-        Rest::Unbroken => false,
-        Rest::Break(_) => true,
-    }
-}
-
 // The depot's record with demand, service, window or penalty.
 pub fn bad_depot(c: Customer) -> bool
     ensures { λ r. ⌜ r ≡ badDepot value (customerOf c ∷ []) ⌝ }
 {
-    let opening = c.time_window;
     let penalty = c.lateness_penalty;
-    (c.demand != 0) | unfit_zero(c.service_duration) | has_window(opening) | has_penalty(penalty)
+    (c.demand != 0) | unfit_zero(c.service_duration) | has_window(c) | has_penalty(penalty)
 }
 
 // Ready above due.
@@ -127,7 +109,6 @@ pub fn break_falls(rest: Rest) -> bool
 pub fn is_soft(c: Customer) -> bool
     ensures { λ r. ⌜ r ≡ soft (customerOf c) ⌝ }
 {
-    let opening = c.time_window;
     let penalty = c.lateness_penalty;
-    has_window(opening) & has_penalty(penalty)
+    has_window(c) & has_penalty(penalty)
 }

@@ -21,7 +21,7 @@ use local_search::search::search_of;
 use models::count::fewer;
 use plan_listing::held::Loaded;
 use ranges::customers::Test;
-use ranges::customers::any_fits;
+use ranges::customers::any_applies;
 use two_opt::two_opt::two_opt_improve;
 use visits::evaluator::build_route;
 
@@ -320,7 +320,7 @@ pub fn runs_text(
     );
     let head = held.head;
     let customers = held.customers;
-    if any_fits(Test::Soft, customers, head.places) {
+    if any_applies(Test::Soft, customers, head.places) {
         return end;
     }
     end = each_run(

@@ -1,5 +1,5 @@
 -- Writing a result element by element at the front of a lent list. Assumes nothing.
-use Prim.Native.Nat.{ℕ, zero, suc, _+_, _≤_, _<_}
+use Prim.Native.Nat.{ℕ, zero, suc, _≤_, _<_}
 use native.Mathlib.Omega.{arith}
 use mathlib.Core.Path.{_≡_, refl, sym, ap, _∙_}
 use mathlib.Core.List.{List, [], _∷_, _++_, map, append-assoc}
@@ -9,9 +9,6 @@ use Rattle.definitions.specs.Room.{written}
 use Rattle.sheet.specs.Fitting.{fitting}
 
 module _ {A : Type 0} (old : List A) where
-  pub write-none : old ≡ written [] old
-  write-none = refl
-
   -- one element more
   pub write-more : (p : List A) (x : A) (n : ℕ) → n ≡ length p → n < length old → set (written p old) n x ≡ written (p ++ x ∷ []) old
   write-more p x n e h =

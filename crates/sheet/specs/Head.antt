@@ -1,9 +1,8 @@
 -- The head of a sheet: what it says besides customers and tables. Definitions only.
 use Prim.Native.Nat.{ℕ}
-use mathlib.Core.List.{List}
 use mathlib.Core.Option.{Option}
 use lib.Ieee.{Float}
-use Rattle.definitions.specs.Sheet.{BreakOf, CustomerOf, SheetOf}
+use Rattle.definitions.specs.Sheet.{BreakOf, SheetOf}
 use Rattle.models.specs.Records.{limitOf, restOf}
 use Rattle.models.specs.declared.head.Head.{Head}
 
@@ -25,21 +24,6 @@ headOf s =
       maxDistance = s .maxDistance;
       maxDuration = s .maxDuration;
       rest = s .rest;
-    }
-
--- the sheet with that head, customers, distances and times
-abbrev pub sheetWith : {F : Type 0} → HeadOf F → List (CustomerOf F) → List F → List F → SheetOf F
-sheetWith h customers distances times =
-    record {
-      places = h .places;
-      capacity = h .capacity;
-      fixed = h .fixed;
-      maxDistance = h .maxDistance;
-      maxDuration = h .maxDuration;
-      rest = h .rest;
-      customers = customers;
-      distances = distances;
-      times = times;
     }
 
 -- what the code's head holds

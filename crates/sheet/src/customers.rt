@@ -5,7 +5,6 @@ ghost use mathlib.Core.List.{map};
 ghost use mathlib.Core.Option.{Option·map};
 ghost use lib.ListN.{length, drop, getD};
 ghost use Rattle.whole.specs.Whole.{fl};
-ghost use Rattle.definitions.specs.Sheet as Sheet;
 ghost use Rattle.definitions.specs.Words.{wordsOf};
 ghost use Rattle.definitions.specs.Reader as Reader;
 ghost use Rattle.definitions.specs.Reader.{valuesOf, firstOf, own, sheetOf};
@@ -23,6 +22,7 @@ use models::customer::Customer;
 use models::customer::Opening;
 use models::customer::Penalty;
 use models::customer::TimeWindow;
+use models::customer::depots;
 use words::word_at;
 use words::word_count;
 
@@ -88,24 +88,6 @@ pub fn customer_at(bytes: &[u8], i: usize) -> Customer
         time_window,
         lateness_penalty,
     }
-}
-
-// The depot has demand and service 0 and no window.
-pub fn depot() -> Customer
-    ensures { λ r. ⌜ customerOf r ≡ flCustomer Sheet.depot ⌝ }
-{
-    Customer {
-        demand: 0,
-        service_duration: 0.0,
-        time_window: Opening::Always,
-        lateness_penalty: Penalty::Hard,
-    }
-}
-
-pub fn depots() -> [Customer; 64]
-    ensures { λ r. ⌜ map customerOf r ≡ Parts.depots ⌝ }
-{
-    [depot(); 64]
 }
 
 // The depot's record, then the customers, as many as there is room for, and depots behind them.

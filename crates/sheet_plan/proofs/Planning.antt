@@ -15,7 +15,7 @@ use Rattle.models.specs.declared.customer.Customer.{Customer}
 use Rattle.models.specs.declared.head.Head.{Head}
 use Rattle.models.specs.Records.{restOf}
 use Rattle.evaluation.specs.Records.{LimitsF, lent}
-use Rattle.ga.specs.declared.split.SplitResult.{SplitResult}
+use Rattle.split.specs.declared.split.SplitResult.{SplitResult}
 use Rattle.report.proofs.PlanRoom.{few-ends, served-and-dropped}
 use Rattle.plan_listing.specs.Held.{InMemory}
 use Rattle.plan_listing.specs.Cut.{CutLeft}

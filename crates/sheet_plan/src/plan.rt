@@ -8,11 +8,11 @@ ghost use Rattle.definitions.specs.Reader as Reader;
 ghost use Rattle.plan_listing.specs.Held.{InMemory, Held, Accepted};
 ghost use Rattle.sheet_plan.specs.Plan.{plan, Left};
 use crate::breaks::write_breaks;
-use ga::split::SplitResult;
 use models::customer::Customer;
 use models::head::Head;
 use plan_listing::cut::cut_held;
 use plan_listing::held::load;
+use split::split::SplitResult;
 
 // The plan of the tour on the sheet that is held.
 fn plan_held(
@@ -79,8 +79,8 @@ pub fn plan_sheet(
         &tour[..l.calls],
         l.head,
         customers,
-        &distances[..l.far],
-        &times[..l.long],
+        &distances[..l.distance_count],
+        &times[..l.time_count],
         &mut *served,
         &mut *run_ends,
         &mut *break_places,

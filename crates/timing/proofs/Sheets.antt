@@ -25,7 +25,7 @@ same-instance : {c c' : List (CustomerOf Float)} {d d' t t' : List Float} {n n' 
 same-instance a b e g h i j = rw (a, b, e, g, h, i, j) refl
 
 module _ {s : Sheet} {calls : List ℕ} {l : Loaded} {distances₀ times₀ : List Float} {tour₀ : List ℕ} {distances times : List Float} {tour : List ℕ} (H : Holds s calls l distances₀ times₀ tour₀ distances times tour) where
-  pub instance-is : lent (l .customers) (take (l .far) distances) (take (l .long) times) (l .head .places) (l .head .capacity) (l .head .«fixed_cost») (l .head .limits) ≡ instanceOf s
+  pub instance-is : lent (l .customers) (take (l .«distance_count») distances) (take (l .«time_count») times) (l .head .places) (l .head .capacity) (l .head .«fixed_cost») (l .head .limits) ≡ instanceOf s
   instance-is =
       let M = H .in-memory in
       same-instance (H .customers-are) (M .tables .distances-are) (M .tables .times-are) (M .tables .size-is) (M .capacity) (M .fixed) (M .limits)
@@ -33,8 +33,8 @@ module _ {s : Sheet} {calls : List ℕ} {l : Loaded} {distances₀ times₀ : Li
   pub callable : Callable (take (l .calls) tour)
   callable =
       record {
-        few = Planned.few s (take (l .calls) tour) (l .head) (l .customers) (take (l .far) distances) (take (l .long) times) (H .in-memory);
-        below = Planned.below s (take (l .calls) tour) (l .head) (l .customers) (take (l .far) distances) (take (l .long) times) (H .in-memory);
+        few = Planned.few s (take (l .calls) tour) (l .head) (l .customers) (take (l .«distance_count») distances) (take (l .«time_count») times) (H .in-memory);
+        below = Planned.below s (take (l .calls) tour) (l .head) (l .customers) (take (l .«distance_count») distances) (take (l .«time_count») times) (H .in-memory);
       }
 
 -- ---- rounds
@@ -67,7 +67,7 @@ module _ (work : Work) (n : ℕ) (bytes : List ℕ) where
 module _ {s : Sheet} {calls : List ℕ} {l : Loaded} {distances₀ times₀ : List Float} {tour₀ : List ℕ} {distances times : List Float} {tour : List ℕ} (H : Holds s calls l distances₀ times₀ tour₀ distances times tour)
     (bytes : List ℕ) (e : read bytes ≡ sheet s calls) (r : Float) where
   pub repeated-on : (work : Work) (n : ℕ)
-      → r ≡ lastOf n (workF work (lent (l .customers) (take (l .far) distances) (take (l .long) times) (l .head .places) (l .head .capacity) (l .head .«fixed_cost») (l .head .limits)) (take (l .calls) tour))
+      → r ≡ lastOf n (workF work (lent (l .customers) (take (l .«distance_count») distances) (take (l .«time_count») times) (l .head .places) (l .head .capacity) (l .head .«fixed_cost») (l .head .limits)) (take (l .calls) tour))
       → r ≡ timed work n (read bytes)
   repeated-on work n h =
       h ∙ ap (λ (I : Instance). lastOf n (workF work I (take (l .calls) tour))) (instance-is H)

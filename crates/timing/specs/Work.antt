@@ -14,8 +14,8 @@ use Rattle.sheet.specs.Parts.{depots}
 use Rattle.stops.specs.Stops.{Below64}
 use Rattle.stretch.specs.Runs.{Instance, lent}
 use Rattle.ga.specs.SplitTw.{splitTwF}
-use Rattle.ga.specs.Split as Split
-use Rattle.ga.specs.Split.{splitF}
+use Rattle.split.specs.Split as Split
+use Rattle.split.specs.Split.{splitF}
 use Rattle.local_search.specs.Search.{SearchF, searchF}
 use Rattle.two_opt.specs.TwoOpt.{improvedDistanceF}
 use Rattle.elimination.specs.Insertion.{TermsF}

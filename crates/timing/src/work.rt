@@ -1,19 +1,19 @@
 // Work done a number of times on a sheet that is read once.
 ghost use mathlib.Core.Path.{_≡_};
-ghost use Rattle.ga.specs.Split as Split;
-ghost use Rattle.ga.specs.Split.{splitF};
+ghost use Rattle.split.specs.Split as Split;
+ghost use Rattle.split.specs.Split.{splitF};
 ghost use Rattle.definitions.specs.Reader as Reader;
 ghost use Rattle.plan_listing.specs.Held.{Accepted};
 ghost use Rattle.timing.specs.Work.{Callable, instanceIn, splitTwCost, reversedDistance, runsLeft, workF, lastOf, timed};
 use crate::every::write_every;
 use elimination::route_elimination::eliminate_routes;
-use ga::split::split;
 use ga::split_tw::split_tw;
 use local_search::search::search_of;
 use plan_listing::held::Loaded;
 use plan_listing::held::load;
 use sheet::read::Reading;
 use sheet::read::read;
+use split::split::split;
 use two_opt::two_opt::two_opt_improve;
 
 pub enum Work {
@@ -237,8 +237,8 @@ fn on_sheet(bytes: &[u8], work: Work, n: u32) -> f64
         work,
         &tour[..held.calls],
         held,
-        &distances[..held.far],
-        &times[..held.long],
+        &distances[..held.distance_count],
+        &times[..held.time_count],
     )
 }
 

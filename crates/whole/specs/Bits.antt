@@ -23,10 +23,6 @@ pub fl-one : fl 1 ≡ Ieee.ofBits binary64 0x3ff0_0000_0000_0000
 unfolding fl ofInt Ieee.ofBits
 fl-one = refl
 
-pub inf-bits : inf false ≡ Ieee.ofBits binary64 0x7ff0_0000_0000_0000
-unfolding Ieee.ofBits
-inf-bits = refl
-
 -- ---- the cast from an integer, and back
 pub fl-in : (n : ℕ) → n ≤ limit → T (Ieee.inFloat binary64 (pos n))
 unfolding Ieee.inFloat

@@ -3,15 +3,15 @@ use mathlib.Core.Path.{_≡_, ap, _∙_}
 use mathlib.Core.Bool.{false, not}
 use Prim.Native.Nat.{ℕ, zero-le, _+_, _≤_}
 use native.Mathlib.Nat.{add-zero, add-comm}
-use lib.IntN.{ℤ, subℕ, _+ℤ_}
+use lib.IntN.{subℕ}
 use lib.Dec.{leb, ltb}
 use lib.Ieee as Ieee
 use lib.Ieee.{Float, binary64}
 use Rattle.whole.specs.Values.{sub-whole}
 use Rattle.whole.specs.Whole.{fl, limit, fl-is}
 use Rattle.whole.specs.Numbers.{not-ltb}
-use Rattle.whole.specs.Integers.{sub-none, subs, sub-add, neg-sub, sub-lt, le-not-lt, abs-sub}
-use Rattle.whole.specs.Signed.{flz, flz-pos, minus-is, flz-add, flz-sub, flz-lt, flz-le}
+use Rattle.whole.specs.Integers.{sub-none, subs, sub-add, sub-lt, le-not-lt, abs-sub}
+use Rattle.whole.specs.Signed.{flz, flz-pos, minus-is, flz-add, flz-lt, flz-le}
 
 -- a - b
 unfoldable pub diff : ℕ → ℕ → Float
@@ -39,10 +39,6 @@ module _ (a b c d : ℕ) (p : a ≤ limit) (q : b ≤ limit) (r : c ≤ limit) (
   unfolding diff
   diff-add = flz-add (subℕ a b) (subℕ c d) (abs-sub a b limit p q) (abs-sub c d limit r s) ∙ ap flz (sub-add a b c d)
 
-  pub diff-sub : Ieee.sub binary64 (diff a b) (diff c d) ≡ diff (a + d) (b + c)
-  unfolding diff
-  diff-sub = flz-sub (subℕ a b) (subℕ c d) (abs-sub a b limit p q) (abs-sub c d limit r s) ∙ ap flz (ap (λ (z : ℤ). subℕ a b +ℤ z) (neg-sub c d) ∙ sub-add a b d c)
-
   pub diff-lt : Ieee.lt (diff a b) (diff c d) ≡ ltb (a + d) (c + b)
   unfolding diff
   diff-lt = flz-lt (subℕ a b) (subℕ c d) (abs-sub a b limit p q) (abs-sub c d limit r s) ∙ sub-lt a b c d
@@ -51,17 +47,10 @@ module _ (a b c d : ℕ) (p : a ≤ limit) (q : b ≤ limit) (r : c ≤ limit) (
   unfolding diff
   diff-le = flz-le (subℕ a b) (subℕ c d) (abs-sub a b limit p q) (abs-sub c d limit r s) ∙ le-not-lt (subℕ a b) (subℕ c d) ∙ ap not (sub-lt c d a b) ∙ not-ltb (c + b) (a + d)
 
-  -- two differences of floats
-  pub lt-differences : Ieee.lt (Ieee.sub binary64 (fl a) (fl b)) (Ieee.sub binary64 (fl c) (fl d)) ≡ ltb (a + d) (c + b)
-  lt-differences = rw (fl-diff a b p q, fl-diff c d r s) diff-lt
-
 -- a difference and a natural
 module _ (a b c : ℕ) (p : a ≤ limit) (q : b ≤ limit) (r : c ≤ limit) where
   pub diff-add-fl : Ieee.add binary64 (diff a b) (fl c) ≡ diff (a + c) b
   diff-add-fl = rw (← diff-fl c) (diff-add a b c 0 p q r zero-le ∙ rw (add-zero b))
-
-  pub diff-sub-fl : Ieee.sub binary64 (diff a b) (fl c) ≡ diff a (b + c)
-  diff-sub-fl = rw (← diff-fl c) (diff-sub a b c 0 p q r zero-le ∙ rw (add-zero a))
 
   pub diff-lt-fl : Ieee.lt (diff a b) (fl c) ≡ ltb a (c + b)
   diff-lt-fl = rw (← diff-fl c) (diff-lt a b c 0 p q r zero-le ∙ rw (add-zero a))

@@ -2,7 +2,7 @@
 -- For a whole largest distance up to 10,000,000 it is at most one half. So the improvers' tests against it decide as the plain comparison of whole numbers does. Assumes nothing.
 use mathlib.Core.Path.{_≡_, refl, sym, ap, _∙_}
 use mathlib.Core.Bool.{false}
-use Prim.Native.Nat.{ℕ, zero-le, _+_, _*_, _≤_}
+use Prim.Native.Nat.{ℕ, _+_, _*_, _≤_}
 use native.Mathlib.Nat.{mul-le-mul-left, mul-pos, add-zero, zero-add}
 use native.Mathlib.Omega.{arith}
 use lib.IntN.{subℕ}
@@ -13,7 +13,7 @@ use lib.Ieee.{Float, binary64, round, ofInt}
 use lib.Ieee.Positive.{num, den, den-pos, positive, own-value}
 use Rattle.whole.specs.Values.{one, mul-at}
 use Rattle.whole.specs.Whole.{fl, limit, fl-is}
-use Rattle.whole.specs.Difference.{diff, diff-fl}
+use Rattle.whole.specs.Difference.{diff}
 use Rattle.whole.specs.Integers.{sub-none, sub-lt, abs-sub}
 use Rattle.whole.specs.Half.{Small, halves, round-small, below-neg, below-less}
 
@@ -64,7 +64,3 @@ module _ (n a b : ℕ) (h : n ≤ farthest) (p : a ≤ limit) (q : b ≤ limit) 
   unfolding diff
   elimination-test s k =
       below-less (subℕ a b) s (gainFloorF (fl n)) (floor-small n h) (abs-sub a b limit p q) k ∙ ap (ltZ (subℕ a b)) (sym (sub-none s)) ∙ sub-lt a b s 0 ∙ rw (add-zero a)
-
--- and of a whole number
-pub elimination-test-fl : (n a s : ℕ) → n ≤ farthest → a ≤ limit → s ≤ halves → Ieee.lt (fl a) (Ieee.sub binary64 (fl s) (gainFloorF (fl n))) ≡ ltb a s
-elimination-test-fl n a s h p k = rw (← diff-fl a) (elimination-test n a 0 h p zero-le s k ∙ rw (add-zero s))

@@ -24,10 +24,6 @@ pub inf-le-is : (x : Float) (a : ℕ) → Is x a → Ieee.le (inf false) x ≡ f
 unfolding Ieee.le
 inf-le-is (fin s m e) a p = refl
 
-pub is-eq-inf : (x : Float) (a : ℕ) → Is x a → Ieee.eq x (inf false) ≡ false
-unfolding Ieee.eq
-is-eq-inf (fin s m e) a p = refl
-
 pub add-inf : (x : Float) (a : ℕ) → Is x a → Ieee.add binary64 x (inf false) ≡ inf false
 unfolding Ieee.add
 add-inf (fin s m e) a p = refl
@@ -35,10 +31,6 @@ add-inf (fin s m e) a p = refl
 pub inf-add : (x : Float) (a : ℕ) → Is x a → Ieee.add binary64 (inf false) x ≡ inf false
 unfolding Ieee.add
 inf-add (fin s m e) a p = refl
-
-pub inf-sub : (x : Float) (a : ℕ) → Is x a → Ieee.sub binary64 (inf false) x ≡ inf false
-unfolding Ieee.sub
-inf-sub (fin s m e) a p = refl
 
 -- ---- either of them
 pub data Ext : Type 0 where

@@ -3,7 +3,7 @@
 use mathlib.Core.Path.{_≡_, refl, sym, ap, _∙_, subst}
 use mathlib.Core.Bool.{Bool, true, false, _&&_, cond}
 use Prim.Native.Nat.{ℕ, zero, suc, _+_, _-_, _*_, _%_, _^_, _≤_, _<_}
-use native.Mathlib.Nat.{le-add-right, pow-succ', one-mul, le-of-suc-le-suc, zero-mul, lt-of-not-le, lt-of-lt-of-le, mul-one, add-comm, le-trans, le-of-eq, le-refl, not-le-of-lt, mul-comm, mul-assoc, mul-left-comm, mul-mul-mul-comm, mul-le-mul, mul-pos, add-mul, add-le-add, mul-le-mul-right}
+use native.Mathlib.Nat.{le-add-right, pow-succ', one-mul, le-of-suc-le-suc, zero-mul, lt-of-not-le, lt-of-lt-of-le, mul-one, add-comm, le-trans, le-of-eq, le-refl, not-le-of-lt, mul-comm, mul-assoc, mul-left-comm, mul-pos, add-mul, add-le-add, mul-le-mul-right}
 use native.Mathlib.Omega.{arith}
 use lib.IntN.{ℤ, pos, negsuc}
 use lib.Dec.{T, leb, ltb, eqb, eqb→eq, leb→le, ltb→lt}
@@ -15,7 +15,7 @@ use lib.Ieee.Exact.{HasValue, round-exact}
 use lib.Ieee.Order.{round-mono, le-of-values}
 use Rattle.whole.specs.Values.{one}
 use Rattle.whole.specs.Whole.{fl, fl-round}
-use Rattle.whole.specs.Order.{nonneg, of-le, le-inf, le-self, le-through}
+use Rattle.whole.specs.Order.{nonneg, of-le, le-inf, le-through}
 
 -- ---- the sum
 -- x / a + z / c ≤ y / b + w / d for x / a ≤ y / b and z / c ≤ w / d
@@ -91,24 +91,9 @@ add-mono f x z (fin false n d) (inf false) p q r s h k = subst (λ (v : Float). 
 add-mono f x z (fin false n d) (fin true l g) p q r s h k = absurd s
 add-mono f x z (fin false n d) (fin false l g) p q r s h k = add-mono-fin f x z n l d g p q h k
 
--- one term grows, and the other stays
-pub add-mono-left : (f : Format) (x y z : Float) → T (nonneg x) → T (nonneg y) → T (nonneg z) → T (Ieee.le x y) → T (Ieee.le (Ieee.add f x z) (Ieee.add f y z))
-add-mono-left f x y z p q r h = add-mono f x z y z p r q r h (le-self z r)
-
 -- ---- whole numbers are among these
 pub fl-nonneg : (n : ℕ) → T (nonneg (fl n))
 fl-nonneg n = subst (λ (z : Float). T (nonneg z)) (sym (fl-round n)) (round-nonneg binary64 n 1)
-
--- ---- the product of finite ones
-mul-grows : (x a z c y b w d : ℕ) → x * b ≤ y * a → z * d ≤ w * c → x * z * (b * d) ≤ y * w * (a * c)
-mul-grows x a z c y b w d h k = le-trans (le-of-eq (mul-mul-mul-comm x z b d)) (le-trans (mul-le-mul h k) (le-of-eq (mul-mul-mul-comm y a w c)))
-
-pub mul-mono : (f : Format) (m i n l : ℕ) (e j d g : ℤ) → T (Ieee.le (fin false m e) (fin false n d)) → T (Ieee.le (fin false i j) (fin false l g))
-    → T (Ieee.le (Ieee.mul f (fin false m e) (fin false i j)) (Ieee.mul f (fin false n d) (fin false l g)))
-unfolding Ieee.mul
-mul-mono f m i n l e j d g h k =
-    round-mono f (m * up e * (i * up j)) (down e * down j) (n * up d * (l * up g)) (down d * down g) (mul-pos (down-pos e) (down-pos j)) (mul-pos (down-pos d) (down-pos g))
-    (mul-grows (m * up e) (down e) (i * up j) (down j) (n * up d) (down d) (l * up g) (down g) (of-le m n e d h) (of-le i l j g k))
 
 -- ---- a sum is no less than its terms
 -- what `fits` says of a finite value, by the exponent's sign

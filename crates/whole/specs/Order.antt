@@ -1,6 +1,5 @@
 -- The floats that are no NaN and whose sign is clear, an infinity included: `≤` orders them totally, and `<` is the other side of it. Assumes nothing.
 use mathlib.Core.Path.{_≡_, refl, sym, ap, _∙_, subst}
-use mathlib.Core.Logic.{_⊎_, inl, inr}
 use mathlib.Core.Bool.{Bool, true, false, not, _||_, and-true, Bool·not-not}
 use Prim.Native.Nat.{ℕ, _+_, _-_, _*_, _/_, _^_, _≤_}
 use native.Mathlib.Nat.{le-refl, mul-right-comm, le-antisymm}
@@ -74,9 +73,6 @@ lt-le x y e = rw e tt
 
 pub nlt-le : (x y : Float) → T (nonneg x) → T (nonneg y) → Ieee.lt x y ≡ false → T (Ieee.le y x)
 nlt-le x y p q e = subst T (sym (ap not e) ∙ not-lt x y p q) tt
-
-pub le-total : (x y : Float) → T (nonneg x) → T (nonneg y) → T (Ieee.le x y) ⊎ T (Ieee.le y x)
-le-total x y p q = by-test (Ieee.lt x y) (λ e. inl (lt-le x y e)) (λ e. inr (nlt-le x y p q e))
 
 pub le-through : (x y z : Float) → T (nonneg x) → T (nonneg y) → T (nonneg z) → T (Ieee.le x y) → T (Ieee.le y z) → T (Ieee.le x z)
 unfolding Ieee.le

@@ -74,14 +74,6 @@ less-is x (negsuc b) = sum-is x (pos (suc b))
 pub flz-sub : (x y : ℤ) → natAbs x ≤ limit → natAbs y ≤ limit → Ieee.sub binary64 (flz x) (flz y) ≡ flz (x -ℤ y)
 flz-sub x y p q = sub-whole (sign x) (sign y) (natAbs x) (natAbs y) (flz x) (flz y) (flz-is x p) (flz-is y q) binary64 ∙ less-is x y
 
--- beside a natural
-module _ (x : ℤ) (n : ℕ) (p : natAbs x ≤ limit) (q : n ≤ limit) where
-  pub flz-add-fl : Ieee.add binary64 (flz x) (fl n) ≡ flz (x +ℤ pos n)
-  flz-add-fl = rw (← flz-pos n) (flz-add x (pos n) p q)
-
-  pub flz-sub-fl : Ieee.sub binary64 (flz x) (fl n) ≡ flz (x -ℤ pos n)
-  flz-sub-fl = rw (← flz-pos n) (flz-sub x (pos n) p q)
-
 -- ---- the negation of a number that is not 0; -0.0 is no `flz`
 fits-z : (z : ℤ) → T (Ieee.fits binary64 (flz z))
 unfolding flz

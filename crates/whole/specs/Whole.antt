@@ -7,7 +7,7 @@ use Prim.Native.Nat.{ℕ, _+_, _-_, _*_, _^_, _≤_}
 use native.Mathlib.Omega.{arith}
 use lib.IntN.{pos}
 use lib.Dec.{T, leb, ltb, eqb}
-use borrow.Author.Tests.{le-ltb, eq-eqb, eqb-true}
+use borrow.Author.Tests.{le-ltb}
 use lib.Ieee as Ieee
 use lib.Ieee.{Float, binary64, round, ofInt}
 use lib.Ieee.Fits.{ofInt-fits}
@@ -66,10 +66,6 @@ module _ (a b : ℕ) (p : a ≤ limit) (q : b ≤ limit) where
   pub fl-le : Ieee.le (fl a) (fl b) ≡ leb a b
   unfolding Ieee.le
   fl-le = rw (fl-lt, fl-eq) (or-leb a b)
-
--- two numbers up to the limit with one float are one number
-pub fl-inj : (a b : ℕ) → a ≤ limit → b ≤ limit → fl a ≡ fl b → a ≡ b
-fl-inj a b p q h = eqb-true a b (sym (fl-eq a b p q) ∙ rw h (fl-eq b b q q ∙ eq-eqb b b refl))
 
 -- the sum by the bound on the result
 pub fl-sum : (a b : ℕ) → a + b ≤ limit → Ieee.add binary64 (fl a) (fl b) ≡ fl (a + b)

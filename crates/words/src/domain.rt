@@ -1,38 +1,12 @@
-// What each number of a sheet may be.
+// What a word may say of the places and of a call; the ranges of the other numbers stand in models.
 ghost use mathlib.Core.Path.{_≡_};
-ghost use Rattle.definitions.specs.Domain.{isPlaces, isCapacity, isDemand, isPenalty, isNumber, isCall};
+ghost use Rattle.definitions.specs.Domain.{isPlaces, isCall};
 
 // From 1 to 64 places, the depot among them.
 pub fn is_places(n: u32) -> bool
     ensures { λ r. ⌜ r ≡ isPlaces n ⌝ }
 {
     1 <= n && n <= 64
-}
-
-pub fn is_capacity(n: u32) -> bool
-    ensures { λ r. ⌜ r ≡ isCapacity n ⌝ }
-{
-    n <= 1_000_000
-}
-
-pub fn is_demand(n: u32) -> bool
-    ensures { λ r. ⌜ r ≡ isDemand n ⌝ }
-{
-    n <= 32_767
-}
-
-// A lateness penalty.
-pub fn is_penalty(n: u32) -> bool
-    ensures { λ r. ⌜ r ≡ isPenalty n ⌝ }
-{
-    n <= 1_000
-}
-
-// Every distance, time, service, window end, break number, limit and fixed run cost.
-pub fn is_number(n: u32) -> bool
-    ensures { λ r. ⌜ r ≡ isNumber n ⌝ }
-{
-    n <= 10_000_000
 }
 
 // A call's customer, on a sheet with that many places.

@@ -10,11 +10,11 @@ ghost use Rattle.definitions.specs.Reader.{among, onward, mayStand, inRange, pa
 ghost use Rattle.words.specs.Held.{heldWord, stateOf, faultOf};
 use crate::Word;
 use crate::domain::is_call;
-use crate::domain::is_capacity;
-use crate::domain::is_demand;
-use crate::domain::is_number;
-use crate::domain::is_penalty;
 use crate::domain::is_places;
+use models::domain::is_capacity;
+use models::domain::is_demand;
+use models::domain::is_number;
+use models::domain::is_penalty;
 
 pub struct State {
     // The word before.

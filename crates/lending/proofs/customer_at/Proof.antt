@@ -36,7 +36,7 @@ use denote.Triple.Spec.{Meets, tripleOf}
 use denote.Triple.Table.{entered}
 use denote.Triple.Walked.{says, needs, Stays, stay-none, stay-none-slice, walkOf, goes-none, goes-none-slice, Walks, ends-at, walked, walk-meets}
 use denote.Exit.{yes}
-use Rattle.lending.specs.Padding.{blankOf}
+use Rattle.models.specs.Records.{depotRecord}
 use Rattle.models.specs.declared.customer.Customer.{Customer}
 use Rattle.lending.proofs.Rows as rows
 use Rattle.lending.proofs.Rows.{R, mach}
@@ -63,7 +63,7 @@ module _ {M : Type 1} (𝓤 : URA M) (H : Heap 𝓤) (A : Atoms 𝓤) (W : Given
   v = sliceVal (s .ptr) (length ys)
 
   abbrev elem : Customer
-  elem = getD ys i blankOf
+  elem = getD ys i depotRecord
 
   abbrev at : Vals at′.signature (κ, tt)
   at = (v ∷ [], (vint w64 i ∷ [], tt))
@@ -97,11 +97,11 @@ module _ {M : Type 1} (𝓤 : URA M) (H : Heap 𝓤) (A : Atoms 𝓤) (W : Given
         move ! (13 ∷ []) $ fsplit ! $ use1 W (‵ Own ⊛ ‵ Own) (shr-slice-copy 𝓤 H A W (named 0) κ R .twice s (v ∷ [])) $ split ! $
         fsplit ! $ drop ! $ fsplit ! $ drop ! $ move ! (15 ∷ []) $ split ! $ move ! (2 ∷ 0 ∷ []) $
         looks-slice ! tt R (Is R) (shows 𝓤 H A R) rows.vals rows.tells (rows.copy 𝓤 H A W) ys b o (λ q′.
-        elem-out ! R (Is R) (shows 𝓤 H A R) rows.vals rows.tells q′ ys i blankOf b o l (λ g.
+        elem-out ! R (Is R) (shows 𝓤 H A R) rows.vals rows.tells q′ ys i depotRecord b o l (λ g.
         -- [customers[i]; what it owns; the others; what shuts; the fractured borrow; true; what cs owns; i's; _5; …; _4; …; _3; …; _2; …; _1; …; _0; …]
         assigns ! (of-opd ! (load ! (from ! (hop ! (look ! 10 refl) (stop !))) (look-raw ! 0 refl))) (from ! (stop !)) (init ! 8 refl (rows.lawful 𝓤 H A W .typed elem _ g .0)) $
         assigns ! (of-opd ! (load ! (from ! (stop !)) (look ! 8 refl))) (from ! (stop !)) (init ! 18 refl (rows.lawful 𝓤 H A W .typed elem _ g .0)) $
-        elem-back ! R q′ ys i blankOf (mach elem ∷ []) b o l $ shuts-slice ! tt R q′ ys b o $
+        elem-back ! R q′ ys i depotRecord (mach elem ∷ []) b o l $ shuts-slice ! tt R q′ ys b o $
         -- [the token; the fractured borrow; true; what cs owns; i's; _5; …; _4; …; _3; …; _2; …; _1; …; _0; …]
         returns ! (look ! 15 refl) $ forget ! 5 refl $ forget ! 7 refl $ forget ! 9 refl $ forget ! 11 refl $ forget ! 13 refl $ forget ! 15 refl $
         move ! (15 ∷ 16 ∷ []) $ free1 ! $ move ! (13 ∷ 14 ∷ []) $ free1 ! $ move ! (11 ∷ 12 ∷ []) $ free1 ! $ move ! (9 ∷ 10 ∷ []) $ free1 ! $ move ! (7 ∷ 8 ∷ []) $ free1 ! $ move ! (5 ∷ 6 ∷ []) $ free1 ! $ free0 ! $

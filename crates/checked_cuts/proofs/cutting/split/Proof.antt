@@ -3,7 +3,7 @@ use mathlib.Core.List.{[], _∷_}
 use lib.ListN.{length}
 use Rattle.definitions.specs.Lent.{cutting}
 use Rattle.definitions.specs.Drop.{split}
-use Rattle.ga.specs.Split.{lent, splitF}
+use Rattle.split.specs.Split.{lent, splitF}
 use Rattle.checked_cuts.proofs.CutAnswers.{cut-room, refused-cut, given-cut}
 use Rattle.checked_cuts.proofs.SplitCase.{split-holds}
 use borrow.Author.Needs.{needs}

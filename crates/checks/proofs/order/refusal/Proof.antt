@@ -62,8 +62,8 @@ returns-4 c =
     let a = c .before .before .before .before .before .before .before .before .before .before .before .before .before .before .before .args in
     (λ cs G. says-2 (given a) cs G (sym (c .before .before .before .before .before .before .before .too-short .ensures) ∙ c .before .before .before .before .before .before .if1 .left) (sym (c .before .before .before .before .before .tables-odd .ensures) ∙ c .before .before .before .before .if2 .left) (sym (c .before .before .before .out-of-range .ensures) ∙ c .before .before .if3 .left) (sym (c .before .pairs-fall .ensures) ∙ c .if4 .taken), λ e. absurd (omega arith))
 
-has-break-requires : tie.Need-has-break-requires
-has-break-requires c κs = search needs
+has-rest-requires : tie.Need-has-rest-requires
+has-rest-requires c κs = search needs
 
 runs-odd-requires : tie.Need-runs-odd-requires
 runs-odd-requires c κs = search needs
@@ -71,7 +71,7 @@ runs-odd-requires c κs = search needs
 returns-5 : tie.Need-returns-5
 returns-5 c =
     let a = c .before .before .before .before .before .before .before .before .before .before .before .before .before .before .before .before .before .before .before .args in
-    (λ cs G. says-5 (given a) cs G (sym (c .before .before .before .before .before .before .before .before .before .before .before .too-short .ensures) ∙ c .before .before .before .before .before .before .before .before .before .before .if1 .left) (sym (c .before .before .before .before .before .before .before .before .before .tables-odd .ensures) ∙ c .before .before .before .before .before .before .before .before .if2 .left) (sym (c .before .before .before .before .before .before .before .out-of-range .ensures) ∙ c .before .before .before .before .before .before .if3 .left) (sym (c .before .before .before .before .before .pairs-fall .ensures) ∙ c .before .before .before .before .if4 .left) (ap (λ (b : Bool). runsOddOf (a .kind) b (length (a .calls .now)) (a .ends .now) (a .breaks .now)) (sym (c .before .before .has-break .ensures)) ∙ sym (c .before .runs-odd .ensures) ∙ c .if5 .taken), λ e. absurd (omega arith))
+    (λ cs G. says-5 (given a) cs G (sym (c .before .before .before .before .before .before .before .before .before .before .before .too-short .ensures) ∙ c .before .before .before .before .before .before .before .before .before .before .if1 .left) (sym (c .before .before .before .before .before .before .before .before .before .tables-odd .ensures) ∙ c .before .before .before .before .before .before .before .before .if2 .left) (sym (c .before .before .before .before .before .before .before .out-of-range .ensures) ∙ c .before .before .before .before .before .before .if3 .left) (sym (c .before .before .before .before .before .pairs-fall .ensures) ∙ c .before .before .before .before .if4 .left) (ap (λ (b : Bool). runsOddOf (a .kind) b (length (a .calls .now)) (a .ends .now) (a .breaks .now)) (sym (c .before .before .has-rest .ensures)) ∙ sym (c .before .runs-odd .ensures) ∙ c .if5 .taken), λ e. absurd (omega arith))
 
 lateness-pay-requires : tie.Need-lateness-pay-requires
 lateness-pay-requires c κs = search needs
@@ -79,7 +79,7 @@ lateness-pay-requires c κs = search needs
 returns-6 : tie.Need-returns-6
 returns-6 c =
     let a = c .before .before .before .before .before .before .before .before .before .before .before .before .before .before .before .before .before .before .before .before .before .args in
-    (λ cs G. says-4 (given a) cs G (sym (c .before .before .before .before .before .before .before .before .before .before .before .before .before .too-short .ensures) ∙ c .before .before .before .before .before .before .before .before .before .before .before .before .if1 .left) (sym (c .before .before .before .before .before .before .before .before .before .before .before .tables-odd .ensures) ∙ c .before .before .before .before .before .before .before .before .before .before .if2 .left) (sym (c .before .before .before .before .before .before .before .before .before .out-of-range .ensures) ∙ c .before .before .before .before .before .before .before .before .if3 .left) (sym (c .before .before .before .before .before .before .before .pairs-fall .ensures) ∙ c .before .before .before .before .before .before .if4 .left) (ap (λ (b : Bool). runsOddOf (a .kind) b (length (a .calls .now)) (a .ends .now) (a .breaks .now)) (sym (c .before .before .before .before .has-break .ensures)) ∙ sym (c .before .before .before .runs-odd .ensures) ∙ c .before .before .if5 .left) (sym (c .before .lateness-pay .ensures) ∙ c .if6 .taken), λ e. absurd (omega arith))
+    (λ cs G. says-4 (given a) cs G (sym (c .before .before .before .before .before .before .before .before .before .before .before .before .before .too-short .ensures) ∙ c .before .before .before .before .before .before .before .before .before .before .before .before .if1 .left) (sym (c .before .before .before .before .before .before .before .before .before .before .before .tables-odd .ensures) ∙ c .before .before .before .before .before .before .before .before .before .before .if2 .left) (sym (c .before .before .before .before .before .before .before .before .before .out-of-range .ensures) ∙ c .before .before .before .before .before .before .before .before .if3 .left) (sym (c .before .before .before .before .before .before .before .pairs-fall .ensures) ∙ c .before .before .before .before .before .before .if4 .left) (ap (λ (b : Bool). runsOddOf (a .kind) b (length (a .calls .now)) (a .ends .now) (a .breaks .now)) (sym (c .before .before .before .before .has-rest .ensures)) ∙ sym (c .before .before .before .runs-odd .ensures) ∙ c .before .before .if5 .left) (sym (c .before .lateness-pay .ensures) ∙ c .if6 .taken), λ e. absurd (omega arith))
 
 returns-7 : tie.Need-returns-7
 returns-7 c =
@@ -91,7 +91,7 @@ returns-7 c =
       distances = fit-table (a .distances .now) _ (λ i k. c .before .before .before .before .before .before .before .before .before .before .before .before .before .before .before .before .before .before .before .before .shared-slice-known .given i);
       times = fit-table (a .times .now) _ (λ i k. c .before .before .before .before .before .before .before .before .before .before .before .before .before .before .before .before .before .before .before .shared-slice-known2 .given i);
     } in (
-      λ cs G. says-0 (given a) cs G (sym (c .before .before .before .before .before .before .before .before .before .before .before .before .before .too-short .ensures) ∙ c .before .before .before .before .before .before .before .before .before .before .before .before .if1 .left) (sym (c .before .before .before .before .before .before .before .before .before .before .before .tables-odd .ensures) ∙ c .before .before .before .before .before .before .before .before .before .before .if2 .left) (sym (c .before .before .before .before .before .before .before .before .before .out-of-range .ensures) ∙ c .before .before .before .before .before .before .before .before .if3 .left) (sym (c .before .before .before .before .before .before .before .pairs-fall .ensures) ∙ c .before .before .before .before .before .before .if4 .left) (ap (λ (b : Bool). runsOddOf (a .kind) b (length (a .calls .now)) (a .ends .now) (a .breaks .now)) (sym (c .before .before .before .before .has-break .ensures)) ∙ sym (c .before .before .before .runs-odd .ensures) ∙ c .before .before .if5 .left) (sym (c .before .lateness-pay .ensures) ∙ c .if6 .left),
+      λ cs G. says-0 (given a) cs G (sym (c .before .before .before .before .before .before .before .before .before .before .before .before .before .too-short .ensures) ∙ c .before .before .before .before .before .before .before .before .before .before .before .before .if1 .left) (sym (c .before .before .before .before .before .before .before .before .before .before .before .tables-odd .ensures) ∙ c .before .before .before .before .before .before .before .before .before .before .if2 .left) (sym (c .before .before .before .before .before .before .before .before .before .out-of-range .ensures) ∙ c .before .before .before .before .before .before .before .before .if3 .left) (sym (c .before .before .before .before .before .before .before .pairs-fall .ensures) ∙ c .before .before .before .before .before .before .if4 .left) (ap (λ (b : Bool). runsOddOf (a .kind) b (length (a .calls .now)) (a .ends .now) (a .breaks .now)) (sym (c .before .before .before .before .has-rest .ensures)) ∙ sym (c .before .before .before .runs-odd .ensures) ∙ c .before .before .if5 .left) (sym (c .before .lateness-pay .ensures) ∙ c .if6 .left),
       λ e cs G. given-image (given a) cs G (sym (c .before .before .before .before .before .before .before .before .before .before .before .before .before .too-short .ensures) ∙ c .before .before .before .before .before .before .before .before .before .before .before .before .if1 .left) (sym (c .before .before .before .before .before .before .before .before .before .before .before .tables-odd .ensures) ∙ c .before .before .before .before .before .before .before .before .before .before .if2 .left) (sym (c .before .before .before .before .before .before .before .before .before .out-of-range .ensures) ∙ c .before .before .before .before .before .before .before .before .if3 .left) fitting,
     )
 
@@ -107,7 +107,7 @@ refusal-spec =
     returns-3
     pairs-fall-requires
     returns-4
-    has-break-requires
+    has-rest-requires
     runs-odd-requires
     returns-5
     lateness-pay-requires

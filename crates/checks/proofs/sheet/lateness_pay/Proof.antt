@@ -4,15 +4,15 @@ use borrow.Author.Needs.{needs}
 use Rattle.checks.proofs.sheet.lateness_pay.Statement.{statement}
 use Rattle.checks.proofs.sheet.lateness_pay.Tie as tie
 
-any-fits-requires : tie.Need-any-fits-requires
-any-fits-requires c κs = search needs
+any-applies-requires : tie.Need-any-applies-requires
+any-applies-requires c κs = search needs
 
 returns : tie.Need-returns
 unfolding anySoft
-returns c = rw (c .before .if1 .taken) (c .any-fits .ensures)
+returns c = rw (c .before .if1 .taken) (c .any-applies .ensures)
 
 returns-2 : tie.Need-returns-2
 returns-2 c = rw (c .if1 .left)
 
 pub lateness-pay-spec : {M : Type 1} → statement M
-lateness-pay-spec = tie.close (tie.spec any-fits-requires returns returns-2)
+lateness-pay-spec = tie.close (tie.spec any-applies-requires returns returns-2)

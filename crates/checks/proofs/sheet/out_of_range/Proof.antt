@@ -26,14 +26,14 @@ returns-2 c =
     let a = s .args in
     depot-bad (a .head) (a .t2) (a .distances .now) (a .times .now) (a .tour .now) (a .calls .now) (sym (c .before .before .before .before .bad-head .ensures) ∙ c .before .before .before .if1 .left) _ (s .good .1 .0 .1 .0 .1) (sym (c .before .bad-depot .ensures) ∙ c .if2 .taken)
 
-any-fits-requires : tie.Need-any-fits-requires
-any-fits-requires c κs = search needs
+any-applies-requires : tie.Need-any-applies-requires
+any-applies-requires c κs = search needs
 
 returns-3 : tie.Need-returns-3
 returns-3 c =
     let s = c .before .before .before .before .before .before .before .before .before .before .before in
     let a = s .args in
-    customer-bad (a .head) (a .t2) (a .distances .now) (a .times .now) (a .tour .now) (a .calls .now) (sym (c .before .before .before .before .before .before .bad-head .ensures) ∙ c .before .before .before .before .before .if1 .left) _ (s .good .1 .0 .1 .0 .1) (sym (c .before .before .before .bad-depot .ensures) ∙ c .before .before .if2 .left) (sym (c .before .any-fits .ensures) ∙ c .if3 .taken)
+    customer-bad (a .head) (a .t2) (a .distances .now) (a .times .now) (a .tour .now) (a .calls .now) (sym (c .before .before .before .before .before .before .bad-head .ensures) ∙ c .before .before .before .before .before .if1 .left) _ (s .good .1 .0 .1 .0 .1) (sym (c .before .before .before .bad-depot .ensures) ∙ c .before .before .if2 .left) (sym (c .before .any-applies .ensures) ∙ c .if3 .taken)
 
 bad-tables-requires : tie.Need-bad-tables-requires
 bad-tables-requires c κs = search needs
@@ -42,7 +42,7 @@ returns-4 : tie.Need-returns-4
 returns-4 c =
     let s = c .before .before .before .before .before .before .before .before .before .before .before .before .before in
     let a = s .args in
-    table-bad (a .head) (a .t2) (a .distances .now) (a .times .now) (a .tour .now) (a .calls .now) (sym (c .before .before .before .before .before .before .before .before .bad-head .ensures) ∙ c .before .before .before .before .before .before .before .if1 .left) _ (s .good .1 .0 .1 .0 .1) (sym (c .before .before .before .before .before .bad-depot .ensures) ∙ c .before .before .before .before .if2 .left) (sym (c .before .before .before .any-fits .ensures) ∙ c .before .before .if3 .left) (sym (c .before .bad-tables .ensures) ∙ c .if4 .taken)
+    table-bad (a .head) (a .t2) (a .distances .now) (a .times .now) (a .tour .now) (a .calls .now) (sym (c .before .before .before .before .before .before .before .before .bad-head .ensures) ∙ c .before .before .before .before .before .before .before .if1 .left) _ (s .good .1 .0 .1 .0 .1) (sym (c .before .before .before .before .before .bad-depot .ensures) ∙ c .before .before .before .before .if2 .left) (sym (c .before .before .before .any-applies .ensures) ∙ c .before .before .if3 .left) (sym (c .before .bad-tables .ensures) ∙ c .if4 .taken)
 
 bad-tour-requires : tie.Need-bad-tour-requires
 bad-tour-requires c κs = search needs
@@ -55,7 +55,7 @@ returns-5 c =
     let s = c .before .before .before .before .before .before .before .before .before .before .before .before .before .before .before in
     let a = s .args in
     rw (c .before .bad-tour .ensures, c .bad-run-list .ensures)
-    (lists-left (a .head) (a .t2) (a .distances .now) (a .times .now) (a .tour .now) (a .calls .now) (sym (c .before .before .before .before .before .before .before .before .before .before .bad-head .ensures) ∙ c .before .before .before .before .before .before .before .before .before .if1 .left) _ (s .good .1 .0 .1 .0 .1) (sym (c .before .before .before .before .before .before .before .bad-depot .ensures) ∙ c .before .before .before .before .before .before .if2 .left) (sym (c .before .before .before .before .before .any-fits .ensures) ∙ c .before .before .before .before .if3 .left) (sym (c .before .before .before .bad-tables .ensures) ∙ c .before .before .if4 .left))
+    (lists-left (a .head) (a .t2) (a .distances .now) (a .times .now) (a .tour .now) (a .calls .now) (sym (c .before .before .before .before .before .before .before .before .before .before .bad-head .ensures) ∙ c .before .before .before .before .before .before .before .before .before .if1 .left) _ (s .good .1 .0 .1 .0 .1) (sym (c .before .before .before .before .before .before .before .bad-depot .ensures) ∙ c .before .before .before .before .before .before .if2 .left) (sym (c .before .before .before .before .before .any-applies .ensures) ∙ c .before .before .before .before .if3 .left) (sym (c .before .before .before .bad-tables .ensures) ∙ c .before .before .if4 .left))
 
 pub out-of-range-spec : {M : Type 1} → statement M
 out-of-range-spec =
@@ -66,7 +66,7 @@ out-of-range-spec =
     array-copy-out-depot
     bad-depot-requires
     returns-2
-    any-fits-requires
+    any-applies-requires
     returns-3
     bad-tables-requires
     returns-4

@@ -7,12 +7,12 @@ use Rattle.checks.proofs.sheet.pairs_fall.Tie as tie
 break-falls-requires : tie.Need-break-falls-requires
 break-falls-requires c κs = search needs
 
-any-fits-requires : tie.Need-any-fits-requires
-any-fits-requires c κs = search needs
+any-applies-requires : tie.Need-any-applies-requires
+any-applies-requires c κs = search needs
 
 returns : tie.Need-returns
 unfolding pairsFallF
-returns c = rw (c .before .break-falls .ensures, c .any-fits .ensures)
+returns c = rw (c .before .break-falls .ensures, c .any-applies .ensures)
 
 pub pairs-fall-spec : {M : Type 1} → statement M
-pairs-fall-spec = tie.close (tie.spec break-falls-requires any-fits-requires returns)
+pairs-fall-spec = tie.close (tie.spec break-falls-requires any-applies-requires returns)

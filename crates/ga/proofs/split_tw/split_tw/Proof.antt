@@ -10,7 +10,7 @@ use Rattle.stretch.specs.Runs.{lent, tariff}
 use Rattle.holding.specs.Drops.{dropsF}
 use Rattle.ga.specs.SplitTw.{splitTwF}
 use Rattle.ga.proofs.Stayed.{each-counted}
-use Rattle.ga.proofs.Answering.{lent-few, few-ends, ends-written, answered}
+use Rattle.split.proofs.Answering.{lent-few, few-ends, ends-written, answered}
 use borrow.Author.Needs.{needs}
 use Rattle.ga.proofs.split_tw.split_tw.Statement.{statement}
 use Rattle.ga.proofs.split_tw.split_tw.Tie as tie

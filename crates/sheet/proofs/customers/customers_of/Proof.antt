@@ -2,13 +2,14 @@
 use Prim.Native.Nat.{_-_}
 use native.Mathlib.Omega.{arith}
 use mathlib.Core.List.{[], _∷_, map}
-use mathlib.Core.Path.{refl, sym, _∙_}
+use mathlib.Core.Path.{refl, sym, ap, _∙_}
 use borrow.Author.Needs.{needs}
 use Rattle.definitions.specs.Reader.{customersOf, sheetOf}
 use Rattle.definitions.specs.Words.{wordsOf}
 use Rattle.definitions.specs.Sheet.{depot}
 use Rattle.models.specs.Image.{flCustomer}
 use Rattle.models.specs.Records.{customerOf}
+use Rattle.models.proofs.Depot.{depots-image}
 use Rattle.sheet.specs.Parts.{depots}
 use Rattle.sheet.proofs.Writing.{Wrote, set-out, turn, kept, ended, full}
 use Rattle.sheet.proofs.Picking.{customers-picked}
@@ -34,7 +35,7 @@ find-requires c κs = search needs
 
 loop-holds : tie.Need-loop-holds Inv-loop μ-loop
 loop-holds c =
-    rw (c .before .depots .ensures)
+    rw (ap (map customerOf) (c .before .depots .ensures) ∙ depots-image)
     (set-out customers-picked (flCustomer depot ∷ []) (wordsOf (c .before .before .before .before .args .bytes .now)) depots (c .find .result) (c .find .ensures) (omega arith))
 
 returns : tie.Need-returns Inv-loop μ-loop

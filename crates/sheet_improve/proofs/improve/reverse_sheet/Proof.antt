@@ -45,8 +45,8 @@ returns c s tour e =
     let x = c .before .before .before .before .before .before .before in
     let a = x .before .before .before .before .before .before .before .args in
     let l = x .load .result in
-    let distances = take (l .far) (x .load .last .1 .0) in
-    let times = take (l .long) (x .load .last .1 .1 .0) in
+    let distances = take (l .«distance_count») (x .load .last .1 .0) in
+    let times = take (l .«time_count») (x .load .last .1 .1 .0) in
     let visited = take (l .calls) (x .load .last .1 .1 .1 .0) in
     let done = c .before .before .two-opt-improve in
     reversed-on s visited (l .head) (l .customers) distances times (x .load .ensures s tour e .in-memory) (now (a .run)) (now (a .improved)) (done .result) (done .last .1 .1 .1 .1 .1 .1 .0) (done .ensures)

@@ -57,8 +57,8 @@ returns c s tour e =
     let H = x .load .ensures s tour e in
     let M = H .in-memory in
     let visited = take (l .calls) (x .load .last .1 .1 .1 .0) in
-    let distances = take (l .far) (x .load .last .1 .0) in
-    let times = take (l .long) (x .load .last .1 .1 .0) in
+    let distances = take (l .«distance_count») (x .load .last .1 .0) in
+    let times = take (l .«time_count») (x .load .last .1 .1 .0) in
     marked-on s visited (l .head) (l .customers) distances times M (now (a .calls)) (now (a .ends)) (now (a .places)) tour (calls-are H) (c .mark .result) (c .mark .ensures)
 
 pub mark-sheet-spec : {M : Type 1} → statement M

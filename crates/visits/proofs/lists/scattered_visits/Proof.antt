@@ -12,10 +12,6 @@ use Rattle.lending.proofs.fitting as fitting′
 use Rattle.lending.proofs.fitting.Symbol as fitting-def
 use Rattle.lending.proofs.fitting.Symbol.{name as #fitting}
 use Rattle.lending.proofs.fitting.Met as fitting-thm
-use Rattle.visits.proofs.lists.picked_visit as picked′
-use Rattle.visits.proofs.lists.picked_visit.Symbol as picked-def
-use Rattle.visits.proofs.lists.picked_visit.Symbol.{name as #picked}
-use Rattle.visits.proofs.lists.picked_visit.Met as picked-thm
 use Rattle.visits.proofs.lists.scattered_visits.Key.{name as #scattered}
 use Rattle.visits.proofs.lists.scattered_visits as scattered′
 use Rattle.visits.proofs.lists.scattered_visits.Statement as stated
@@ -26,7 +22,5 @@ unfolding code.routine tablesOf
 scattered-visits-spec 𝓤 H 𝓜 𝓖 𝓡 =
     entered 𝓤 H (tripleOf 𝓤 H (𝓖 .A) scattered′.signature (scattered′.spec 𝓤 H (𝓖 .A) (𝓜 .mem) (𝓡 .run)))
     (tables 𝓤 H 𝓜 𝓡 code.env .C) (tables 𝓤 H 𝓜 𝓡 code.env .Λ) #scattered code.function (code.unfolded 𝓤 H 𝓜 𝓡)
-    (meets T.the-type T′.the-laws T′.the-plain 128 tt tt blankVisit #picked (λ xs. tt) (λ xs f. refl) 𝓤 H (𝓖 .A) (givenOf 𝓤 H 𝓜 𝓖) (𝓜 .mem) (𝓡 .run) (tablesOf 𝓤 H 𝓜 (tables 𝓤 H 𝓜 𝓡 code.env)) (
-      cited 𝓤 H (Met 𝓤 H (𝓖 .A) picked′.ended (picked′.clauses 𝓤 H (𝓖 .A) (𝓜 .mem) (𝓡 .run))) 𝓜 𝓡 code.env #picked picked-def.routine code.calls-visits·lists·picked-visit (picked-thm.met 𝓤 H 𝓜 𝓖 𝓡),
-      cited 𝓤 H (Met 𝓤 H (𝓖 .A) fitting′.ended (fitting′.clauses 𝓤 H (𝓖 .A) (𝓜 .mem) (𝓡 .run))) 𝓜 𝓡 code.env #fitting fitting-def.routine code.calls-lending·fitting (fitting-thm.met 𝓤 H 𝓜 𝓖 𝓡),
-    ))
+    (meets T.the-type T′.the-laws T′.the-plain 128 tt tt blankVisit (λ xs. tt) (λ xs f. refl) 𝓤 H (𝓖 .A) (givenOf 𝓤 H 𝓜 𝓖) (𝓜 .mem) (𝓡 .run) (tablesOf 𝓤 H 𝓜 (tables 𝓤 H 𝓜 𝓡 code.env))
+    (cited 𝓤 H (Met 𝓤 H (𝓖 .A) fitting′.ended (fitting′.clauses 𝓤 H (𝓖 .A) (𝓜 .mem) (𝓡 .run))) 𝓜 𝓡 code.env #fitting fitting-def.routine code.calls-lending·fitting (fitting-thm.met 𝓤 H 𝓜 𝓖 𝓡)))

@@ -1,0 +1,12 @@
+-- `customer::depot` meets its contract. The code's 0.0 is a bit pattern. Assumes nothing.
+use mathlib.Core.Path.{refl}
+use lib.Ieee.{ofBits}
+use Rattle.models.proofs.customer.depot.Statement.{statement}
+use Rattle.models.proofs.customer.depot.Tie as tie
+
+returns : tie.Need-returns
+unfolding ofBits
+returns c = refl
+
+pub depot-spec : {M : Type 1} → statement M
+depot-spec = tie.close (tie.spec returns)

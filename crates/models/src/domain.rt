@@ -1,0 +1,33 @@
+// What the numbers of a sheet may be.
+ghost use mathlib.Core.Path.{_≡_};
+ghost use Rattle.definitions.specs.Domain.{isCapacity, isDemand, isPenalty, isNumber};
+
+pub const MOST_NUMBER: u32 = 10_000_000;
+
+pub const MOST_PENALTY: u32 = 1_000;
+
+pub fn is_capacity(n: u32) -> bool
+    ensures { λ r. ⌜ r ≡ isCapacity n ⌝ }
+{
+    n <= 1_000_000
+}
+
+pub fn is_demand(n: u32) -> bool
+    ensures { λ r. ⌜ r ≡ isDemand n ⌝ }
+{
+    n <= 32_767
+}
+
+// A lateness penalty.
+pub fn is_penalty(n: u32) -> bool
+    ensures { λ r. ⌜ r ≡ isPenalty n ⌝ }
+{
+    n <= MOST_PENALTY
+}
+
+// Every distance, time, service, window end, break number, limit and fixed run cost.
+pub fn is_number(n: u32) -> bool
+    ensures { λ r. ⌜ r ≡ isNumber n ⌝ }
+{
+    n <= MOST_NUMBER
+}
