@@ -52,8 +52,10 @@ impl Features {
         self.count("with a call too heavy", answer.contains("dropped "));
         let reversed = lines(answer, "reversed ");
         self.count("without lateness pay", !reversed.is_empty());
-        let turned = std::iter::zip(&reversed, routes).any(|(new, old)| new[1..] != old[..]);
-        self.count("with a run turned", turned);
+        let turned = std::iter::zip(&reversed, routes).filter(|(new, old)| new[1..] != old[..]);
+        let turned = turned.map(|(_, old)| old.len()).max().unwrap_or(0);
+        self.count("with a run turned", turned > 0);
+        self.count("with a run of 100 calls or more turned", turned >= LONG);
         let filled = routes.iter().filter(|route| !route.is_empty()).count();
         let left = lines(answer, "left ").len();
         self.count("with a run eliminated", 0 < left && left < filled);

@@ -10,6 +10,8 @@ struct Scale {
     service: u32,
     /// Windows, break and limits lie within a few times this.
     day: u32,
+    /// One customer in so many has a window.
+    windows: u32,
     /// Capacity, fixed cost and penalty now and then lie anywhere in their range.
     whole_range: bool,
     /// Every word is there that may stand in a sheet.
@@ -23,6 +25,7 @@ const SMALL: Scale = Scale {
     leg: 12,
     service: 3,
     day: 12,
+    windows: 2,
     whole_range: false,
     full: false,
 };
@@ -46,11 +49,12 @@ pub fn medium(source: &mut Source) -> Vec<u32> {
     sheet(source, &MEDIUM, places, calls)
 }
 
-/// Two to twelve places and 100 to 128 calls; some such that many calls, or all, fit one run.
+/// Two to twelve places and 100 to 128 calls; some such that a run of many calls, or of all, is legal.
 pub fn long(source: &mut Source) -> Vec<u32> {
     let scale = Scale {
         capacity: source.one_of(&[12, 60, 400]),
-        day: source.one_of(&[12, 120, 800]),
+        day: source.one_of(&[12, 120, 800, 800]),
+        windows: source.one_of(&[2, 40]),
         ..MEDIUM
     };
     let places = 2 + source.below(11);
@@ -72,7 +76,7 @@ pub fn full(source: &mut Source) -> Vec<u32> {
     sheet(source, &scale, 64, 128)
 }
 
-/// Legs in tens, thousands, or of the whole range, and a day of one leg or of many.
+/// Legs in tens, thousands, or of the whole range, a day of one leg or of many, and many windows or few.
 fn wide(source: &mut Source, full: bool) -> Scale {
     let leg = source.one_of(&[30, 1_000, most(0xC) + 1]);
     Scale {
@@ -81,6 +85,7 @@ fn wide(source: &mut Source, full: bool) -> Scale {
         leg,
         service: source.one_of(&[10, 1_000, leg]),
         day: (leg * source.one_of(&[1, 8, 64])).min(most(5)),
+        windows: source.one_of(&[2, 200]),
         whole_range: true,
         full,
     }
@@ -133,7 +138,7 @@ fn limits(source: &mut Source, scale: &Scale, words: &mut Vec<u32>) {
 fn customer(source: &mut Source, scale: &Scale, words: &mut Vec<u32>) {
     words.push(word(7, source.below(scale.demand)));
     words.push(word(8, source.below(scale.service)));
-    if scale.full || source.one_in(2) {
+    if scale.full || source.one_in(scale.windows) {
         let ready = source.below(scale.day + 3);
         let due = ready + source.below(scale.day);
         words.push(word(9, ready.min(most(9))));

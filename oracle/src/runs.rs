@@ -33,7 +33,7 @@ pub fn write(seed: u64, count: usize) {
     eprintln!("{features}");
 }
 
-/// An accepted sheet. Of two hundred 170 are medium, 25 long, four large and one full; at least two of three have no lateness pay.
+/// An accepted sheet. Of two hundred 170 are medium, 25 long, four large and one full. Of four at most one has lateness pay, and one has nothing that makes a run infeasible.
 fn sheet(source: &mut Source, number: usize) -> Vec<u32> {
     let mut words = match number % 40 {
         0..34 => random::medium(source),
@@ -41,15 +41,27 @@ fn sheet(source: &mut Source, number: usize) -> Vec<u32> {
         _ if number % 200 == 199 => random::full(source),
         _ => random::large(source),
     };
-    if !source.one_in(3) {
-        words = without_pay(&words);
-    }
+    words = match source.below(4) {
+        0 => words,
+        1 => unconstrained(&words),
+        _ => without_pay(&words),
+    };
     let mut moved = words.clone();
     on_edge(source, &mut moved);
     if reader::words(&bytes(&moved)).is_ok() {
         words = moved;
     }
     words
+}
+
+/// The same sheet without limits, break and windows.
+fn unconstrained(words: &[u32]) -> Vec<u32> {
+    let before = words[..words.len() - 1].iter().copied();
+    ended(
+        before
+            .filter(|&w| ![4, 5, 6, 9, 0xA].contains(&kind(w)))
+            .collect(),
+    )
 }
 
 /// The same sheet without the penalties of customers that have a window.

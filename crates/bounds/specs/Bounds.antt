@@ -8,7 +8,7 @@ use mathlib.Core.Option.{Option, none, some}
 use lib.ListN.{length, take, getD, length-take}
 use Rattle.basics.specs.Tests.{by-test}
 use Rattle.basics.specs.Options.{_>>=_, holds, Holds, valueOr, same, clash, bound}
-use Rattle.definitions.specs.Domain.{mostCalls}
+use Rattle.definitions.specs.Domain.{mostCalls, mostNumber, mostDemand, mostPenalty}
 use Rattle.definitions.specs.Sheet.{Window, Break, Customer, Sheet, customer, distance, time}
 use Rattle.definitions.specs.Window.{late, lateness, begins, Entry, enter}
 use Rattle.definitions.specs.Limits.{excused}
@@ -16,7 +16,7 @@ use Rattle.definitions.specs.Run.{tooLate, ready, Label, start, placeAfter, ser
 use Rattle.definitions.specs.Clock.{Clock, sooner, smaller, tick, clockFrom, counts, clock, startOf}
 use Rattle.definitions.specs.Visits.{readyFor, entered, visited, lastLabel}
 use Rattle.whole.specs.Whole.{limit}
-use Rattle.bounds.specs.Inside.{mostNumber, mostDemand, mostPenalty, Small, SmallWindow, SmallBreak, SmallCustomer, Sized, distance-small, time-small, customer-small, break-small}
+use Rattle.bounds.specs.Inside.{Small, SmallWindow, SmallBreak, SmallCustomer, Sized, distance-small, time-small, customer-small, break-small}
 
 -- ---- the bounds
 

@@ -9,7 +9,7 @@ use lib.ListN.{length, length-append, length-map}
 use Rattle.basics.specs.Tests.{and-left}
 use Rattle.basics.specs.Options.{valueOr, granted, unbound, clash}
 use Rattle.basics.specs.Lists.{isEmpty, sum, All, length-count}
-use Rattle.definitions.specs.Domain.{mostCalls}
+use Rattle.definitions.specs.Domain.{mostCalls, mostNumber}
 use Rattle.definitions.specs.Sheet.{Sheet}
 use Rattle.definitions.specs.Run.{Run, distanceFrom, Totals, ride, fits, price, payOf, runCost}
 use Rattle.definitions.specs.Clock.{clock, Arc, arc}
@@ -21,7 +21,7 @@ use Rattle.definitions.proofs.Legality.{arc-clock}
 use Rattle.definitions.proofs.Least.{Reach, more, Made, best-reach, best-of}
 use Rattle.definitions.proofs.Dropping.{drops-parts}
 use Rattle.definitions.proofs.LegLaws as Legs
-use Rattle.bounds.specs.Inside.{mostNumber, Small, Sized}
+use Rattle.bounds.specs.Inside.{Small, Sized}
 use Rattle.whole.specs.Whole.{limit}
 use Rattle.bounds.specs.Bounds.{mostPay, legs-most, distance-most, ride-most, clock-most}
 

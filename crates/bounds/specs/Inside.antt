@@ -13,25 +13,14 @@ use borrow.Author.Tests.{leb-true, ltb-true, ltb-false, lt-ltb, eqb-true}
 use Rattle.basics.specs.Tests.{by-test, or-left, or-right, not-false, and-left, and-right}
 use Rattle.basics.specs.Options.{Holds}
 use Rattle.basics.specs.Lists.{isEmpty, any, sum, All, Same, all-imp, any-fails, fails-not}
-use Rattle.definitions.specs.Domain.{isPlaces, isNumber, isCall, mostCalls}
+use Rattle.definitions.specs.Domain.{isPlaces, isNumber, isCall, mostCalls, mostNumber, mostDemand, mostPenalty}
 use Rattle.definitions.specs.Sheet.{Window, Break, Customer, Sheet, records, depot, customer, distance, timeTable, time}
 use Rattle.definitions.specs.Run.{lastOf, breakAt}
 use Rattle.definitions.specs.Drop.{callsAt}
 use Rattle.definitions.specs.Refusals.{unfit, badOptional, badBreak, badWindow, badCustomer, Within, WithinCalls}
 use Rattle.definitions.proofs.Ranges.{in-range, tables-even, break-in-range, window-in-range, customer-in-range}
 
--- ---- the most that the Domain allows
-
--- every distance, time, service, window end, break number, limit and fixed run cost
-abbrev pub mostNumber : ℕ
-mostNumber = 10000000
-
-abbrev pub mostDemand : ℕ
-mostDemand = 32767
-
--- a lateness penalty
-abbrev pub mostPenalty : ℕ
-mostPenalty = 1000
+-- ---- what the Domain allows
 
 abbrev pub Small : ℕ → Type 0
 Small n = n ≤ mostNumber

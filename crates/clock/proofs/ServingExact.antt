@@ -9,13 +9,13 @@ use lib.Ieee as Ieee
 use lib.Ieee.{binary64}
 use Rattle.basics.specs.Tests.{by-test}
 use Rattle.basics.specs.Options.{_>>=_, Holds}
-use Rattle.definitions.specs.Domain.{mostCalls}
+use Rattle.definitions.specs.Domain.{mostCalls, mostPenalty}
 use Rattle.definitions.specs.Sheet.{Window, Break, Customer}
 use Rattle.definitions.specs.Window.{late, lateness, Entry, enter}
 use Rattle.definitions.specs.Run as Whole
 use Rattle.definitions.specs.Run.{breakStart, tooLate, ready, placeAfter, serveAt}
 use Rattle.definitions.specs.Clock.{smaller, sooner}
-use Rattle.bounds.specs.Inside.{Small, SmallWindow, SmallBreak, SmallCustomer, mostPenalty}
+use Rattle.bounds.specs.Inside.{Small, SmallWindow, SmallBreak, SmallCustomer}
 use Rattle.bounds.specs.Bounds.{Early, arriveBy, readyBy, ready-most, enter-most, late-pay-most, LabelFits}
 use Rattle.whole.specs.Whole.{fl, fl-add, fl-mul, fl-lt, fl-eq}
 use Rattle.whole.specs.Later.{later-fl}

@@ -10,8 +10,8 @@ use lib.Dec.{leb}
 use borrow.Author.Tests.{leb-true, leb-false, le-leb, lt-leb}
 use Rattle.basics.specs.Tests.{by-test}
 use Rattle.basics.specs.Lists.{count, All, all-imp}
-use Rattle.bounds.specs.Inside.{mostNumber, Sized, Place}
-use Rattle.definitions.specs.Domain.{mostCalls}
+use Rattle.bounds.specs.Inside.{Sized, Place}
+use Rattle.definitions.specs.Domain.{mostCalls, mostNumber}
 use Rattle.definitions.specs.Sheet.{Sheet, distance}
 use Rattle.definitions.specs.Run as Run
 use Rattle.definitions.specs.Sort.{rising, sort}

@@ -13,9 +13,9 @@ use lib.Ieee.{Float, inf, fin}
 use borrow.Author.Tests.{ltb-true, ltb-false}
 use Rattle.basics.specs.Tests.{by-test}
 use Rattle.basics.specs.Lists.{sum, All}
-use Rattle.bounds.specs.Inside.{mostNumber, Sized, Place, depot-inside, call-inside, distance-small}
+use Rattle.bounds.specs.Inside.{Sized, Place, depot-inside, call-inside, distance-small}
 use Rattle.bounds.specs.Bounds.{distance-most}
-use Rattle.definitions.specs.Domain.{mostCalls}
+use Rattle.definitions.specs.Domain.{mostCalls, mostNumber}
 use Rattle.definitions.specs.Sheet.{Sheet, customer, distance}
 use Rattle.definitions.specs.Run.{load, fits}
 use Rattle.definitions.specs.RunList.{callsOf}

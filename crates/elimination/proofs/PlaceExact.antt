@@ -13,8 +13,8 @@ use borrow.Author.Tests.{leb-true, leb-false, lt-ltb, ltb-true}
 use Rattle.basics.specs.Tests.{by-test}
 use Rattle.basics.specs.Options.{_>>=_, Holds}
 use Rattle.basics.specs.Lists.{All, all-imp}
-use Rattle.bounds.specs.Inside.{mostNumber, Sized, Place}
-use Rattle.definitions.specs.Domain.{mostCalls}
+use Rattle.bounds.specs.Inside.{Sized, Place}
+use Rattle.definitions.specs.Domain.{mostCalls, mostNumber}
 use Rattle.definitions.specs.Sheet.{Sheet}
 use Rattle.definitions.specs.Sort.{rising, sort}
 use Rattle.definitions.specs.Improver.{givenOf, total, allowed}

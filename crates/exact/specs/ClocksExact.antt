@@ -14,9 +14,9 @@ use borrow.Author.Tests.{ltb-true, ltb-false, ne-eqb}
 use Rattle.basics.specs.Tests.{by-test}
 use Rattle.basics.specs.Options.{_>>=_, Holds, same}
 use Rattle.basics.specs.Lists.{All}
-use Rattle.bounds.specs.Inside.{Small, SmallWindow, SmallCustomer, mostPenalty, Sized, Place, all-take, depot-inside, last-inside, call-inside, time-small, customer-small}
+use Rattle.bounds.specs.Inside.{Small, SmallWindow, SmallCustomer, Sized, Place, all-take, depot-inside, last-inside, call-inside, time-small, customer-small}
 use Rattle.bounds.specs.Bounds.{mostPay, Early, readyBy, enter-most, late-pay-most, serve-all-most, distance-most}
-use Rattle.definitions.specs.Domain.{mostCalls}
+use Rattle.definitions.specs.Domain.{mostCalls, mostPenalty}
 use Rattle.definitions.specs.Sheet.{Window, Break, Customer, Sheet, customer, time}
 use Rattle.definitions.specs.Window.{late, lateness, Entry, enter}
 use Rattle.definitions.specs.Run.{Label, start, ready, serveAt, serve, serveAll, breakAt, lastOf, distanceFrom, Totals, home}

@@ -11,8 +11,8 @@ use lib.Ieee as Ieee
 use lib.Ieee.{Float, binary64}
 use borrow.Author.Tests.{le-leb, ne-eqb}
 use Rattle.basics.specs.Lists.{All, sum-append}
-use Rattle.bounds.specs.Inside.{mostNumber, Sized, Place, depot-inside, call-inside, distance-small}
-use Rattle.definitions.specs.Domain.{mostCalls}
+use Rattle.bounds.specs.Inside.{Sized, Place, depot-inside, call-inside, distance-small}
+use Rattle.definitions.specs.Domain.{mostCalls, mostNumber}
 use Rattle.definitions.specs.Sheet.{Sheet, customer, distance}
 use Rattle.definitions.specs.Run.{lastOf, legsFrom, distanceFrom, load, fits}
 use Rattle.whole.specs.Whole.{fl, limit, fl-sum}

@@ -12,7 +12,7 @@ use lib.Ieee as Ieee
 use lib.Ieee.{Float, inf}
 use Rattle.basics.specs.Options.{Holds, present}
 use Rattle.basics.specs.Lists.{All, sum, sum-append}
-use Rattle.bounds.specs.Inside.{mostNumber, Sized, Place, all-drop}
+use Rattle.bounds.specs.Inside.{Sized, Place, all-drop}
 use Rattle.bounds.specs.Bounds.{distance-most}
 use Rattle.bounds.specs.CostBounds.{mostCost, mostFar, cost-fits, Priced, best-most}
 use Rattle.cutting.specs.Cut.{Rule, best}
@@ -20,7 +20,7 @@ use Rattle.cutting.specs.Rows.{Legs, rule64}
 use Rattle.cutting.specs.Floats.{lt-inf}
 use Rattle.cutting.specs.Priced.{strict}
 use Rattle.cutting.specs.Carried.{Carry, carryAll, far-ends}
-use Rattle.definitions.specs.Domain.{mostCalls}
+use Rattle.definitions.specs.Domain.{mostCalls, mostNumber}
 use Rattle.definitions.specs.Sheet.{Sheet, distance}
 use Rattle.definitions.specs.Run.{distanceFrom, price}
 use Rattle.definitions.specs.RunList.{callsOf, endsFrom}

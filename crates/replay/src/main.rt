@@ -38,7 +38,7 @@ fn alike(question: &[u8], recorded: &[u8]) -> bool {
     false
 }
 
-// Reads a question and its recorded answer, and compares. A question has a byte for its kind, a sheet of at most 34,576 bytes and at most 129 bytes for run ends; an answer has fewer than 65,536.
+// Reads a question and its recorded answer, and compares. A question has a byte for its kind, and a sheet of at most 34,576 bytes behind at most 129 bytes for run ends, or alone with as many bytes too many; an answer has fewer than 65,536.
 // No contract can say what is read.
 fn next() -> Seen {
     let mut question = [0u8; 34706];
