@@ -6,7 +6,7 @@ pub mod Schedule
 -- The way with no break, and the evaluations of a run, on floats.
 pub mod Way
 pub mod Route
--- Whether a run has to be asked for.
+-- Whether `route_feasible` has to be asked.
 pub mod Checks
 -- A sheet of whole numbers, and what its runs come to, held in floats.
 pub mod Image

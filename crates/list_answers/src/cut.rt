@@ -2,14 +2,14 @@
 ghost use Prim.Native.Nat.{_≤_};
 ghost use lib.ListN.{length};
 ghost use Rattle.run_answers.specs.Along.{Inside};
-use split::split::SplitResult;
-use split::split::split;
 use models::count::fewer;
 use plan_listing::held::Loaded;
 use run_answers::recorded::UNLIKE;
 use run_answers::recorded::calls;
 use run_answers::recorded::figure;
 use run_answers::recorded::word;
+use split::split::SplitResult;
+use split::split::split;
 
 // The served customers, the run ends and the dropped positions, at the front of the lists.
 fn cut(
