@@ -50,6 +50,7 @@ pub mod GivenRuns
 pub mod Marking
 pub mod Faults
 pub mod GivenMarks
+pub mod OwnMark
 pub mod MarkCases
 -- The improvers.
 pub mod Sums

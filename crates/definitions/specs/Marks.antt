@@ -1,4 +1,4 @@
--- What each mark means: what a reader takes from a verdict, without the order of the marker's tests. Definitions only.
+-- What each mark means, verdict by verdict. Definitions only.
 use Prim.Native.Nat.{ℕ, suc, _+_, _≤_, _<_}
 use mathlib.Core.Path.{_≡_}
 use mathlib.Core.Bool.{true, cond, not}
