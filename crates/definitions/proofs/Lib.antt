@@ -4,20 +4,10 @@ pub mod Bench
 pub mod Cases
 pub mod ListingCases
 pub mod Decimal
--- The reader: what `encode` writes is read back, and only that is accepted; the leftmost bad word counts.
+-- The reader: the leftmost bad word counts. (That what `encode` writes is read back, and only that is accepted, is in crates/round_trip.)
 pub mod ReaderCases
-pub mod ByKind
-pub mod Says
 pub mod Ranges
-pub mod Good
-pub mod Accepts
-pub mod ReadsBack
-pub mod Inverts
-pub mod OnlySheets
-pub mod Bytes
-pub mod Files
 pub mod Leftmost
-pub mod Enough
 -- The refusals of the other calls, and what an accepted call is known to be.
 pub mod RefusalCases
 pub mod Accepted

@@ -10,7 +10,7 @@ use borrow.Author.Tests.{leb-true, leb-false}
 use Rattle.basics.specs.Tests.{by-test}
 use Rattle.definitions.specs.Reader.{read}
 use Rattle.definitions.specs.Listing.{readingText, listing}
-use Rattle.definitions.proofs.Enough.{SomeByte, enough}
+use Rattle.round_trip.proofs.Enough.{SomeByte, enough}
 
 some-byte : (bs : List ℕ) → 1 ≤ length bs → SomeByte bs
 some-byte [] h = absurd (none h)

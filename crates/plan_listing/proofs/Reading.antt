@@ -12,7 +12,7 @@ use Rattle.definitions.specs.Words.{wordsOf, leftOver}
 use Rattle.definitions.specs.Reader.{Outcome, accepted, refused, Reading, sheet, refusedAt, answer, walk, start, readWords, read, sheetOf, tourOf}
 use Rattle.definitions.specs.Room.{written}
 use Rattle.definitions.specs.Listing.{planText, refusalText, readingText, listing}
-use Rattle.definitions.proofs.OnlySheets.{Is, only-sheets}
+use Rattle.round_trip.proofs.OnlySheets.{Is, only-sheets}
 use Rattle.models.specs.declared.customer.Customer.{Customer}
 use Rattle.models.specs.declared.head.Head.{Head}
 use Rattle.models.specs.Records.{customerOf}

@@ -11,7 +11,7 @@ use Rattle.whole.specs.Whole.{fl}
 use Rattle.definitions.specs.Sheet.{Sheet, timeTable}
 use Rattle.definitions.specs.Words.{wordsOf, leftOver}
 use Rattle.definitions.specs.Reader.{Outcome, accepted, refused, sheet, answer, walk, start, read, readWords, sheetOf, tourOf}
-use Rattle.definitions.proofs.OnlySheets.{Is, only-sheets}
+use Rattle.round_trip.proofs.OnlySheets.{Is, only-sheets}
 use Rattle.bounds.specs.Inside.{Sized, sized, few-calls}
 use Rattle.models.specs.Image.{flCustomer}
 use Rattle.sheet.specs.Fitting.{fitting}

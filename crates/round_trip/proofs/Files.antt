@@ -13,18 +13,18 @@ use borrow.Author.Tests.{leb-true, ltb-true}
 use Rattle.basics.specs.Tests.{and-right}
 use Rattle.basics.specs.Options.{Holds, IfAny}
 use Rattle.basics.specs.Lists.{All, Passes, all-append, all-imp, all-map}
 use Rattle.definitions.specs.Domain.{isDemand, isCapacity, isPenalty, isNumber, isCall}
 use Rattle.definitions.specs.Sheet.{Window, Break, Customer, Sheet}
 use Rattle.definitions.specs.Words.{Word, word, wordsOf, leftOver, bytesOf}
 use Rattle.definitions.specs.Encoding.{optional, breakWords, windowWords, customerWords, bodyWords, encode}
 use Rattle.definitions.specs.Reader.{read, sheet}
 use Rattle.definitions.specs.Refusals.{Within, WithinCalls}
-use Rattle.definitions.proofs.Says.{callWords, timeWords, tableWords, limitWords, allWords, others}
-use Rattle.definitions.proofs.Good.{GoodWindow, GoodBreak, GoodCustomer, AsMany, GoodSheet, GoodCalls, good-sheet, good-calls}
-use Rattle.definitions.proofs.Accepts.{wordCount}
-use Rattle.definitions.proofs.ReadsBack.{body-length, encode-counted, reads-back}
-use Rattle.definitions.proofs.OnlySheets.{only-sheets}
-use Rattle.definitions.proofs.Bytes.{Fits, AllFit, AllBytes, words-of-bytes, nothing-left, bytes-of-words}
+use Rattle.round_trip.proofs.Says.{callWords, timeWords, tableWords, limitWords, allWords, others}
+use Rattle.round_trip.proofs.Good.{GoodWindow, GoodBreak, GoodCustomer, AsMany, GoodSheet, GoodCalls, good-sheet, good-calls}
+use Rattle.round_trip.proofs.Accepts.{wordCount}
+use Rattle.round_trip.proofs.ReadsBack.{body-length, encode-counted, reads-back}
+use Rattle.round_trip.proofs.OnlySheets.{only-sheets}
+use Rattle.round_trip.proofs.Bytes.{Fits, AllFit, AllBytes, words-of-bytes, nothing-left, bytes-of-words}
 
 -- ---- the words of a sheet have 32 bits
 

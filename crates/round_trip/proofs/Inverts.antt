@@ -13,15 +13,15 @@ use borrow.Author.Tests.{eqb-true, ltb-true, ltb-false, leb-true, leb-false, not
 use Rattle.basics.specs.Tests.{by-test, not-false, and-left, and-right}
 use Rattle.basics.specs.Options.{Holds, IfAny}
 use Rattle.basics.specs.Lists.{All, Passes}
 use Rattle.definitions.specs.Domain.{isPlaces, isCapacity, isDemand, isPenalty, isNumber, isCall}
 use Rattle.definitions.specs.Sheet.{Customer, Sheet, depot}
 use Rattle.definitions.specs.Words.{Word, word}
 use Rattle.definitions.specs.Encoding.{optional, breakWords, windowWords, customerWords}
 use Rattle.definitions.specs.Reader.{State, start, next, onward, mayStand, inRange, pairFalls, among, faultAt, accepted, refused, behind, walk}
-use Rattle.definitions.proofs.Says.{callWords, timeWords, tableWords, allWords}
-use Rattle.definitions.proofs.Good.{GoodWindow, GoodBreak, GoodCustomer, AsMany, GoodSheet, GoodCalls}
-use Rattle.definitions.proofs.Accepts.{behindWord, wordCount}
-use Rattle.definitions.proofs.ByKind.{ByKind, no-other, _or_, by-kind, map-kinds}
+use Rattle.round_trip.proofs.Says.{callWords, timeWords, tableWords, allWords}
+use Rattle.round_trip.proofs.Good.{GoodWindow, GoodBreak, GoodCustomer, AsMany, GoodSheet, GoodCalls}
+use Rattle.round_trip.proofs.Accepts.{behindWord, wordCount}
+use Rattle.round_trip.proofs.ByKind.{ByKind, no-other, _or_, by-kind, map-kinds}
 
 -- ---- a word that is taken
 

@@ -5,13 +5,13 @@ use mathlib.Core.Path.{_≡_, ap, _∙_}
 use mathlib.Core.Bool.{false}
 use mathlib.Core.List.{List}
 use lib.ListN.{length, length-append, length-map}
 use Rattle.definitions.specs.Sheet.{Sheet}
 use Rattle.definitions.specs.Encoding.{bodyWords, encode}
 use Rattle.definitions.specs.Reader.{readWords, sheet}
 use Rattle.definitions.specs.Refusals.{Within, WithinCalls}
-use Rattle.definitions.proofs.Says.{allWords, encode-is, sheet-said, tour-said}
-use Rattle.definitions.proofs.Good.{good-sheet, good-calls}
-use Rattle.definitions.proofs.Accepts.{wordCount, all-ok}
+use Rattle.round_trip.proofs.Says.{allWords, encode-is, sheet-said, tour-said}
+use Rattle.round_trip.proofs.Good.{good-sheet, good-calls}
+use Rattle.round_trip.proofs.Accepts.{wordCount, all-ok}
 
 -- how many words stand before F
 pub body-length : (s : Sheet) (tour : List ℕ) → length (bodyWords s tour) ≡ wordCount s tour

@@ -12,11 +12,11 @@ use lib.Dec.{eqb, ltb, leb}
 use borrow.Author.Tests.{eqb-true, eqb-false, ltb-true, leb-true, leb-false, not-true}
 use Rattle.basics.specs.Tests.{by-test, and-left, and-right}
 use Rattle.basics.specs.Options.{clash}
 use Rattle.definitions.specs.Domain.{isCall}
 use Rattle.definitions.specs.Words.{Word, word, wordOf, littleEndian, wordsOf, leftOver}
 use Rattle.definitions.specs.Reader.{State, start, next, After, lookup, onward, table, mayStand, inRange, among, faultAt, Outcome, refused, behind, unless, walk, read, readWords}
-use Rattle.definitions.proofs.Accepts.{behindWord}
-use Rattle.definitions.proofs.ByKind.{ByKind, no-other, _or_, by-kind}
+use Rattle.round_trip.proofs.Accepts.{behindWord}
+use Rattle.round_trip.proofs.ByKind.{ByKind, no-other, _or_, by-kind}
 
 -- how many words may come before F, from the next customer on
 abbrev rest : ℕ → ℕ → ℕ

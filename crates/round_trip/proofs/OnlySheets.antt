@@ -4,16 +4,16 @@ use native.Mathlib.Omega.{arith}
 use mathlib.Core.Path.{_≡_, refl, sym, ap, subst, _∙_}
 use mathlib.Core.Bool.{Bool, false}
 use mathlib.Core.List.{List}
 use Rattle.definitions.specs.Sheet.{Sheet}
 use Rattle.definitions.specs.Words.{Word}
 use Rattle.definitions.specs.Encoding.{encode}
 use Rattle.definitions.specs.Reader.{start, walk, Outcome, accepted, refused, sheetOf, tourOf, readWords, answer, sheet, refusedAt}
 use Rattle.definitions.specs.Refusals.{Within, WithinCalls}
-use Rattle.definitions.proofs.Says.{sheet-said, tour-said}
-use Rattle.definitions.proofs.Good.{good-within, good-within-calls}
-use Rattle.definitions.proofs.Accepts.{wordCount}
-use Rattle.definitions.proofs.ReadsBack.{encode-counted}
-use Rattle.definitions.proofs.Inverts.{IsSheet, accepted-is}
+use Rattle.round_trip.proofs.Says.{sheet-said, tour-said}
+use Rattle.round_trip.proofs.Good.{good-within, good-within-calls}
+use Rattle.round_trip.proofs.Accepts.{wordCount}
+use Rattle.round_trip.proofs.ReadsBack.{encode-counted}
+use Rattle.round_trip.proofs.Inverts.{IsSheet, accepted-is}
 
 pub record Is (ws : List Word) (left : Bool) (s : Sheet) (tour : List ℕ) : Type 0 where
   pub words : ws ≡ encode s tour

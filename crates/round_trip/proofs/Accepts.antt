@@ -13,13 +13,13 @@ use borrow.Author.Tests.{leb-true, eq-eqb, lt-ltb, le-ltb, lt-leb}
 use Rattle.basics.specs.Tests.{by-test, and-left}
 use Rattle.basics.specs.Options.{Holds, IfAny}
 use Rattle.basics.specs.Lists.{All, Passes}
 use Rattle.definitions.specs.Domain.{isPenalty, isNumber, isCall}
 use Rattle.definitions.specs.Sheet.{Window, Break, Customer, Sheet}
 use Rattle.definitions.specs.Words.{Word, word}
 use Rattle.definitions.specs.Encoding.{optional, breakWords, windowWords, customerWords}
 use Rattle.definitions.specs.Reader.{State, start, next, onward, mayStand, inRange, pairFalls, among, faultAt, accepted, behind, walk}
-use Rattle.definitions.proofs.Says.{callWords, timeWords, tableWords, limitWords, allWords, others}
-use Rattle.definitions.proofs.Good.{GoodWindow, GoodBreak, GoodCustomer, AsMany, GoodSheet, GoodCalls}
+use Rattle.round_trip.proofs.Says.{callWords, timeWords, tableWords, limitWords, allWords, others}
+use Rattle.round_trip.proofs.Good.{GoodWindow, GoodBreak, GoodCustomer, AsMany, GoodSheet, GoodCalls}
 
 -- the state behind the word of kind k and value v, the r-th of its kind in a row
 abbrev pub behindWord : ℕ → ℕ → ℕ → ℕ → ℕ → State
