@@ -17,10 +17,10 @@ use Rattle.definitions.specs.Cutting.{joined, cuttingCost, Best, nothing, cheap
 use Rattle.definitions.specs.Drop.{callAt, callsAt, drops, planBy, plainArc}
 use Rattle.definitions.specs.Promise.{Parts, ended, kept, gone}
 use Rattle.definitions.specs.Improver.{Given, distanceOf}
-use Rattle.definitions.proofs.Legality.{arc-clock}
-use Rattle.definitions.proofs.Least.{Reach, more, Made, best-reach, best-of}
-use Rattle.definitions.proofs.Dropping.{drops-parts}
-use Rattle.definitions.proofs.LegLaws as Legs
+use Rattle.theorems.proofs.Legality.{arc-clock}
+use Rattle.theorems.proofs.Least.{Reach, more, Made, best-reach, best-of}
+use Rattle.theorems.proofs.Dropping.{drops-parts}
+use Rattle.theorems.proofs.LegLaws as Legs
 use Rattle.bounds.specs.Inside.{Small, Sized}
 use Rattle.whole.specs.Whole.{limit}
 use Rattle.bounds.specs.Bounds.{mostPay, legs-most, distance-most, ride-most, clock-most}

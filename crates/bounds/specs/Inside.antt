@@ -18,7 +18,7 @@ use Rattle.definitions.specs.Sheet.{Window, Break, Customer, Sheet, records, de
 use Rattle.definitions.specs.Run.{lastOf, breakAt}
 use Rattle.definitions.specs.Drop.{callsAt}
 use Rattle.definitions.specs.Refusals.{unfit, badOptional, badBreak, badWindow, badCustomer, Within, WithinCalls}
-use Rattle.definitions.proofs.Ranges.{in-range, tables-even, break-in-range, window-in-range, customer-in-range}
+use Rattle.theorems.proofs.Ranges.{in-range, tables-even, break-in-range, window-in-range, customer-in-range}
 
 -- ---- what the Domain allows
 

@@ -8,7 +8,7 @@ use Rattle.definitions.specs.Sheet.{Sheet, own}
 use Rattle.definitions.specs.Lent.{Lent, Call}
 use Rattle.definitions.specs.Refusals.{refusalOf}
 use Rattle.definitions.specs.Answers.{Answer, refused, gives, answer}
-use Rattle.definitions.proofs.Accepted.{Accepted, accepted-within}
+use Rattle.theorems.proofs.Accepted.{Accepted, accepted-within}
 use Rattle.whole.specs.Value.{value}
 use Rattle.models.specs.Image.{flSheet}
 use Rattle.models.specs.declared.customer.Customer.{Customer}

@@ -9,7 +9,7 @@ use Rattle.definitions.specs.Domain.{mostCalls}
 use Rattle.definitions.specs.Lent.{marking}
 use Rattle.definitions.specs.Refusals.{endsFall}
 use Rattle.definitions.specs.Answers.{markOf}
-use Rattle.definitions.proofs.Accepted.{Accepted}
+use Rattle.theorems.proofs.Accepted.{Accepted}
 use Rattle.stops.specs.Stops.{Below64}
 use Rattle.exact.specs.Exact.{below-64}
 use Rattle.bounds.specs.Inside.{few-calls}

@@ -10,7 +10,7 @@ use Rattle.definitions.specs.Lent.{marking}
 use Rattle.definitions.specs.RunList.{runsOf}
 use Rattle.definitions.specs.Marker as Whole
 use Rattle.definitions.specs.Marker.{withPlaces}
-use Rattle.definitions.proofs.Accepted.{Accepted}
+use Rattle.theorems.proofs.Accepted.{Accepted}
 use Rattle.bounds.specs.Inside.{sized, few-calls}
 use Rattle.bounds.specs.CostBounds.{arc-priced, plan-fits}
 use Rattle.whole.specs.Value.{value}

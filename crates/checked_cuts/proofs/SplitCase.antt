@@ -8,7 +8,7 @@ use Rattle.definitions.specs.Domain.{isPlaces}
 use Rattle.definitions.specs.Sheet.{SheetOf, Sheet, own}
 use Rattle.definitions.specs.Drop.{split, splitTw}
 use Rattle.definitions.specs.Lent.{Call}
-use Rattle.definitions.proofs.Accepted.{Accepted}
+use Rattle.theorems.proofs.Accepted.{Accepted}
 use Rattle.whole.specs.Value.{value}
 use Rattle.models.specs.Image.{flSheet}
 use Rattle.models.specs.declared.customer.Customer.{Customer}

@@ -13,7 +13,7 @@ use Rattle.definitions.specs.Lent.{eliminating}
 use Rattle.definitions.specs.Refusals.{endsFall}
 use Rattle.definitions.specs.Room.{written}
 use Rattle.definitions.specs.Answers.{Answer, Eliminated, refused, gives, front, eliminate}
-use Rattle.definitions.proofs.RunListLaws.{ends-many}
+use Rattle.theorems.proofs.RunListLaws.{ends-many}
 use Rattle.models.specs.Records.{customerOf}
 use Rattle.models.specs.declared.customer.Customer.{Customer}
 use Rattle.models.specs.declared.head.Head.{Head}

@@ -11,7 +11,7 @@ use Rattle.definitions.specs.RunList.{runsOf}
 use Rattle.definitions.specs.Elimination.{eliminated}
 use Rattle.definitions.specs.Lent.{eliminating}
 use Rattle.definitions.specs.Refusals.{Within}
-use Rattle.definitions.proofs.Accepted.{Accepted}
+use Rattle.theorems.proofs.Accepted.{Accepted}
 use Rattle.whole.specs.Gain.{gainFloorF}
 use Rattle.whole.specs.Value.{value}
 use Rattle.models.specs.Image.{flSheet}

@@ -9,7 +9,7 @@ use Rattle.definitions.specs.Domain.{isPlaces}
 use Rattle.definitions.specs.Sheet.{Sheet, own}
 use Rattle.definitions.specs.Lent.{Lent, Call}
 use Rattle.definitions.specs.Answers.{Answer, refused, gives, answer}
-use Rattle.definitions.proofs.Accepted.{Accepted}
+use Rattle.theorems.proofs.Accepted.{Accepted}
 use Rattle.whole.specs.Value.{value}
 use Rattle.models.specs.Image.{flSheet}
 use Rattle.models.specs.Records.{customerOf}

@@ -9,9 +9,9 @@ use Rattle.definitions.specs.Improver.{givenOf}
 use Rattle.definitions.specs.Lent.{reversing}
 use Rattle.definitions.specs.Room.{written}
 use Rattle.definitions.specs.Answers.{Answer, Improved, refused, gives, front, twoOpt, twoOptOf}
-use Rattle.definitions.proofs.Sums.{length-is-sum}
-use Rattle.definitions.proofs.TwoOptLaws.{improved-same}
-use Rattle.definitions.proofs.Accepted.{Accepted}
+use Rattle.theorems.proofs.Sums.{length-is-sum}
+use Rattle.theorems.proofs.TwoOptLaws.{improved-same}
+use Rattle.theorems.proofs.Accepted.{Accepted}
 use Rattle.whole.specs.Whole.{fl}
 use Rattle.whole.specs.Value.{value}
 use Rattle.models.specs.Records.{customerOf}

@@ -15,7 +15,7 @@ use Rattle.definitions.specs.Visits.{visitsFrom, buildRoute}
 use Rattle.definitions.specs.Lent.{Lent, violationRoom, visiting}
 use Rattle.definitions.specs.Room.{written}
 use Rattle.definitions.specs.Answers.{Answer, gives, buildRouteOf}
-use Rattle.definitions.proofs.Violations.{violations-room}
+use Rattle.theorems.proofs.Violations.{violations-room}
 use Rattle.whole.specs.Value.{value}
 use Rattle.models.specs.declared.customer.Customer.{Customer}
 use Rattle.models.specs.declared.head.Head.{Head}

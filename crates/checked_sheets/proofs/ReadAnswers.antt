@@ -15,7 +15,7 @@ use Rattle.definitions.specs.Reader as Reader
 use Rattle.definitions.specs.Reader.{sheet, refusedAt, read, readerNeeds, readInto, sheetOf, tourOf}
 use Rattle.definitions.specs.Room.{short, written}
 use Rattle.definitions.specs.Answers.{readCustomers, readDistances, readTimes, readTour}
-use Rattle.definitions.proofs.Accepted.{at-least}
+use Rattle.theorems.proofs.Accepted.{at-least}
 use Rattle.whole.specs.Whole.{fl}
 use Rattle.models.specs.Records.{openingOf, penaltyOf, customerOf, limitOf, restOf}
 use Rattle.models.specs.Image.{flCustomer, flSheet}

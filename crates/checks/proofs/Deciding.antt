@@ -17,7 +17,7 @@ use Rattle.definitions.specs.Lent.{Lent, whole, wholeSheet, Call}
 use Rattle.definitions.specs.Refusal.{refusal, firstFit}
 use Rattle.definitions.specs.Room.{short}
 use Rattle.definitions.specs.Refusals.{tooShort, tablesOdd, unfit, badSheet, outOfRange, pairsFall, runsOdd, refusals, refusalOf}
-use Rattle.definitions.proofs.Ranges.{LentInRange, lent-in-range, in-range}
+use Rattle.theorems.proofs.Ranges.{LentInRange, lent-in-range, in-range}
 use Rattle.models.specs.declared.customer.Customer.{Customer}
 use Rattle.models.specs.Records.{customerOf, restOf}
 use Rattle.models.specs.Image.{flSheet}

@@ -16,8 +16,8 @@ use Rattle.definitions.specs.Domain.{isNumber}
 use Rattle.definitions.specs.Sheet.{WindowOf, BreakOf, CustomerOf, SheetOf, records, own, mapWindow, mapBreak, mapCustomer}
 use Rattle.definitions.specs.Lent.{Lent, whole, wholeSheet, Call}
 use Rattle.definitions.specs.Refusals.{unfit, badOptional, badBreak, badWindow, badCustomer, badSheet, refusalOf}
-use Rattle.definitions.proofs.Ranges.{break-in-range, window-in-range, customer-in-range, in-range, lent-in-range, not-refused}
-use Rattle.definitions.proofs.Accepted.{held}
+use Rattle.theorems.proofs.Ranges.{break-in-range, window-in-range, customer-in-range, in-range, lent-in-range, not-refused}
+use Rattle.theorems.proofs.Accepted.{held}
 use Rattle.models.specs.Image.{flWindow, flBreak, flCustomer, flSheet}
 use Rattle.whole.specs.Whole.{fl, limit}
 use Rattle.whole.specs.Value.{value, fl-value}

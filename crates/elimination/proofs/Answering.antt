@@ -8,7 +8,7 @@ use mathlib.Core.List.{List, [], _∷_}
 use lib.ListN.{length, take, drop}
 use Rattle.definitions.specs.Refusals.{endsFall}
 use Rattle.definitions.specs.RunList.{runsFrom, runsOf, callsOf, endsOf}
-use Rattle.definitions.proofs.RunListLaws.{RiseTo, calls-back}
+use Rattle.theorems.proofs.RunListLaws.{RiseTo, calls-back}
 use Rattle.run_lists.specs.declared.runs.Runs.{Runs}
 use Rattle.run_lists.specs.RunLists.{runsIn, Sound}
 use Rattle.run_lists.proofs.Holding.{rises-to, held, calls-are, ends-are}

@@ -20,8 +20,8 @@ use Rattle.definitions.specs.Sheet.{Sheet, customer, distance}
 use Rattle.definitions.specs.Run.{load, fits}
 use Rattle.definitions.specs.RunList.{callsOf}
 use Rattle.definitions.specs.Improver.{givenOf, distanceOf, total}
-use Rattle.definitions.proofs.LegLaws.{final, insertion-before, insertion-last}
-use Rattle.definitions.proofs.EliminationLaws.{Calls}
+use Rattle.theorems.proofs.LegLaws.{final, insertion-before, insertion-last}
+use Rattle.theorems.proofs.EliminationLaws.{Calls}
 use Rattle.whole.specs.Whole.{fl, limit, Is, fl-add, fl-is}
 use Rattle.whole.specs.Difference.{diff, fl-diff}
 use Rattle.whole.specs.Infinity.{is-lt-inf}

@@ -19,11 +19,11 @@ use Rattle.definitions.specs.Sheet.{Sheet}
 use Rattle.definitions.specs.Refusals.{Within, WithinCalls, endsFall}
 use Rattle.definitions.specs.Sort.{rising, falling, sort}
 use Rattle.definitions.specs.RunList.{runsFrom, runsOf}
-use Rattle.definitions.proofs.RunListLaws.{RiseTo, calls-back}
+use Rattle.theorems.proofs.RunListLaws.{RiseTo, calls-back}
 use Rattle.definitions.specs.Improver.{givenOf, distanceOf, total}
 use Rattle.definitions.specs.Elimination.{nonEmpty, Parted, parted, placedAll, emptied, firstEmptied, search, searches, eliminated}
-use Rattle.definitions.proofs.SortLaws.{sort-all}
-use Rattle.definitions.proofs.EliminationLaws.{Calls}
+use Rattle.theorems.proofs.SortLaws.{sort-all}
+use Rattle.theorems.proofs.EliminationLaws.{Calls}
 use Rattle.whole.specs.Whole.{fl}
 use Rattle.whole.specs.Half.{halves}
 use Rattle.whole.specs.Gain.{elimination-test}

@@ -14,7 +14,7 @@ use Rattle.basics.specs.Lists.{All, all-imp, all-map}
 use Rattle.definitions.specs.RunList.{callsOf}
 use Rattle.definitions.specs.Sort.{rising, falling, sort}
 use Rattle.definitions.specs.Elimination.{nonEmpty, Parted, past, parted}
-use Rattle.definitions.proofs.SortLaws.{sort-all}
+use Rattle.theorems.proofs.SortLaws.{sort-all}
 use Rattle.whole.specs.Whole.{fl}
 use Rattle.run_lists.specs.RunLists.{insertAt, putIn, runAt}
 use Rattle.run_lists.proofs.RunParts.{length-put}

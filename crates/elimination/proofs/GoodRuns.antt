@@ -10,7 +10,7 @@ use Rattle.definitions.specs.Domain.{mostCalls}
 use Rattle.definitions.specs.Sheet.{Sheet}
 use Rattle.definitions.specs.RunList.{callsOf}
 use Rattle.definitions.specs.Elimination.{nonEmpty, Parted, past, parted}
-use Rattle.definitions.proofs.EliminationLaws.{Calls}
+use Rattle.theorems.proofs.EliminationLaws.{Calls}
 use Rattle.run_lists.specs.RunLists.{runAt, insertAt, putIn}
 use Rattle.elimination.proofs.Fewer.{calls, put-grows, non-empty-fewer}
 

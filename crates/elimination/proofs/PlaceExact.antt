@@ -19,8 +19,8 @@ use Rattle.definitions.specs.Sheet.{Sheet}
 use Rattle.definitions.specs.Sort.{rising, sort}
 use Rattle.definitions.specs.Improver.{givenOf, total, allowed}
 use Rattle.definitions.specs.Elimination.{Put, candidates, firstBelow, placed, placedAll}
-use Rattle.definitions.proofs.SortLaws.{sort-all, Rises, sort-rises}
-use Rattle.definitions.proofs.EliminationLaws.{first-stops}
+use Rattle.theorems.proofs.SortLaws.{sort-all, Rises, sort-rises}
+use Rattle.theorems.proofs.EliminationLaws.{first-stops}
 use Rattle.whole.specs.Whole.{fl, limit}
 use Rattle.whole.specs.Difference.{diff, diff-same, diff-add, fl-le-diff}
 use Rattle.evaluation.proofs.RouteExact.{feasible-exact}

@@ -22,7 +22,7 @@ use Rattle.definitions.specs.Refusals.{Within, WithinCalls}
 use Rattle.bounds.specs.Inside.{SmallBreak, Sized, sized, Place, few-calls, calls-inside, depot-inside, last-inside, call-inside, all-take, time-small}
 use Rattle.bounds.specs.Inside as Inside
 use Rattle.bounds.specs.Bounds.{Early, begun, start-early, serve-all-most, distance-most, clock-most, TotalsFit, totals-fit}
-use Rattle.definitions.proofs.Legality.{plain}
+use Rattle.theorems.proofs.Legality.{plain}
 use Rattle.whole.specs.Whole.{fl, fl-add}
 use Rattle.whole.specs.Later.{later-fl}
 use Rattle.models.specs.Image.{flBreak}

@@ -17,8 +17,8 @@ use Rattle.definitions.specs.Sheet.{Sheet, customer}
 use Rattle.definitions.specs.Clock.{Arc, arc}
 use Rattle.definitions.specs.Cutting.{Best, cheapest, stuck}
 use Rattle.definitions.specs.Drop.{callAt, callsAt, Held, dropAt, allHeld, dropFrom, drops}
-use Rattle.definitions.proofs.Least.{best-of, best-reach}
-use Rattle.definitions.proofs.Shortest.{Cuttable, Stuck, never, at-call, stuck-is}
+use Rattle.theorems.proofs.Least.{best-of, best-reach}
+use Rattle.theorems.proofs.Shortest.{Cuttable, Stuck, never, at-call, stuck-is}
 use Rattle.evaluation.specs.Tables.{demandF}
 use Rattle.stretch.specs.Runs.{Instance}
 use Rattle.holding.specs.Drops.{haveF, stuckF, dropFromF, dropsF}

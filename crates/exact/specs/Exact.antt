@@ -21,9 +21,9 @@ use Rattle.definitions.specs.Clock.{arc}
 use Rattle.definitions.specs.Cutting.{Best, nothing, runEnds, cheapest}
 use Rattle.definitions.specs.Drop.{callAt, callsAt, Held, allHeld, result, light, removals, plainArc, split, drops, splitTw}
 use Rattle.definitions.specs.Refusals.{Within, WithinCalls}
-use Rattle.definitions.proofs.Placement.{cut}
-use Rattle.definitions.proofs.Promised.{by-clock}
-use Rattle.definitions.proofs.Least.{Reach, start, more, reach-append, best-of}
+use Rattle.theorems.proofs.Placement.{cut}
+use Rattle.theorems.proofs.Promised.{by-clock}
+use Rattle.theorems.proofs.Least.{Reach, start, more, reach-append, best-of}
 use Rattle.distance.proofs.Exact.{lookup-exact}
 use Rattle.distance.specs.Lookup.{lookupF}
 use Rattle.whole.specs.Whole.{fl}

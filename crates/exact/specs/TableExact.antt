@@ -26,8 +26,8 @@ use Rattle.definitions.specs.Run.{distanceFrom, price}
 use Rattle.definitions.specs.RunList.{callsOf, endsFrom}
 use Rattle.definitions.specs.Clock.{Arc}
 use Rattle.definitions.specs.Cutting.{Best, callsIn, joined, runEnds, cheapest}
-use Rattle.definitions.proofs.Bridge.{andRun, stretch, rule, bridge, best-at}
-use Rattle.definitions.proofs.Least.{joined-append}
+use Rattle.theorems.proofs.Bridge.{andRun, stretch, rule, bridge, best-at}
+use Rattle.theorems.proofs.Least.{joined-append}
 use Rattle.whole.specs.Whole.{fl, limit, fl-is, fl-sum, fl-lt}
 use Rattle.whole.specs.Bits.{fl-zero}
 use Rattle.whole.specs.Infinity.{is-lt-inf}

@@ -21,7 +21,7 @@ use Rattle.definitions.specs.Drop.{Result}
 use Rattle.definitions.specs.Refusals.{endsFall, emptyRun, Within, WithinCalls}
 use Rattle.definitions.specs.Marker as Whole
 use Rattle.definitions.specs.Marker.{withPlaces, otherCalls, differ, runFault, firstFault, against, markAgainst}
-use Rattle.definitions.proofs.RunListLaws.{RiseTo, calls-back}
+use Rattle.theorems.proofs.RunListLaws.{RiseTo, calls-back}
 use Rattle.bounds.specs.Inside.{Sized, sized, few-calls, calls-inside}
 use Rattle.bounds.specs.CostBounds.{cost-fits, cutting-cost-most}
 use Rattle.whole.specs.Whole.{fl, limit, fl-sub, fl-lt, fl-sum}
@@ -29,7 +29,7 @@ use Rattle.marker.specs.declared.verdict.Verdict.the-variants.{OtherCall
 use Rattle.marker.specs.RunMark.{Ground, runMarkF}
 use Rattle.marker.specs.Marks.{runsMarkF, againstF, verdictF, markF}
 use Rattle.marker.specs.Image.{flVerdict, flMarked, Image}
-use Rattle.definitions.proofs.GivenRuns.{rises, with-calls, with-all, Filled, runs-filled}
+use Rattle.theorems.proofs.GivenRuns.{rises, with-calls, with-all, Filled, runs-filled}
 use Rattle.marker.proofs.GivenRuns.{Inside, runs-inside}
 use Rattle.marker.proofs.RunExact.{run-exact}
 

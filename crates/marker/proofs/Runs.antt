@@ -13,14 +13,14 @@ use Rattle.definitions.specs.Run.{Run}
 use Rattle.definitions.specs.RunList.{runsFrom, runsOf}
 use Rattle.definitions.specs.Refusals.{endsFall}
 use Rattle.definitions.specs.Marker.{withPlaces}
-use Rattle.definitions.proofs.RunListLaws.{RiseTo, rise-le}
+use Rattle.theorems.proofs.RunListLaws.{RiseTo, rise-le}
 use Rattle.whole.specs.Whole.{fl}
 use Rattle.marker.specs.declared.verdict.Verdict.{Verdict}
 use Rattle.marker.specs.declared.run.Marked.{Marked}
 use Rattle.marker.specs.declared.run.Marked.the-variants.{Faulty, Costs}
 use Rattle.marker.specs.RunMark.{Ground, runMarkF}
 use Rattle.marker.specs.Marks.{runsMarkF}
-use Rattle.definitions.proofs.GivenRuns.{rises}
+use Rattle.theorems.proofs.GivenRuns.{rises}
 
 -- the runs from number k on, from 0, where p calls stand before them
 abbrev left : List ℕ → List ℕ → List ℕ → ℕ → ℕ → List Run

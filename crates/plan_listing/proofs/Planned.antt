@@ -8,7 +8,7 @@ use Rattle.definitions.specs.Sheet.{Sheet}
 use Rattle.definitions.specs.Drop.{Result, splitTw}
 use Rattle.definitions.specs.Listing.{planText}
 use Rattle.definitions.specs.Room.{written}
-use Rattle.definitions.proofs.RunListLaws.{RiseTo}
+use Rattle.theorems.proofs.RunListLaws.{RiseTo}
 use Rattle.bounds.specs.Inside.{few-calls}
 use Rattle.models.specs.declared.customer.Customer.{Customer}
 use Rattle.models.specs.declared.head.Head.{Head}

@@ -15,7 +15,7 @@ use Rattle.definitions.specs.Marker as Whole
 use Rattle.definitions.specs.Marker.{otherCalls, overload, breakTooLate, windowMissed, breakMissing, tooFar, tooLong, best, dearer, cheaper, verdictNumber}
 use Rattle.definitions.specs.Marks.{Says}
 use Rattle.definitions.specs.Answers.{gives, unlessRefused, answer, markOf}
-use Rattle.definitions.proofs.GivenMarks.{given-says, given-cheaper-only}
+use Rattle.theorems.proofs.GivenMarks.{given-says, given-cheaper-only}
 use Rattle.whole.specs.Value.{value}
 use Rattle.models.specs.declared.customer.Customer.{Customer}
 use Rattle.models.specs.declared.head.Head.{Head}

@@ -16,10 +16,10 @@ use Rattle.definitions.specs.Refusals.{refusalOf, Within, WithinCalls}
 use Rattle.definitions.specs.Room.{written}
 use Rattle.definitions.specs.Answers.{Answer, front, unlessRefused, answer}
 use Rattle.definitions.specs.Clauses.{Legal, Sum, Least, Drops, Partition, bare, Clauses}
-use Rattle.definitions.proofs.Accepted.{accepted-within}
-use Rattle.definitions.proofs.Agreement.{plain-drops}
-use Rattle.definitions.proofs.Bare.{split-kept}
-use Rattle.definitions.proofs.Sentences.{split-tw-kept}
+use Rattle.theorems.proofs.Accepted.{accepted-within}
+use Rattle.theorems.proofs.Agreement.{plain-drops}
+use Rattle.theorems.proofs.Bare.{split-kept}
+use Rattle.theorems.proofs.Sentences.{split-tw-kept}
 use Rattle.whole.specs.Whole.{limit}
 use Rattle.whole.specs.Value.{value, value-fl}
 use Rattle.models.specs.declared.customer.Customer.{Customer}

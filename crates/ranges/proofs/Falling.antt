@@ -10,8 +10,8 @@ use Rattle.basics.specs.Lists.{any}
 use Rattle.definitions.specs.Domain.{isNumber}
 use Rattle.definitions.specs.Sheet.{WindowOf, BreakOf, CustomerOf, SheetOf, records}
 use Rattle.definitions.specs.Refusals.{unfit, badBreak, badWindow, badCustomer, badSheet, above, windowFalls, breakFalls, pairsFall}
-use Rattle.definitions.proofs.Ranges.{break-in-range, window-in-range, customer-in-range, in-range}
-use Rattle.definitions.proofs.Accepted.{held}
+use Rattle.theorems.proofs.Ranges.{break-in-range, window-in-range, customer-in-range, in-range}
+use Rattle.theorems.proofs.Accepted.{held}
 use Rattle.whole.specs.Values.{lt-whole}
 use Rattle.whole.specs.Value.{value, value-is}
 use Rattle.ranges.specs.Falling.{windowFallsF, breakFallsF, pairsFallF}

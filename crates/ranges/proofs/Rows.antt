@@ -13,7 +13,7 @@ use Rattle.basics.specs.Tests.{by-test, not-false}
 use Rattle.basics.specs.Lists.{isEmpty, any, any-append}
 use Rattle.definitions.specs.Sheet.{SheetOf}
 use Rattle.definitions.specs.Refusals.{tablesOdd}
-use Rattle.definitions.proofs.Ranges.{tables-even}
+use Rattle.theorems.proofs.Ranges.{tables-even}
 use Rattle.ranges.specs.Rows.{rowFinds, rowsFind}
 
 -- two pairs of tests, the other way round

@@ -19,7 +19,7 @@ use Rattle.definitions.specs.Cutting.{callsIn, joined}
 use Rattle.definitions.specs.Drop.{Result, splitTw}
 use Rattle.definitions.specs.Refusals.{Within, WithinCalls}
 use Rattle.definitions.specs.Listing.{text, customersText, restText, endOfLine, runLine, runLines, dropLines, totalLine, planText}
-use Rattle.definitions.proofs.Promised.{byClock, Promise, promised}
+use Rattle.theorems.proofs.Promised.{byClock, Promise, promised}
 use Rattle.whole.specs.Whole.{fl, limit}
 use Rattle.whole.specs.Bits.{fl-back, minus-one-lt, lt-top}
 use Rattle.bounds.specs.Inside.{Sized, sized, Place, few-calls, calls-inside}

@@ -14,9 +14,9 @@ use Rattle.definitions.specs.RunList.{callsOf, endsFrom}
 use Rattle.definitions.specs.Cutting.{callsIn, joined, runEnds, legalCutting}
 use Rattle.definitions.specs.Drop.{callAt, splitTw}
 use Rattle.definitions.specs.Promise.{Parts, ended, kept, gone}
-use Rattle.definitions.proofs.RunListLaws.{RiseTo, ends-many}
-use Rattle.definitions.proofs.Legality.{legal-has}
-use Rattle.definitions.proofs.Promised.{Promise, promised}
+use Rattle.theorems.proofs.RunListLaws.{RiseTo, ends-many}
+use Rattle.theorems.proofs.Legality.{legal-has}
+use Rattle.theorems.proofs.Promised.{Promise, promised}
 
 -- the ends of runs rise to the number of their calls
 ends-rise : (p : ℕ) (rs : List (List ℕ)) → RiseTo p (endsFrom p rs) (p + length (callsOf rs))

@@ -12,8 +12,8 @@ use Rattle.definitions.specs.Clock.{arc}
 use Rattle.definitions.specs.Cutting.{callsIn, joined}
 use Rattle.definitions.specs.Drop.{splitTw}
 use Rattle.definitions.specs.Marker.{withPlaces}
-use Rattle.definitions.proofs.RunListLaws.{runs-back}
-use Rattle.definitions.proofs.Promised.{Promise, promised}
+use Rattle.theorems.proofs.RunListLaws.{runs-back}
+use Rattle.theorems.proofs.Promised.{Promise, promised}
 use Rattle.bounds.specs.Inside.{Sized, Place, held-inside}
 use Rattle.bounds.specs.CostBounds.{arc-priced, held-few}
 

@@ -6,7 +6,7 @@ use mathlib.Core.List.{List, _++_}
 use lib.ListN.{length, take, drop, getD, length-drop}
 use lib.Seq.{length-take-le}
 use Rattle.definitions.specs.RunList.{runsOf}
-use Rattle.definitions.proofs.RunListLaws.{RiseTo}
+use Rattle.theorems.proofs.RunListLaws.{RiseTo}
 use Rattle.report.specs.declared.shown.Shown.{Shown}
 use Rattle.report.specs.Put.{Put}
 use Rattle.report.specs.Plan.{shownText, runsText}

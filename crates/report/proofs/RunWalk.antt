@@ -6,7 +6,7 @@ use mathlib.Core.List.{List, [], _∷_}
 use lib.ListN.{length, take, drop, getD, drop-of-length-le}
 use lib.Seq.{drop-drop}
 use Rattle.definitions.specs.RunList.{runsFrom}
-use Rattle.definitions.proofs.RunListLaws.{RiseTo, rise-le}
+use Rattle.theorems.proofs.RunListLaws.{RiseTo, rise-le}
 use Rattle.report.proofs.Pieces.{next-left}
 
 -- the runs from number k on, whose calls begin at `from`

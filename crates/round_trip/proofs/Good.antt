@@ -16,7 +16,7 @@ use Rattle.basics.specs.Lists.{All, all-imp, Passes, Fails, any-fails, fails-an
 use Rattle.definitions.specs.Domain.{isPlaces, isCapacity, isDemand, isPenalty, isNumber, isCall, mostCalls}
 use Rattle.definitions.specs.Sheet.{Window, Break, Customer, Sheet, records, depot}
 use Rattle.definitions.specs.Refusals.{Within, badCalls, badBreak, badCustomer, badDepot, badOptional, badWindow, breakFalls, unfit, windowFalls}
-use Rattle.definitions.proofs.Ranges.{TablesEven, tables-even, even-tables, calls-in-range, range-calls, break-in-range, range-break, window-in-range, range-window, customer-in-range, range-customer, depot-in-range, InRange, in-range, range-in, PairsRise, pairs-rise, rise-pairs}
+use Rattle.theorems.proofs.Ranges.{TablesEven, tables-even, even-tables, calls-in-range, range-calls, break-in-range, range-break, window-in-range, range-window, customer-in-range, range-customer, depot-in-range, InRange, in-range, range-in, PairsRise, pairs-rise, rise-pairs}
 use Rattle.round_trip.proofs.Says.{others}
 
 pub record GoodWindow (w : Window) : Type 0 where

@@ -9,7 +9,7 @@ use lib.ListN.{length, getD, set, take, drop, length-append, length-drop}
 use lib.Seq.{length-take-le, take-suc-set, take-take, append-snoc}
 use Rattle.basics.specs.Lists.{without, length-without}
 use Rattle.definitions.specs.RunList.{callsOf, endsOf}
-use Rattle.definitions.proofs.RunListLaws.{ends-many}
+use Rattle.theorems.proofs.RunListLaws.{ends-many}
 use Rattle.run_lists.specs.declared.runs.Runs.{Runs}
 use Rattle.run_lists.specs.RunLists.{room, Front, startIn, runsIn, Sound, runAt, insertAt, putIn, shifted}
 use Rattle.run_lists.proofs.Fronts.{front-same, front-part, part-is}

@@ -12,7 +12,7 @@ use borrow.Author.Tests.{ltb-false, le-ltb, eqb-true, eq-eqb}
 use Rattle.basics.specs.Tests.{not-false, or-left, or-right, or-false}
 use Rattle.definitions.specs.Refusals.{endsFall}
 use Rattle.definitions.specs.RunList.{runsOf, callsOf, endsFrom, endsOf}
-use Rattle.definitions.proofs.RunListLaws.{RiseTo, runs-back, calls-back, ends-back, ends-many}
+use Rattle.theorems.proofs.RunListLaws.{RiseTo, runs-back, calls-back, ends-back, ends-many}
 use Rattle.evaluation.specs.Tables.{placeBefore}
 use Rattle.run_lists.specs.declared.runs.Runs.{Runs}
 use Rattle.run_lists.specs.RunLists.{room, Front, startIn, runsIn, Sound, runAt}

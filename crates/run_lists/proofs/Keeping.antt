@@ -12,7 +12,7 @@ use lib.Dec.{ltb}
 use borrow.Author.Tests.{lt-ltb, le-ltb}
 use Rattle.definitions.specs.RunList.{callsOf, endsOf}
 use Rattle.definitions.specs.Elimination.{nonEmpty}
-use Rattle.definitions.proofs.RunListLaws.{ends-many}
+use Rattle.theorems.proofs.RunListLaws.{ends-many}
 use Rattle.evaluation.specs.Tables.{placeBefore}
 use Rattle.run_lists.specs.declared.runs.Runs.{Runs}
 use Rattle.run_lists.specs.RunLists.{room, Front, runsIn, Sound, runAt}

@@ -9,7 +9,7 @@ use lib.ListN.{length, getD, take, drop, length-append, length-drop}
 use lib.Seq.{length-take-le, take-at, drop-at, take-append-add, drop-append-add, take-append-le, drop-append-le, take-append-seam, drop-append-seam, drop-drop}
 use Rattle.basics.specs.Lists.{without}
 use Rattle.definitions.specs.RunList.{callsOf, endsFrom, endsOf}
-use Rattle.definitions.proofs.RunListLaws.{ends-many}
+use Rattle.theorems.proofs.RunListLaws.{ends-many}
 use Rattle.run_lists.specs.RunLists.{runAt, insertAt, putIn, shifted}
 use Rattle.run_lists.proofs.Holding.{startAt, calls-append, parts}
 

@@ -15,7 +15,7 @@ use Rattle.definitions.specs.Sheet.{Window, Break, Customer, SheetOf, Sheet, re
 use Rattle.definitions.specs.Lent.{Call}
 use Rattle.definitions.specs.Refusals.{unfit, badOptional, badBreak, badWindow, badCustomer, Within}
 use Rattle.definitions.specs.Answers.{answer}
-use Rattle.definitions.proofs.Ranges.{break-in-range, window-in-range, customer-in-range, InRange, in-range}
+use Rattle.theorems.proofs.Ranges.{break-in-range, window-in-range, customer-in-range, InRange, in-range}
 use Rattle.models.specs.Image.{flWindow, flBreak, flCustomer, flSheet}
 use Rattle.whole.specs.Whole.{fl, limit}
 use Rattle.whole.specs.Value.{value, value-fl}

@@ -23,13 +23,13 @@ use Rattle.definitions.specs.Lent.{Lent, wholeSheet, marking}
 use Rattle.definitions.specs.Refusals.{refusalOf}
 use Rattle.definitions.specs.Answers.{gives, unlessRefused, answer, markOf}
 use Rattle.definitions.specs.Marker.{Verdict, overload, breakMissing, tooFar, tooLong, withPlaces, breakOr, differ, callFault, walkFault, totalFault, runFault, firstFault, against, markAgainst, mark}
-use Rattle.definitions.proofs.RunListLaws.{calls-back}
-use Rattle.definitions.proofs.Accepted.{Accepted, accepted-within}
+use Rattle.theorems.proofs.RunListLaws.{calls-back}
+use Rattle.theorems.proofs.Accepted.{Accepted, accepted-within}
 use Rattle.bounds.specs.Inside.{Place, Sized, sized, few-calls, calls-inside}
 use Rattle.bounds.specs.Bounds.{load-most}
 use Rattle.whole.specs.Whole.{limit}
 use Rattle.marker.specs.Image.{flVerdict}
-use Rattle.definitions.proofs.GivenRuns.{rises, with-calls, with-all}
+use Rattle.theorems.proofs.GivenRuns.{rises, with-calls, with-all}
 use Rattle.marker.proofs.GivenRuns.{Inside, runs-inside}
 use Rattle.sheet_calls.specs.Lent.{lentWith}
 use Rattle.sheet_mark.specs.Mark.{markedOn}

@@ -7,7 +7,7 @@ use lib.Ieee.{Float}
 use lib.ListN.{length, take, drop, getD, set, length-append, length-map}
 use Rattle.definitions.specs.Room.{written}
 use Rattle.definitions.specs.RunList.{runsOf}
-use Rattle.definitions.proofs.RunListLaws.{RiseTo}
+use Rattle.theorems.proofs.RunListLaws.{RiseTo}
 use Rattle.sheet.proofs.Fitting.{write-more, write-length}
 use Rattle.report.proofs.RunWalk.{runsLeft, AtRun, none-left, run-next, next}
 use Rattle.sheet_plan.specs.declared.breaks.Figures.{Figures}

@@ -20,7 +20,7 @@ use Rattle.definitions.specs.RunList.{runsOf}
 use Rattle.definitions.specs.Clock.{clock, startOf}
 use Rattle.definitions.specs.Cutting.{callsIn, joined}
 use Rattle.definitions.specs.Drop.{Result, splitTw}
-use Rattle.definitions.proofs.Promised.{byClock, Promise, promised}
+use Rattle.theorems.proofs.Promised.{byClock, Promise, promised}
 use Rattle.bounds.specs.Inside.{Sized, Place}
 use Rattle.models.specs.Image.{flBreak}
 use Rattle.evaluation.specs.Records.{Tables}

@@ -5,7 +5,7 @@ ghost use Prim.Native.Nat.{_≤_};
 ghost use lib.ListN.{length};
 ghost use Rattle.definitions.specs.Room.{written};
 ghost use Rattle.definitions.specs.RunList.{runsOf};
-ghost use Rattle.definitions.proofs.RunListLaws.{RiseTo};
+ghost use Rattle.theorems.proofs.RunListLaws.{RiseTo};
 ghost use Rattle.models.specs.Records.{restOf};
 ghost use Rattle.evaluation.specs.Records.{lent};
 ghost use Rattle.sheet_plan.specs.Breaks.{figuresF};

@@ -17,7 +17,7 @@ use Rattle.definitions.specs.Domain.{mostCalls, mostNumber}
 use Rattle.definitions.specs.Sheet.{Sheet, distance}
 use Rattle.definitions.specs.Improver.{Given, givenOf, distanceOf}
 use Rattle.definitions.specs.TwoOpt.{turned}
-use Rattle.definitions.proofs.LegLaws.{final, first, gone, back, reversal-gain}
+use Rattle.theorems.proofs.LegLaws.{final, first, gone, back, reversal-gain}
 use Rattle.bounds.specs.Inside.{Small, Sized, Place, depot-inside, call-inside, all-take, all-drop, distance-small}
 use Rattle.whole.specs.Whole.{fl, limit, fl-add}
 use Rattle.whole.specs.Difference.{diff, diff-same, diff-fl, fl-diff, diff-add, diff-add-fl}

@@ -18,7 +18,7 @@ use Rattle.definitions.specs.Improver.{Given, givenOf, distanceOf, allowed}
 use Rattle.definitions.specs.TwoOpt.{turned, tried, triedAll, passFrom, pass, improved}
 use Rattle.definitions.specs.Refusals.{Within, WithinCalls}
 use Rattle.definitions.specs.Answers.{twoOpt}
-use Rattle.definitions.proofs.TwoOptLaws.{turned-same, pass-stays, improved-pass, improved-done, improved-same}
+use Rattle.theorems.proofs.TwoOptLaws.{turned-same, pass-stays, improved-pass, improved-done, improved-same}
 use Rattle.bounds.specs.Inside.{Sized, sized, Place, few-calls, calls-inside, same-inside, distance-small}
 use Rattle.bounds.specs.Bounds.{distance-most}
 use Rattle.whole.specs.Whole.{fl}

@@ -20,7 +20,7 @@ use Rattle.definitions.specs.Run.{start, placeAfter, lastOf, distanceFrom, Tota
 use Rattle.definitions.specs.Clock.{clock, placeOr, startOf}
 use Rattle.definitions.specs.Visits.{Violation, breakNotPlaceable, overCapacity, overDistance, overDuration, visited, windowsFrom, lastLabel, unless, buildRoute}
 use Rattle.definitions.specs.Refusals.{Within, WithinCalls}
-use Rattle.definitions.proofs.Visiting.{visits-clock}
+use Rattle.theorems.proofs.Visiting.{visits-clock}
 use Rattle.bounds.specs.Inside.{Small, Sized, sized, Place, few-calls, calls-inside, depot-inside, last-inside, time-small}
 use Rattle.bounds.specs.Bounds.{Early, start-early, distance-most, last-most, start-most}
 use Rattle.whole.specs.Whole.{fl, limit, fl-add, fl-lt}

@@ -14,9 +14,9 @@ use Rattle.definitions.specs.Sheet.{Break, Sheet, time}
 use Rattle.definitions.specs.Run.{breakStart, tooLate, ready, Label, start, serveAt, serve, breakAt, serveAll, lastOf, Totals, placed}
 use Rattle.definitions.specs.Clock.{clock, placeOr, startOf}
 use Rattle.definitions.specs.Visits.{readyFor, visited}
-use Rattle.definitions.proofs.Legality.{clock-own, ridden}
-use Rattle.definitions.proofs.Marking.{served-none}
-use Rattle.definitions.proofs.Visiting.{visited-served}
+use Rattle.theorems.proofs.Legality.{clock-own, ridden}
+use Rattle.theorems.proofs.Marking.{served-none}
+use Rattle.theorems.proofs.Visiting.{visited-served}
 
 -- how long the break is, and 0 where there is none
 abbrev pub lengthOf : Option Break → ℕ

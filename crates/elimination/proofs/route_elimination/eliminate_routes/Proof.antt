@@ -8,7 +8,7 @@ use lib.Seq.{length-take-le}
 use denote.Ref.{now}
 use Rattle.definitions.specs.Room.{written}
 use Rattle.definitions.specs.RunList.{runsOf}
-use Rattle.definitions.proofs.RunListLaws.{ends-many}
+use Rattle.theorems.proofs.RunListLaws.{ends-many}
 use Rattle.elimination.specs.Elimination.{eliminatedF}
 use Rattle.elimination.specs.Insertion.{lentTerms}
 use Rattle.elimination.proofs.Answering.{counted, calls-out, ends-out, few-calls, few-runs}

@@ -1,0 +1,41 @@
+-- What is proved of the definitions, for every sheet. (Their computed cases are in crates/definitions; that what `encode` writes is read back, and only that is accepted, is in crates/round_trip.)
+-- The break: serving is monotone in time, and the clock is as good as any place.
+pub mod Serving
+pub mod Places
+pub mod Legality
+-- The cutting: least, attained, of equals the earliest, by the generic theory.
+pub mod Recurrence
+pub mod Bridge
+pub mod Least
+-- The drop rule, and demand 3 as a whole.
+pub mod Shortest
+pub mod Dropping
+pub mod Placement
+pub mod Ties
+pub mod Promised
+pub mod RunListLaws
+pub mod Sentences
+-- Without window, limit and break.
+pub mod Plain
+pub mod Agreement
+pub mod Bare
+-- What an accepted call is known to be; the reader's leftmost bad word; a number as text.
+pub mod Ranges
+pub mod Accepted
+pub mod Leftmost
+pub mod Decimal
+-- The marker and the visits.
+pub mod GivenRuns
+pub mod Marking
+pub mod Faults
+pub mod GivenMarks
+pub mod OwnMark
+pub mod Visiting
+pub mod Violations
+-- The improvers.
+pub mod Sums
+pub mod SortLaws
+pub mod LegLaws
+pub mod TwoOptLaws
+pub mod EliminationLaws
+pub mod Improving

@@ -1,0 +1,314 @@
+-- The marker finds a fault in a run exactly where it is not legal; it says Best, Dearer or Cheaper exactly of legal runs of the served calls, by their cost, and Cheaper only with lateness pay and a break. Assumes nothing.
+use Prim.Native.Nat.{ℕ, suc, _+_, _-_, _≤_, _<_}
+use native.Mathlib.Omega.{arith}
+use mathlib.Core.Logic.{_↔_}
+use mathlib.Core.Path.{_≡_, refl, sym, ap, subst, _∙_}
+use mathlib.Core.Bool.{Bool, true, false, not}
+use mathlib.Core.List.{List, [], _∷_}
+use mathlib.Core.Option.{Option, none, some}
+use lib.ListN.{length}
+use lib.Dec.{ltb, eqb}
+use borrow.Author.Tests.{ltb-true, ltb-false, lt-ltb, le-ltb, eqb-true, eq-eqb}
+use Rattle.basics.specs.Tests.{by-test, not-both, both, and-true}
+use Rattle.basics.specs.Options.{_>>=_, holds, present, valueOr, orElse, given, neither, passed, same, clash}
+use Rattle.basics.specs.Lists.{isEmpty, all}
+use Rattle.definitions.specs.Sheet.{Break, Sheet, time, latenessPay}
+use Rattle.definitions.specs.Limits.{within}
+use Rattle.definitions.specs.Run.{ready, Label, start, serve, breakAt, serveAll, Totals, home, Run, ride, load, fits, placed, legal}
+use Rattle.definitions.specs.Cutting.{joined, legalCutting, cuttingCost}
+use Rattle.definitions.specs.Drop.{splitTw}
+use Rattle.definitions.specs.Marker.{markAgainst, Verdict, otherCalls, overload, breakTooLate, windowMissed, breakMissing, tooFar, tooLong, best, dearer, cheaper, differ, breakOr, callFault, walkFault, totalFault, runFault, firstFault, against, mark}
+use Rattle.definitions.specs.Marks.{Cuts, plannerCost, Compared, equal, above, below}
+use Rattle.theorems.proofs.Legality.{legal-has, has-legal, legal-arc, arc-clock}
+use Rattle.theorems.proofs.Promised.{byClock, Promise, clock-runs, promised}
+
+-- what is not there after a step that cannot fail was not there before it
+pub nothing-mapped : {A B : Type 0} (o : Option A) (f : A → B) → (o >>= λ x. some (f x)) ≡ none → o ≡ none
+nothing-mapped none f h = refl
+nothing-mapped (some x) f h = clash (sym h)
+
+-- ---- the walk
+
+module _ (s : Sheet) (n place : ℕ) where
+  walk-served : (k a : ℕ) (l : Label) (calls : List ℕ) → walkFault s n place k a l calls ≡ none → (m : Label) × (serveAll s place k a (some l) calls ≡ some m)
+  unfolding walkFault serveAll
+  walk-served k a l [] h = (l, refl)
+  walk-served k a l (c ∷ cs) h = go (serve s (breakAt s place k) k a c l) refl (λ m q. walk-served (suc k) c m cs q)
+    where
+      go : (o : Option Label) → serve s (breakAt s place k) k a c l ≡ o → ((m : Label) → walkFault s n place (suc k) c m cs ≡ none → (m' : Label) × (serveAll s place (suc k) c (some m) cs ≡ some m'))
+          → (m : Label) × (serveAll s place k a (some l) (c ∷ cs) ≡ some m)
+      go none e ih = clash (sym (rw (e, walkFault) at h))
+      go (some m) e ih =
+          let r = ih m (rw (e, walkFault) at h) in
+          (r .0, ap (λ (o : Option Label). serveAll s place (suc k) c o cs) e ∙ r .1)
+
+  pub served-none : (k a : ℕ) (calls : List ℕ) → serveAll s place k a none calls ≡ none
+  unfolding serveAll
+  served-none k a [] = refl
+  served-none k a (c ∷ cs) = served-none (suc k) c cs
+
+  served-walk : (k a : ℕ) (l : Label) (calls : List ℕ) (m : Label) → serveAll s place k a (some l) calls ≡ some m → walkFault s n place k a l calls ≡ none
+  unfolding walkFault serveAll
+  served-walk k a l [] m h = refl
+  served-walk k a l (c ∷ cs) m h = go (serve s (breakAt s place k) k a c l) refl (λ x q. served-walk (suc k) c x cs m q)
+    where
+      go : (o : Option Label) → serve s (breakAt s place k) k a c l ≡ o → ((x : Label) → serveAll s place (suc k) c (some x) cs ≡ some m → walkFault s n place (suc k) c x cs ≡ none)
+          → walkFault s n place k a l (c ∷ cs) ≡ none
+      go none e ih = clash (sym (served-none (suc k) c cs) ∙ ap (λ (o : Option Label). serveAll s place (suc k) c o cs) (sym e) ∙ h)
+      go (some x) e ih = rw (e, walkFault) (ih x (ap (λ (o : Option Label). serveAll s place (suc k) c o cs) (sym e) ∙ h))
+
+-- ---- a run
+
+pub unmarked-legal : (s : Sheet) (n : ℕ) (r : Run) → not (isEmpty (r .calls)) ≡ true → runFault s n r ≡ none → legal s r ≡ true
+unfolding runFault
+unmarked-legal s n r z h =
+    let a = neither (given (not (fits s (r .calls))) _) _ h in
+    let b = neither (walkFault s n (r .place) 1 0 start (r .calls)) _ (a .1) in
+    let m = walk-served s n (r .place) 1 0 start (r .calls) (b .0) in
+    let t = home s (r .calls) (m .0) in
+    let e : ride s r ≡ some t = rides s r (m .0) (m .1) in
+    let f : totalFault s n r t ≡ none = subst (λ (o : Option Totals). (o >>= totalFault s n r) ≡ none) e (b .1) in
+    let c = neither (given (not (placed (s .rest) (r .place) (length (r .calls)) (t .duration))) _) _ f in
+    let d = neither (given (not (within (s .maxDistance) (t .distance))) _) _ (c .1) in
+    has-legal s r t (record {
+      some-calls = z;
+      room = passed (fits s (r .calls)) _ (a .0);
+      rode = e;
+      kept-limits = and-true _ _ (passed (within (s .maxDistance) (t .distance)) _ (d .0)) (passed (within (s .maxDuration) (t .duration)) _ (d .1));
+      break-placed = passed (placed (s .rest) (r .place) (length (r .calls)) (t .duration)) _ (c .0);
+    })
+  where
+    rides : (s : Sheet) (r : Run) (l : Label) → serveAll s (r .place) 1 0 (some start) (r .calls) ≡ some l → ride s r ≡ some (home s (r .calls) l)
+    rides s r l e = Rattle.theorems.proofs.Legality.rides s (r .calls) (r .place) l e
+
+pub legal-unmarked : (s : Sheet) (n : ℕ) (r : Run) → legal s r ≡ true → runFault s n r ≡ none
+unfolding runFault
+legal-unmarked s n r h =
+    let (t, L) = legal-has s r h in
+    let m = Rattle.theorems.proofs.Legality.ridden s (r .calls) (r .place) t (L .rode) in
+    let w = served-walk s n (r .place) 1 0 start (r .calls) (m .0) (m .1) in
+    let b = both (within (s .maxDistance) (t .distance)) _ (L .kept-limits) in
+    rw (L .room, w, L .rode) (rw (L .break-placed, b .0, b .1) refl)
+
+pub unmarked-runs : (s : Sheet) (n : ℕ) (rs : List Run) → all (λ r. not (isEmpty (r .calls))) rs ≡ true → firstFault s n rs ≡ none → legalCutting s rs ≡ true
+unmarked-runs s n [] z h = refl
+unmarked-runs s n (r ∷ rs) z h =
+    let b = both (not (isEmpty (r .calls))) _ z in
+    let a = neither (runFault s n r) _ h in
+    and-true _ _ (unmarked-legal s n r (b .0) (a .0)) (unmarked-runs s (suc n) rs (b .1) (a .1))
+
+pub legal-runs-unmarked : (s : Sheet) (n : ℕ) (rs : List Run) → legalCutting s rs ≡ true → firstFault s n rs ≡ none
+legal-runs-unmarked s n [] h = refl
+legal-runs-unmarked s n (r ∷ rs) h = let b = both (legal s r) _ h in rw (legal-unmarked s n r (b .0)) (legal-runs-unmarked s (suc n) rs (b .1))
+
+-- ---- other calls
+
+pub differ-same : (k : ℕ) (xs ys : List ℕ) → differ k xs ys ≡ none → xs ≡ ys
+differ-same k [] [] h = refl
+differ-same k [] (y ∷ ys) h = clash (sym h)
+differ-same k (x ∷ xs) [] h = clash (sym h)
+differ-same k (x ∷ xs) (y ∷ ys) h =
+    by-test (eqb x y)
+    (λ t. let e = eqb-true x y t in ap (λ (z : ℕ). z ∷ xs) e ∙ ap (λ (l : List ℕ). y ∷ l) (differ-same (suc k) xs ys (rw t at h)))
+    (λ f. clash (sym (rw f at h)))
+
+pub same-differ : (k : ℕ) (xs : List ℕ) → differ k xs xs ≡ none
+same-differ k [] = refl
+same-differ k (x ∷ xs) = rw (eq-eqb x x refl) (same-differ (suc k) xs)
+
+-- ---- a fault is not Best, Dearer or Cheaper
+
+abbrev pub isPriced : Verdict → Bool
+isPriced (otherCalls p) = false
+isPriced (overload n l c) = false
+isPriced (breakTooLate n k c t l) = false
+isPriced (windowMissed n k c t l) = false
+isPriced (breakMissing n t e) = false
+isPriced (tooFar n d l) = false
+isPriced (tooLong n d l) = false
+isPriced best = true
+isPriced (dearer k) = true
+isPriced (cheaper k) = true
+
+abbrev Fault : Option Verdict → Type 0
+Fault o = (v : Verdict) → o ≡ some v → isPriced v ≡ false
+
+fault-one : (v : Verdict) → isPriced v ≡ false → (t : Bool) → Fault (given t v)
+fault-one v h true w e = subst (λ (x : Verdict). isPriced x ≡ false) (same e) h
+fault-one v h false w e = clash e
+
+fault-or : (a b : Option Verdict) → Fault a → Fault b → Fault (orElse a b)
+fault-or none b f g = g
+fault-or (some a) b f g = f
+
+call-fault : (s : Sheet) (n : ℕ) (here : Option Break) (k a c : ℕ) (l : Label) → isPriced (callFault s n here k a c l) ≡ false
+call-fault s n here k a c l = go (ready here (l .time + time s a c)) refl
+  where
+    go : (o : Option ℕ) → ready here (l .time + time s a c) ≡ o → isPriced (callFault s n here k a c l) ≡ false
+    go none e = rw (e, isPriced) refl
+    go (some r) e = rw (e, isPriced) refl
+
+walk-fault : (s : Sheet) (n place k a : ℕ) (l : Label) (calls : List ℕ) → Fault (walkFault s n place k a l calls)
+unfolding walkFault
+walk-fault s n place k a l [] = λ v e. clash e
+walk-fault s n place k a l (c ∷ cs) = go (serve s (breakAt s place k) k a c l) refl (λ m. walk-fault s n place (suc k) c m cs)
+  where
+    go : (o : Option Label) → serve s (breakAt s place k) k a c l ≡ o → ((m : Label) → Fault (walkFault s n place (suc k) c m cs)) → Fault (walkFault s n place k a l (c ∷ cs))
+    go none e ih = rw (e, walkFault) (λ v q. subst (λ (x : Verdict). isPriced x ≡ false) (same q) (call-fault s n (breakAt s place k) k a c l))
+    go (some m) e ih = rw (e, walkFault) (ih m)
+
+total-fault : (s : Sheet) (n : ℕ) (r : Run) (t : Totals) → Fault (totalFault s n r t)
+total-fault s n r t =
+    let A = not (placed (s .rest) (r .place) (length (r .calls)) (t .duration)) in
+    let B = not (within (s .maxDistance) (t .distance)) in
+    let C = not (within (s .maxDuration) (t .duration)) in
+    let x = breakMissing n (t .duration) (breakOr (s .rest) .earliest) in
+    let y = tooFar n (t .distance) (valueOr 0 (s .maxDistance)) in
+    let z = tooLong n (t .duration) (valueOr 0 (s .maxDuration)) in
+    fault-or (given A x) (orElse (given B y) (given C z)) (fault-one x refl A) (fault-or (given B y) (given C z) (fault-one y refl B) (fault-one z refl C))
+
+run-fault : (s : Sheet) (n : ℕ) (r : Run) → Fault (runFault s n r)
+unfolding runFault
+run-fault s n r =
+    let x = overload n (load s (r .calls)) (s .capacity) in
+    let A = not (fits s (r .calls)) in
+    let w = walkFault s n (r .place) 1 0 start (r .calls) in
+    fault-or (given A x) (orElse w (ride s r >>= totalFault s n r)) (fault-one x refl A)
+    (fault-or w (ride s r >>= totalFault s n r) (walk-fault s n (r .place) 1 0 start (r .calls)) (go (ride s r)))
+  where
+    go : (o : Option Totals) → Fault (o >>= totalFault s n r)
+    go none = λ v e. clash e
+    go (some t) = total-fault s n r t
+
+first-fault : (s : Sheet) (n : ℕ) (rs : List Run) → Fault (firstFault s n rs)
+first-fault s n [] = λ v e. clash e
+first-fault s n (r ∷ rs) = fault-or _ _ (run-fault s n r) (first-fault s (suc n) rs)
+
+-- ---- against the planner's cost
+
+against-priced : (planner cost : ℕ) → isPriced (against planner cost) ≡ true
+against-priced planner cost =
+    by-test (ltb planner cost) (λ t. rw t refl) (λ f. by-test (ltb cost planner) (λ t. rw (f, t) refl) (λ g. rw (f, g) refl))
+
+module _ (planner cost : ℕ) where
+  pub compared : Compared planner cost (against planner cost)
+  compared =
+      by-test (ltb planner cost)
+      (λ t. let h = ltb-true planner cost t in rw t (above {d = cost - planner} (omega arith) (omega arith)))
+      (λ f. let h = ltb-false planner cost f in
+      by-test (ltb cost planner)
+      (λ t. let h = ltb-true cost planner t in rw (f, t) (below {d = planner - cost} (omega arith) (omega arith)))
+      (λ g. let k = ltb-false cost planner g in rw (f, g) (equal (omega arith))))
+
+  is-equal : Compared planner cost best → cost ≡ planner
+  is-equal (equal e) = e
+
+  is-above : (d : ℕ) → Compared planner cost (dearer d) → (cost ≡ planner + d) × (0 < d)
+  is-above d (above e h) = (e, h)
+
+  is-below : (d : ℕ) → Compared planner cost (cheaper d) → (planner ≡ cost + d) × (0 < d)
+  is-below d (below e h) = (e, h)
+
+  against-is : (v : Verdict) → Compared planner cost v → against planner cost ≡ v
+  against-is v (equal e) = rw (le-ltb cost planner (omega arith), le-ltb planner cost (omega arith)) refl
+  against-is v (above e h) = rw (lt-ltb planner cost (omega arith)) (ap dearer (omega arith))
+  against-is v (below e h) = rw (le-ltb planner cost (omega arith), lt-ltb cost planner (omega arith)) (ap cheaper (omega arith))
+
+-- without a break on the sheet every legal run is as the clock has it
+plain-by-clock : (s : Sheet) → s .rest ≡ none → (rs : List Run) → legalCutting s rs ≡ true → byClock s rs ≡ true
+unfolding placed
+plain-by-clock s e [] h = refl
+plain-by-clock s e (r ∷ rs) h =
+    let b = both (legal s r) _ h in
+    let (t, L) = legal-has s r (b .0) in
+    let a = legal-arc s r (b .0) in
+    let y = arc-clock s (r .calls) (a .0) (a .1) in
+    let p : r .place ≡ 0 = eqb-true (r .place) 0 (subst (λ (o : Option Break). placed o (r .place) (length (r .calls)) (t .duration) ≡ true) e (L .break-placed)) in
+    let q : y .0 .place ≡ 0 = eqb-true (y .0 .place) 0 (subst (λ (o : Option Break). placed o (y .0 .place) (length (r .calls)) (y .0 .duration) ≡ true) e (y .2 .break-placed)) in
+    and-true _ _ (ap (λ (o : Option Totals). holds o (λ t. eqb (t .place) (r .place))) (y .1) ∙ eq-eqb (y .0 .place) (r .place) (q ∙ sym p)) (plain-by-clock s e rs (b .1))
+
+-- the mark's three ways
+pub mark-other : (s : Sheet) (tour : List ℕ) (rs : List Run) (p : ℕ) → differ 1 (joined rs) (splitTw s tour .served) ≡ some p → mark s tour rs ≡ otherCalls p
+unfolding markAgainst
+mark-other s tour rs p e = rw (e, markAgainst) refl
+
+pub mark-same : (s : Sheet) (tour : List ℕ) (rs : List Run) → differ 1 (joined rs) (splitTw s tour .served) ≡ none
+    → mark s tour rs ≡ valueOr (against (splitTw s tour .cost) (cuttingCost s rs)) (firstFault s 1 rs)
+unfolding markAgainst
+mark-same s tour rs e = rw (e, markAgainst) refl
+
+-- of a legal cutting of the served calls the mark is by its cost alone
+pub mark-legal : (s : Sheet) (tour : List ℕ) (rs : List Run) → joined rs ≡ splitTw s tour .served → legalCutting s rs ≡ true
+    → mark s tour rs ≡ against (splitTw s tour .cost) (cuttingCost s rs)
+mark-legal s tour rs j l =
+    mark-same s tour rs (subst (λ (c : List ℕ). differ 1 (joined rs) c ≡ none) j (same-differ 1 (joined rs)))
+    ∙ ap (λ (o : Option Verdict). valueOr (against (splitTw s tour .cost) (cuttingCost s rs)) o) (legal-runs-unmarked s 1 rs l)
+
+module _ (s : Sheet) (tour : List ℕ) (rs : List Run) (shaped : all (λ r. not (isEmpty (r .calls))) rs ≡ true) where
+  priced-cuts : isPriced (mark s tour rs) ≡ true → Cuts s tour rs
+  priced-cuts h = go (differ 1 (joined rs) (splitTw s tour .served)) refl
+    where
+      at : differ 1 (joined rs) (splitTw s tour .served) ≡ none → (o : Option Verdict) → firstFault s 1 rs ≡ o → isPriced (valueOr (against (plannerCost s tour) (cuttingCost s rs)) o) ≡ true → Cuts s tour rs
+      at e (some v) f k = not-both (isPriced v) k (first-fault s 1 rs v f)
+      at e none f k = (differ-same 1 (joined rs) (splitTw s tour .served) e, unmarked-runs s 1 rs shaped f)
+
+      go : (o : Option ℕ) → differ 1 (joined rs) (splitTw s tour .served) ≡ o → Cuts s tour rs
+      go (some p) e = not-both (isPriced (mark s tour rs)) h (ap isPriced (mark-other s tour rs p e))
+      go none e = at e (firstFault s 1 rs) refl (sym (ap isPriced (mark-same s tour rs e)) ∙ h)
+
+  -- the mark is Best, Dearer or Cheaper exactly when the runs are legal with their places and join to the served customers
+  pub priced-exactly : (isPriced (mark s tour rs) ≡ true) ↔ Cuts s tour rs
+  priced-exactly = (priced-cuts, λ c. ap isPriced (mark-legal s tour rs (c .0) (c .1)) ∙ against-priced (plannerCost s tour) (cuttingCost s rs))
+
+  compared-exactly : (v : Verdict) → isPriced v ≡ true → (mark s tour rs ≡ v) ↔ (Cuts s tour rs × Compared (plannerCost s tour) (cuttingCost s rs) v)
+  compared-exactly v p = (
+    λ h. let c = priced-cuts (ap isPriced h ∙ p) in (
+      c,
+      subst (λ (w : Verdict). Compared (plannerCost s tour) (cuttingCost s rs) w) (sym (mark-legal s tour rs (c .0) (c .1)) ∙ h) (compared (plannerCost s tour) (cuttingCost s rs)),
+    ),
+    λ x. mark-legal s tour rs (x .0 .0) (x .0 .1) ∙ against-is (plannerCost s tour) (cuttingCost s rs) v (x .1),
+  )
+
+  -- Best: at the planner's cost
+  pub best-exactly : (mark s tour rs ≡ best) ↔ (Cuts s tour rs × (cuttingCost s rs ≡ plannerCost s tour))
+  best-exactly =
+      let x = compared-exactly best refl in
+      (λ h. let y = x .0 h in (y .0, is-equal _ _ (y .1)), λ y. x .1 (y .0, equal (y .1)))
+
+  pub dearer-exactly : (d : ℕ) → (mark s tour rs ≡ dearer d) ↔ (Cuts s tour rs × (cuttingCost s rs ≡ plannerCost s tour + d) × (0 < d))
+  dearer-exactly d =
+      let x = compared-exactly (dearer d) refl in
+      (λ h. let y = x .0 h in let z = is-above _ _ d (y .1) in (y .0, z .0, z .1), λ y. x .1 (y .0, above (y .1) (y .2)))
+
+  pub cheaper-exactly : (d : ℕ) → (mark s tour rs ≡ cheaper d) ↔ (Cuts s tour rs × (plannerCost s tour ≡ cuttingCost s rs + d) × (0 < d))
+  cheaper-exactly d =
+      let x = compared-exactly (cheaper d) refl in
+      (λ h. let y = x .0 h in let z = is-below _ _ d (y .1) in (y .0, z .0, z .1), λ y. x .1 (y .0, below (y .1) (y .2)))
+
+  -- Cheaper occurs only with lateness pay and a break
+  pub cheaper-only : (d : ℕ) → mark s tour rs ≡ cheaper d → (latenessPay s ≡ true) × (present (s .rest) ≡ true)
+  cheaper-only d h = (
+    by-test (latenessPay s) (λ t. t) (λ f. off (P .least-free f rs (c .0 .0) (c .0 .1)) (c .1) (c .2)),
+    by-rest (s .rest) refl,
+  )
+    where
+      P : Promise s tour (splitTw s tour)
+      P = promised s tour
+
+      c : Cuts s tour rs × (plannerCost s tour ≡ cuttingCost s rs + d) × (0 < d)
+      c = cheaper-exactly d .0 h
+
+      off : {A : Type 0} {a b d : ℕ} → b ≤ a → b ≡ a + d → 0 < d → A
+      off p q r = absurd (omega arith)
+
+      by-rest : (o : Option Break) → s .rest ≡ o → present o ≡ true
+      by-rest (some b) e = refl
+      by-rest none e = off (P .least-clock rs (c .0 .0) (c .0 .1, clock-runs s rs (plain-by-clock s e rs (c .0 .1)))) (c .1) (c .2)
+
+-- the planner's own cutting is marked Best
+pub own-best : (s : Sheet) (tour : List ℕ) → mark s tour (promised s tour .runs) ≡ best
+own-best s tour =
+    let P = promised s tour in
+    mark-legal s tour (P .runs) (P .cuts) (P .all-legal)
+    ∙ ap (λ (n : ℕ). against (splitTw s tour .cost) n) (P .adds-up)
+    ∙ against-is (splitTw s tour .cost) (splitTw s tour .cost) best (equal refl)

@@ -1,0 +1,91 @@
+-- Serving is monotone in time: who is no later before a call is no later after it, and a break only delays. Assumes nothing.
+use Prim.Native.Nat.{ℕ, _+_, _-_, _*_, _≤_, max}
+use native.Mathlib.Omega.{arith}
+use native.Mathlib.Nat.{le-refl}
+use mathlib.Core.Path.{_≡_, refl, ap}
+use mathlib.Core.Option.{Option, none, some}
+use lib.Dec.{ltb}
+use borrow.Author.Tests.{ltb-false, le-ltb}
+use Rattle.basics.specs.Tests.{by-test}
+use Rattle.basics.specs.Options.{same, clash, bound}
+use Rattle.definitions.specs.Sheet.{Window, Break, Customer, Sheet, customer, time}
+use Rattle.definitions.specs.Window.{waiting, begins, Entry, enter}
+use Rattle.definitions.specs.Run.{serveAt, ready, Label, placeAfter, serve}
+
+-- to wait to ready is to wait as long as waiting says
+pub waits : (w : Window) (r : ℕ) → begins (some w) r ≡ r + waiting w r
+waits w r = omega arith
+
+-- an earlier readiness enters where a later one does, and service starts no later
+pub enter-mono : (w : Option Window) (p : Option ℕ) (r' r : ℕ) → r' ≤ r → (e : Entry) → enter w p r ≡ some e
+    → (e' : Entry) × (enter w p r' ≡ some e') × (e' .start ≤ e .start)
+unfolding enter
+enter-mono none p r' r h e q = let z = ap (λ (x : Entry). x .start) (same q) in (record { start = r'; lateness = 0; pay = 0 }, refl, omega arith)
+enter-mono (some w) none r' r h e q =
+    by-test (ltb (w .due) r) (λ t. clash (rw t at q))
+    (λ f. let z = ap (λ (x : Entry). x .start) (same (rw f at q)) in
+    let i : r ≤ w .due = ltb-false (w .due) r f in
+    (record { start = max r' (w .ready); lateness = 0; pay = 0 }, rw (le-ltb (w .due) r' (omega arith)) refl, omega arith))
+enter-mono (some w) (some p) r' r h e q =
+    let z = ap (λ (x : Entry). x .start) (same q) in
+    (record { start = max r' (w .ready); lateness = r' - w .due; pay = p * (r' - w .due) }, refl, omega arith)
+
+-- readiness by the break at `here'` is there where it is by `here`, and no later
+abbrev pub Readier : Option Break → Option Break → Type 0
+Readier here' here = (t' t : ℕ) → t' ≤ t → (r : ℕ) → ready here t ≡ some r → (r' : ℕ) × (ready here' t' ≡ some r') × (r' ≤ r)
+
+pub ready-mono : (here : Option Break) → Readier here here
+unfolding ready
+ready-mono none t' t h r q = let z = same q in (t', refl, omega arith)
+ready-mono (some b) t' t h r q =
+    by-test (ltb (b .latest) (max t (b .earliest))) (λ e. clash (rw e at q))
+    (λ f. let z = same (rw f at q) in
+    let i : max t (b .earliest) ≤ b .latest = ltb-false (b .latest) (max t (b .earliest)) f in
+    (max t' (b .earliest) + b .duration, rw (le-ltb (b .latest) (max t' (b .earliest)) (omega arith)) refl, omega arith))
+
+-- a break only delays
+pub ready-sooner : (b : Break) → Readier none (some b)
+unfolding ready
+ready-sooner b t' t h r q =
+    by-test (ltb (b .latest) (max t (b .earliest))) (λ e. clash (rw e at q))
+    (λ f. let z = same (rw f at q) in (t', refl, omega arith))
+
+-- the label x is there where y is, and no later
+abbrev pub NoLater : Option Label → Option Label → Type 0
+NoLater x y = (l : Label) → y ≡ some l → (l' : Label) × (x ≡ some l') × (l' .time ≤ l .time)
+
+module _ (c : Customer) (here' here : Option Break) (R : Readier here' here) (k' k travel' travel : ℕ) (near : travel' ≤ travel) where
+  -- no later before a call, and no further away: no later after it
+  pub serve-readier : (l' l : Label) → l' .time ≤ l .time → NoLater (serveAt c here' k' travel' l') (serveAt c here k travel l)
+  unfolding serveAt
+  serve-readier l' l h m q =
+      let x = bound (ready here (l .time + travel)) _ m q in
+      let y = bound (enter (c .window) (c .penalty) (x .0)) _ m (x .2) in
+      let u = R (l' .time + travel') (l .time + travel) (omega arith) (x .0) (x .1) in
+      let v = enter-mono (c .window) (c .penalty) (u .0) (x .0) (u .2) (y .0) (y .1) in
+      let z = ap (λ (n : Label). n .time) (same (y .2)) in (
+        record {
+          time = v .0 .start + c .service;
+          lateness = l' .lateness + v .0 .lateness;
+          pay = l' .pay + v .0 .pay;
+          place = placeAfter here' k' (l' .place);
+        },
+        rw (u .1, v .1) refl,
+        omega (arith, z, v .2),
+      )
+
+-- a label that is no later is served no later
+pub serve-mono : (s : Sheet) (here : Option Break) (k' k a c : ℕ) (l' l : Label) → l' .time ≤ l .time → NoLater (serve s here k' a c l') (serve s here k a c l)
+serve-mono s here k' k a c l' l h = serve-readier (customer s c) here here (ready-mono here) k' k (time s a c) (time s a c) (le-refl (time s a c)) l' l h
+
+-- and without the break at the call too
+pub serve-sooner : (s : Sheet) (b : Break) (k' k a c : ℕ) (l' l : Label) → l' .time ≤ l .time → NoLater (serve s none k' a c l') (serve s (some b) k a c l)
+serve-sooner s b k' k a c l' l h = serve-readier (customer s c) none (some b) (ready-sooner b) k' k (time s a c) (time s a c) (le-refl (time s a c)) l' l h
+
+-- the break place after a call
+pub serve-place : (s : Sheet) (here : Option Break) (k a c : ℕ) (l m : Label) → serve s here k a c l ≡ some m → placeAfter here k (l .place) ≡ m .place
+unfolding serveAt
+serve-place s here k a c l m q =
+    let x = bound (ready here (l .time + time s a c)) _ m q in
+    let y = bound (enter (customer s c .window) (customer s c .penalty) (x .0)) _ m (x .2) in
+    ap (λ (n : Label). n .place) (same (y .2))

@@ -1,0 +1,210 @@
+-- Violations: when the break is reported, when there is none at all, and how many there are at most. Assumes nothing.
+use Prim.Native.Nat.{ℕ, suc, _+_, _≤_}
+use native.Mathlib.Omega.{arith}
+use native.Mathlib.Nat.{le-refl}
+use mathlib.Core.Path.{_≡_, refl, sym, ap, subst, _∙_}
+use mathlib.Core.Bool.{Bool, true, false, not, _&&_, _||_, and-true, and-false, and-assoc, or-false, Bool·not-not}
+use mathlib.Core.List.{List, [], _∷_, _++_}
+use mathlib.Core.Option.{Option, none, some}
+use lib.ListN.{length, length-append}
+use lib.Dec.{eqb}
+use borrow.Author.Tests.{le-leb}
+use Rattle.basics.specs.Tests.{by-test, not-both}
+use Rattle.basics.specs.Options.{present, valueOr, clash}
+use Rattle.basics.specs.Lists.{any-append, empty-append, isEmpty, any}
+use Rattle.definitions.specs.Sheet.{Break, Sheet, time}
+use Rattle.definitions.specs.Window.{Entry}
+use Rattle.definitions.specs.Limits.{within}
+use Rattle.definitions.specs.Run.{serveAt, ready, Label, start, serve, breakAt, serveAll, Totals, home, load, fits, allowed}
+use Rattle.definitions.specs.Clock.{clock, counts, placeOr}
+use Rattle.definitions.specs.Evaluation.{routeEval, routeFeasible}
+use Rattle.definitions.specs.Visits.{Violation, windowShut, breakNotPlaceable, overCapacity, overDistance, overDuration, readyFor, entered, visited, windowsFrom, lastLabel, unless, buildRoute}
+use Rattle.definitions.specs.Lent.{violationRoom}
+use Rattle.theorems.proofs.Legality.{plain, clocked, end, back, labelOf}
+use Rattle.theorems.proofs.Marking.{nothing-mapped}
+use Rattle.theorems.proofs.Visiting.{visited-served, visits-clock}
+
+abbrev pub isWindow : Violation → Bool
+isWindow (windowShut c r d) = true
+isWindow breakNotPlaceable = false
+isWindow (overCapacity l c) = false
+isWindow (overDistance d l) = false
+isWindow (overDuration d l) = false
+
+abbrev pub isBreak : Violation → Bool
+isBreak (windowShut c r d) = false
+isBreak breakNotPlaceable = true
+isBreak (overCapacity l c) = false
+isBreak (overDistance d l) = false
+isBreak (overDuration d l) = false
+
+-- a violation of another kind, if it is there, changes nothing
+quiet : (p : Violation → Bool) (l : List Violation) (b : Bool) (v : Violation) → p v ≡ false → any p (l ++ unless b v) ≡ any p l
+quiet p l b v h = any-append p l (unless b v) ∙ ap (λ (t : Bool). any p l || t) (off b) ∙ or-false (any p l)
+  where
+    off : (b : Bool) → any p (unless b v) ≡ false
+    off true = refl
+    off false = rw h refl
+
+empty-unless : (b : Bool) (v : Violation) → isEmpty (unless b v) ≡ b
+empty-unless true v = refl
+empty-unless false v = refl
+
+one : (b : Bool) (v : Violation) → length (unless b v) ≤ 1
+one true v = omega arith
+one false v = le-refl 1
+
+module _ (s : Sheet) (place : ℕ) where
+  only-windows : (k a : ℕ) (l : Label) (calls : List ℕ)
+      → (any isBreak (windowsFrom s place k a l calls) ≡ false) × (any isWindow (windowsFrom s place k a l calls) ≡ not (isEmpty (windowsFrom s place k a l calls)))
+  unfolding windowsFrom
+  only-windows k a l [] = (refl, refl)
+  only-windows k a l (c ∷ cs) =
+      let ih = only-windows (suc k) c (visited s (breakAt s place k) k a c l) cs in
+      by-test (present (entered s c (readyFor s (breakAt s place k) a c l))) (λ t. rw t ih) (λ f. rw f (ih .0, refl))
+
+  windows-room : (k a : ℕ) (l : Label) (calls : List ℕ) → length (windowsFrom s place k a l calls) ≤ length calls
+  unfolding windowsFrom
+  windows-room k a l [] = le-refl 0
+  windows-room k a l (c ∷ cs) =
+      let ih = windows-room (suc k) c (visited s (breakAt s place k) k a c l) cs in
+      by-test (present (entered s c (readyFor s (breakAt s place k) a c l))) (λ t. rw t (omega arith)) (λ f. rw f (omega arith))
+
+  -- a call that fails though the break is not there is reached after due
+  shut : (k a c : ℕ) (l : Label) → s .rest ≡ none → serve s (breakAt s place k) k a c l ≡ none → present (entered s c (readyFor s (breakAt s place k) a c l)) ≡ false
+  unfolding serveAt ready
+  shut k a c l e q = subst (λ (o : Option Break). serve s o k a c l ≡ none → present (entered s c (readyFor s o a c l)) ≡ false) (sym nowhere) (λ r. ap (λ (o : Option Entry). present o) (nothing-mapped (entered s c (l .time + time s a c)) _ r)) q
+    where
+      nowhere : breakAt s place k ≡ none
+      nowhere = rw e (by-test (eqb place k) (λ t. rw t refl) (λ f. rw f refl))
+
+  -- without a break on the sheet only a window can fail, and then it is among the violations
+  missed : s .rest ≡ none → (k a : ℕ) (l : Label) (calls : List ℕ) → serveAll s place k a (some l) calls ≡ none → isEmpty (windowsFrom s place k a l calls) ≡ false
+  unfolding serveAll windowsFrom
+  missed e k a l [] q = clash (sym q)
+  missed e k a l (c ∷ cs) q = go (serve s (breakAt s place k) k a c l) refl (λ m r. missed e (suc k) c m cs r)
+    where
+      go : (o : Option Label) → serve s (breakAt s place k) k a c l ≡ o → ((m : Label) → serveAll s place (suc k) c (some m) cs ≡ none → isEmpty (windowsFrom s place (suc k) c m cs) ≡ false)
+          → isEmpty (windowsFrom s place k a l (c ∷ cs)) ≡ false
+      go none f ih = rw (shut k a c l e f) refl
+      go (some m) f ih =
+          let v = visited-served s (breakAt s place k) k a c l m f in
+          rw (v .1) (ap (λ (x : Label). isEmpty (windowsFrom s place (suc k) c x cs)) (v .0) ∙ ih m (ap (λ (o : Option Label). serveAll s place (suc k) c o cs) (sym f) ∙ q))
+
+-- the break is reported only where no window is
+break-room : (w : List Violation) (p : Bool) (n : ℕ) → length w ≤ suc n → length w + length (unless (not (p && isEmpty w)) breakNotPlaceable) ≤ suc n
+break-room [] p n h = let b = one (not (p && true)) breakNotPlaceable in omega arith
+break-room (x ∷ w) p n h = rw (and-false p) (omega arith)
+
+module _ (s : Sheet) (calls : List ℕ) where
+  -- the violations of a run in their order, from the windows missed, whether the break is reported, and the totals
+  abbrev ordered : List Violation → Bool → Totals → List Violation
+  ordered w q t =
+      w
+      ++ unless (not q) breakNotPlaceable
+      ++ unless (fits s calls) (overCapacity (load s calls) (s .capacity))
+      ++ unless (within (s .maxDistance) (t .distance)) (overDistance (t .distance) (valueOr 0 (s .maxDistance)))
+      ++ unless (within (s .maxDuration) (t .duration)) (overDuration (t .duration) (valueOr 0 (s .maxDuration)))
+
+  any-ordered : (p : Violation → Bool) → ((n m : ℕ) → (p (overCapacity n m) ≡ false) × (p (overDistance n m) ≡ false) × (p (overDuration n m) ≡ false))
+      → (w : List Violation) (q : Bool) (t : Totals) → any p (ordered w q t) ≡ any p w || (q && p breakNotPlaceable)
+  any-ordered p h w q t =
+      let b = w ++ unless (not q) breakNotPlaceable in
+      let c = b ++ unless (fits s calls) (overCapacity (load s calls) (s .capacity)) in
+      quiet p (c ++ unless (within (s .maxDistance) (t .distance)) (overDistance (t .distance) (valueOr 0 (s .maxDistance)))) (within (s .maxDuration) (t .duration)) _ (h _ _ .2)
+      ∙ quiet p c (within (s .maxDistance) (t .distance)) _ (h _ _ .1)
+      ∙ quiet p b (fits s calls) _ (h _ _ .0)
+      ∙ any-append p w (unless (not q) breakNotPlaceable)
+      ∙ ap (λ (u : Bool). any p w || u) (on q)
+    where
+      on : (q : Bool) → any p (unless (not q) breakNotPlaceable) ≡ q && p breakNotPlaceable
+      on true = or-false (p breakNotPlaceable)
+      on false = refl
+
+  empty-ordered : (w : List Violation) (q : Bool) (t : Totals)
+      → isEmpty (ordered w q t) ≡ (isEmpty w && not q && fits s calls && within (s .maxDistance) (t .distance) && within (s .maxDuration) (t .duration))
+  empty-ordered w q t = simp (empty-append, empty-unless)
+
+  -- the three by the clock's answer
+  abbrev missedBy : Option Totals → List Violation
+  missedBy o = windowsFrom s (placeOr o) 1 0 start calls
+
+  abbrev reportedBy : Option Totals → Bool
+  reportedBy o = present (s .rest) && not (present o) && isEmpty (missedBy o)
+
+  abbrev totalsBy : Option Totals → Totals
+  totalsBy o = home s calls (lastLabel s (placeOr o) 1 0 start calls)
+
+  abbrev violationsBy : Option Totals → List Violation
+  violationsBy o = ordered (missedBy o) (reportedBy o) (totalsBy o)
+
+  violations-are : buildRoute s calls .violations ≡ violationsBy (clock s calls)
+  unfolding buildRoute
+  violations-are = refl
+
+  -- the break is reported exactly when the sheet has one, the clock has no answer, and no window violation is reported
+  pub break-reported : any isBreak (buildRoute s calls .violations) ≡ (present (s .rest) && not (present (clock s calls)) && not (any isWindow (buildRoute s calls .violations)))
+  break-reported = rw violations-are (go (clock s calls))
+    where
+      go : (o : Option Totals) → any isBreak (violationsBy o) ≡ (present (s .rest) && not (present o) && not (any isWindow (violationsBy o)))
+      go o =
+          let w = only-windows s (placeOr o) 1 0 start calls in
+          let b = any-ordered isBreak (λ n m. (refl, refl, refl)) (missedBy o) (reportedBy o) (totalsBy o) in
+          let a = any-ordered isWindow (λ n m. (refl, refl, refl)) (missedBy o) (reportedBy o) (totalsBy o) in
+          let e = isEmpty (missedBy o) in
+          rw (b, a, w .0, w .1, and-true (reportedBy o), and-false (reportedBy o), or-false (not e), Bool·not-not e) refl
+
+  -- there is no violation exactly when the run fits and `route_eval` has an answer
+  pub no-violation : isEmpty (buildRoute s calls .violations) ≡ (fits s calls && routeFeasible s calls)
+  unfolding routeFeasible routeEval buildRoute
+  no-violation = rw violations-are (go (clock s calls) refl)
+    where
+      answered : (t : Totals) → clock s calls ≡ some t → routeFeasible s calls ≡ allowed s t
+      answered t e = rw e (by-test (allowed s t) (λ t. rw t refl) (λ f. rw f refl))
+
+      -- without a break on the sheet a window is missed, and with one the break is reported
+      nowhere : clock s calls ≡ none → (r : Option Break) → s .rest ≡ r → isEmpty (missedBy none) ≡ true → isEmpty (violationsBy none) ≡ false
+      nowhere e (some b) r w = empty-ordered (missedBy none) (reportedBy none) (totalsBy none) ∙ rw (w, ap (λ (o : Option Break). present o) r) refl
+      nowhere e none r w = not-both (isEmpty (missedBy none)) w (missed s 0 r 1 0 start calls (none-left (labelOf s calls 0) refl))
+        where
+          none-left : (o : Option Label) → labelOf s calls 0 ≡ o → o ≡ none
+          none-left none q = refl
+          none-left (some l) q = clash (sym e ∙ clocked s calls l (ap (λ (o : Option Break). counts o (back s calls) (end s calls)) r ∙ plain s calls ∙ q))
+
+      go : (o : Option Totals) → clock s calls ≡ o → isEmpty (violationsBy o) ≡ (fits s calls && routeFeasible s calls)
+      go none e =
+          by-test (isEmpty (missedBy none)) (λ w. nowhere e (s .rest) refl w)
+          (λ w. empty-ordered (missedBy none) (reportedBy none) (totalsBy none) ∙ rw w refl)
+          ∙ rw e (sym (and-false (fits s calls)))
+      go (some t) e =
+          let v = visits-clock s calls t e in
+          ap (λ (w : List Violation). isEmpty (ordered w (present (s .rest) && false && isEmpty w) (totalsBy (some t)))) (v .1)
+          ∙ ap (λ (u : Totals). isEmpty (ordered [] (present (s .rest) && false && true) u)) (sym (ap totalsBy e) ∙ v .0)
+          ∙ empty-ordered [] (present (s .rest) && false && true) t
+          ∙ rw (and-false (present (s .rest))) (and-assoc (fits s calls) _ _ ∙ ap (λ (b : Bool). fits s calls && b) (sym (answered t e)))
+
+  -- how many there are at most: the windows missed, the break or none, the load or none, two limits
+  room-ordered : (w : List Violation) (q : Bool) (t : Totals)
+      → length (ordered w q t) ≤ length w + length (unless (not q) breakNotPlaceable) + length (unless (fits s calls) (overCapacity (load s calls) (s .capacity))) + 2
+  room-ordered w q t =
+      let d = one (within (s .maxDistance) (t .distance)) (overDistance (t .distance) (valueOr 0 (s .maxDistance))) in
+      let l = one (within (s .maxDuration) (t .duration)) (overDuration (t .duration) (valueOr 0 (s .maxDuration))) in
+      simp length-append (omega arith)
+
+  -- where the windows missed are n and one more at most, so are they with the break
+  room-within : (n k : ℕ) → length (missedBy (clock s calls)) ≤ suc n → length (unless (fits s calls) (overCapacity (load s calls) (s .capacity))) ≤ k
+      → length (buildRoute s calls .violations) ≤ suc n + k + 2
+  room-within n k w f =
+      let o = clock s calls in
+      let r = room-ordered (missedBy o) (reportedBy o) (totalsBy o) in
+      let b = break-room (missedBy o) (present (s .rest) && not (present o)) n w in
+      rw violations-are (omega arith)
+
+-- the room that the violations need: three more than the calls
+pub violations-room : (s : Sheet) (calls : List ℕ) → length (buildRoute s calls .violations) ≤ violationRoom (length calls)
+unfolding windowsFrom
+violations-room s [] = room-within s [] 0 0 (omega arith) (rw (le-leb 0 (s .capacity) (omega arith)) (le-refl 0))
+violations-room s (c ∷ cs) =
+    let w = windows-room s (placeOr (clock s (c ∷ cs))) 1 0 start (c ∷ cs) in
+    let r = room-within s (c ∷ cs) (length cs) 1 w (one (fits s (c ∷ cs)) (overCapacity (load s (c ∷ cs)) (s .capacity))) in
+    omega arith
