@@ -24,10 +24,10 @@ use Rattle.evaluation.specs.Image.{Image}
 use Rattle.local_search.specs.Search.{SearchF, searchF, told}
 use Rattle.two_opt.specs.TwoOpt.{improvedF, improvedDistanceF}
 use Rattle.two_opt.proofs.TwoOptExact.{AsDefined, two-opt-exact}
-use Rattle.checked_improvers.specs.declared.improving.Reversed.{Reversed}
-use Rattle.checked_improvers.specs.declared.improving.Reversed.the-variants as Reverseds
+use Rattle.checked_improvers.specs.declared.reversing.Reversed.{Reversed}
+use Rattle.checked_improvers.specs.declared.reversing.Reversed.the-variants as Reverseds
 use Rattle.checked.specs.Answers.{Answers}
-use Rattle.checked_improvers.specs.Improving.{reversalLent, reversedOf, Reverses}
+use Rattle.checked_improvers.specs.Reversing.{reversalLent, reversedOf, Reverses}
 use Rattle.checked.proofs.Accepting.{meant}
 use Rattle.checked_improvers.proofs.ImproverAnswers.{improver-accepted, refused-improver, given-improver}
 

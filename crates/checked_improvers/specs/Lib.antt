@@ -1,4 +1,4 @@
 -- The answer of the reversal of stretches.
-pub mod Improving
+pub mod Reversing
 -- The answer of route elimination.
 pub mod Eliminating

@@ -1,3 +1,3 @@
 // The improvers on an array of records: refused by number with nothing written, or the answer.
 pub mod eliminating;
-pub mod improving;
+pub mod reversing;

@@ -18,7 +18,7 @@ use Rattle.definitions.specs.Clock.{smaller, sooner}
 use Rattle.bounds.specs.Inside.{Small, SmallWindow, SmallBreak, SmallCustomer}
 use Rattle.bounds.specs.Bounds.{Early, arriveBy, readyBy, ready-most, enter-most, late-pay-most, LabelFits}
 use Rattle.whole.specs.Whole.{fl, fl-add, fl-mul, fl-lt, fl-eq}
-use Rattle.whole.specs.Later.{later-fl}
+use Rattle.whole.specs.Larger.{larger-fl}
 use Rattle.models.specs.Image.{flWindow, flBreak, flCustomer}
 use Rattle.models.specs.Window.{waitingF}
 use Rattle.models.proofs.Exact.{late-exact, waiting-exact, lateness-exact}
@@ -39,7 +39,7 @@ module _ (k : ℕ) (few : k < mostCalls) where
   unfolding readyF ready
   ready-exact none H t h = refl
   ready-exact (some b) H t h =
-      rw (later-fl t (b .earliest) (omega arith) (omega arith), fl-lt (b .latest) (breakStart b t) (omega arith) (omega arith), fl-add (breakStart b t) (b .duration) (omega arith) (omega arith))
+      rw (larger-fl t (b .earliest) (omega arith) (omega arith), fl-lt (b .latest) (breakStart b t) (omega arith) (omega arith), fl-add (breakStart b t) (b .duration) (omega arith) (omega arith))
       (by-test (tooLate b t) (λ e. rw e) (λ e. rw e))
 
   pub place-exact : (here : Option Break) (j place : ℕ) → placeAfterF (Option·map flBreak here) j place ≡ placeAfter here j place

@@ -7,7 +7,7 @@ use lib.Ieee.{Float, binary64}
 use Rattle.basics.specs.Options.{_>>=_}
 use Rattle.definitions.specs.Sheet.{WindowOf, BreakOf, CustomerOf}
 use Rattle.whole.specs.Whole.{fl}
-use Rattle.whole.specs.Later.{laterF}
+use Rattle.whole.specs.Larger.{largerF}
 use Rattle.models.specs.Window.{lateF, waitingF, latenessF}
 use Rattle.clock.specs.declared.schedule.Label.{Label}
 
@@ -23,7 +23,7 @@ atTime t l = record { time = t; lateness = l .lateness; cost = l .cost; place = 
 
 -- it starts at the later of arrival and earliest
 abbrev pub breakStartF : BreakOf Float → Float → Float
-breakStartF b arrival = laterF arrival (b .earliest)
+breakStartF b arrival = largerF arrival (b .earliest)
 
 -- readiness: after the break, if it is here and starts by latest, and else the arrival
 unfoldable pub readyF : Option (BreakOf Float) → Float → Option Float

@@ -11,7 +11,7 @@ use models::customer::Penalty;
 use models::customer::TimeWindow;
 use models::vehicle::Rest;
 use models::vehicle::VehicleBreak;
-use whole::later;
+use whole::larger;
 
 // The bus with a call served. The place is the number of the call at which the break was taken, from 1, or 0.
 pub struct Label {
@@ -61,7 +61,7 @@ pub struct BreakClock {
 pub fn break_start_at(rest: VehicleBreak, arrival: f64) -> f64
     ensures { λ r. ⌜ r ≡ breakStartF (breakOf rest) arrival ⌝ }
 {
-    later(arrival, rest.earliest)
+    larger(arrival, rest.earliest)
 }
 
 // Ready on arrival or, with the break here, after it; the break starts at latest by latest.

@@ -24,7 +24,7 @@ use Rattle.bounds.specs.Inside as Inside
 use Rattle.bounds.specs.Bounds.{Early, begun, start-early, serve-all-most, distance-most, clock-most, TotalsFit, totals-fit}
 use Rattle.theorems.proofs.Legality.{plain}
 use Rattle.whole.specs.Whole.{fl, fl-add}
-use Rattle.whole.specs.Later.{later-fl}
+use Rattle.whole.specs.Larger.{larger-fl}
 use Rattle.models.specs.Image.{flBreak}
 use Rattle.models.specs.Limits.{allowF}
 use Rattle.models.proofs.Exact.{Small, allow-exact}
@@ -170,7 +170,7 @@ module _ (s : Sheet) (S : Sized s) (t : Tables) (I : Image s t) where
         ∙ rw (time-exact s S t I from to (last-inside s 0 done (depot-inside s S) within) (call-inside s S calls k i))
         (through (last done less within) flLabel _ fl (λ l. some (breakStart b (l .time + time s from to)))
         (λ l e. let E = last-early done less within l e in
-        rw (fl-add (l .time) (time s from to) (omega arith) (omega (arith, time-small s S from to)), later-fl (l .time + time s from to) (b .earliest) (omega (arith, time-small s S from to)) (omega arith))))
+        rw (fl-add (l .time) (time s from to) (omega arith) (omega (arith, time-small s S from to)), larger-fl (l .time + time s from to) (b .earliest) (omega (arith, time-small s S from to)) (omega arith))))
 
     pub start-exact : (place : ℕ) → startF t (Option·map flBreak (s .rest)) place calls ≡ Option·map fl (startOf s (record { calls = calls; place = place }))
     unfolding startF startOf

@@ -22,7 +22,7 @@ use Rattle.definitions.specs.Window.{late, lateness, Entry, enter}
 use Rattle.definitions.specs.Run.{Label, start, ready, serveAt, serve, serveAll, breakAt, lastOf, distanceFrom, Totals, home}
 use Rattle.definitions.specs.Clock.{clock}
 use Rattle.whole.specs.Whole.{fl, limit, fl-add, fl-sub, fl-mul}
-use Rattle.whole.specs.Later.{later-fl}
+use Rattle.whole.specs.Larger.{larger-fl}
 use Rattle.models.specs.Image.{flWindow, flBreak, flCustomer}
 use Rattle.models.proofs.Exact.{late-exact}
 use Rattle.clock.specs.Clock.{begunF, finishF}
@@ -60,11 +60,11 @@ module _ (k : ℕ) (few : k < mostCalls) where
     unfolding enterF chargeF enter
     enter-exact none W q Q = rw (add-zero paid)
     enter-exact (some w) W none Q =
-        rw (late-exact w r (omega arith) (omega arith) (omega arith), later-fl r (w .ready) (omega arith) (omega arith))
+        rw (late-exact w r (omega arith) (omega arith) (omega arith), larger-fl r (w .ready) (omega arith) (omega arith))
         (by-test (late w r) (λ t. rw t) (λ f. rw (f, add-zero paid)))
     enter-exact (some w) W (some q) Q =
         let due = late-pay-most w q k r few Q h in
-        rw (late-exact w r (omega arith) (omega arith) (omega arith), later-fl r (w .ready) (omega arith) (omega arith))
+        rw (late-exact w r (omega arith) (omega arith) (omega arith), larger-fl r (w .ready) (omega arith) (omega arith))
         (by-test (late w r)
         (λ t. let i = ltb-true (w .due) r t in
         rw (t, fl-sub r (w .due) (omega arith) (omega arith) (le-of-lt i), fl-mul q (lateness w r) (omega arith) (omega arith), fl-add paid (q * lateness w r) (omega arith) (omega (arith, due))))

@@ -13,12 +13,12 @@ use Rattle.whole.specs.Whole.{fl}
 use Rattle.sheet.specs.Summary as Summary
 use Rattle.sheet.specs.Summary.{summaryOf}
 use Rattle.elimination.specs.declared.route_elimination.Left.{Left}
-use Rattle.checked_improvers.specs.declared.improving.ImprovedRun.{ImprovedRun}
-use Rattle.checked_improvers.specs.declared.improving.Reversed.{Reversed}
-use Rattle.checked_improvers.specs.declared.improving.Reversed.the-variants as Reverseds
+use Rattle.checked_improvers.specs.declared.reversing.ImprovedRun.{ImprovedRun}
+use Rattle.checked_improvers.specs.declared.reversing.Reversed.{Reversed}
+use Rattle.checked_improvers.specs.declared.reversing.Reversed.the-variants as Reverseds
 use Rattle.checked_improvers.specs.declared.eliminating.Elimination.{Elimination}
 use Rattle.checked_improvers.specs.declared.eliminating.Elimination.the-variants as Eliminations
-use Rattle.checked_improvers.specs.Improving.{improvedRunOf, reversedOf}
+use Rattle.checked_improvers.specs.Reversing.{improvedRunOf, reversedOf}
 use Rattle.checked_improvers.specs.Eliminating.{leftOf, eliminationOf}
 use Rattle.exports.specs.Answer.{gives, wordOf}
 use Rattle.exports.specs.Called.{callNumber, setBy, listBy}

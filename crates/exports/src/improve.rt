@@ -6,7 +6,7 @@ ghost use Rattle.exports.specs.Answer.{wordOf};
 ghost use Rattle.exports.specs.Called.{callNumber, setBy, listBy};
 ghost use Rattle.exports.specs.Improve.{reverseAnswer, eliminateAnswer, countsLeft};
 use checked_improvers::eliminating::Elimination;
-use checked_improvers::improving::Reversed;
+use checked_improvers::reversing::Reversed;
 use sheet::read::Reading;
 use sheet::read::read;
 use sheet_improve::improve::eliminate_sheet;

@@ -6,6 +6,7 @@ ghost use Rattle.definitions.specs.Refusals.{endsFall, emptyRun, breakBeyond};
 ghost use Rattle.lists.specs.Needs.{runsOddOf};
 use crate::kind::Kind;
 use models::count::fewer;
+use models::domain::MOST_CALLS;
 
 // An end below the one before it, or the last is not the number of calls.
 pub fn ends_fall(ends: &[usize], calls: usize) -> bool
@@ -75,7 +76,7 @@ pub fn break_beyond(rest: bool, ends: &[usize], breaks: &[usize]) -> bool
 pub fn runs_odd(kind: Kind, rest: bool, calls: usize, ends: &[usize], breaks: &[usize]) -> bool
     ensures { λ r. ⌜ r ≡ runsOddOf kind rest calls (now (ends .entry)) (now (breaks .entry)) ⌝ }
 {
-    let many = kind.takes_ends & (128 < ends.len());
+    let many = kind.takes_ends & (MOST_CALLS < ends.len());
     let falling = kind.takes_ends & ends_fall(ends, calls);
     let empty = kind.marks & empty_run(ends);
     let beyond = kind.marks & break_beyond(rest, ends, breaks);

@@ -12,7 +12,7 @@ use Rattle.basics.specs.Tests.{by-test, both, not-true}
 use Rattle.basics.specs.Lists.{all, All, count}
 use Rattle.bounds.specs.Inside.{Small}
 use Rattle.whole.specs.Whole.{fl, limit}
-use Rattle.whole.specs.Later.{later-fl}
+use Rattle.whole.specs.Larger.{larger-fl}
 use Rattle.whole.specs.Difference.{diff-fl, fl-diff, diff-lt, diff-lt-fl}
 use Rattle.local_search.specs.Gain.{largestF, legsEqualF, rowSymmetricF, symmetricF}
 
@@ -31,7 +31,7 @@ pub largest-exact : (most : ℕ) (l : List ℕ) → Small most → All Small l �
 unfolding largestF
 largest-exact most [] h a = refl
 largest-exact most (x ∷ l) h a =
-    ap (λ (y : Float). largestF y (map fl l)) (later-fl most x (omega arith) (omega (arith, a .0))) ∙ largest-exact (max most x) l (omega (arith, a .0)) (a .1)
+    ap (λ (y : Float). largestF y (map fl l)) (larger-fl most x (omega arith) (omega (arith, a .0))) ∙ largest-exact (max most x) l (omega (arith, a .0)) (a .1)
 
 -- ---- the way back
 

@@ -9,14 +9,14 @@ use lib.Seq.{drop-cons}
 use lib.Ieee as Ieee
 use lib.Ieee.{Float, binary64, nan}
 use Rattle.whole.specs.Bits.{fl-zero}
-use Rattle.whole.specs.Later.{laterF}
+use Rattle.whole.specs.Larger.{largerF}
 use Rattle.local_search.specs.Gain.{largestF}
 use Rattle.local_search.specs.Route.{homeF, routeDistanceF}
 
 -- ---- the largest distance
 
 module _ (distances : List Float) (most : Float) where
-  pub largest-turn : (more : Float) (k : ℕ) → k < length distances → more ≡ laterF most (getD distances k nan) → largestF most (drop k distances) ≡ largestF more (drop (k + 1) distances)
+  pub largest-turn : (more : Float) (k : ℕ) → k < length distances → more ≡ largerF most (getD distances k nan) → largestF most (drop k distances) ≡ largestF more (drop (k + 1) distances)
   unfolding largestF
   largest-turn more k h e = rw (e, add-one k, drop-cons distances k nan h)
 

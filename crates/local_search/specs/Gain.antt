@@ -6,12 +6,12 @@ use lib.Ieee as Ieee
 use lib.Ieee.{Float, binary64}
 use Rattle.basics.specs.Lists.{all, count}
 use Rattle.whole.specs.Whole.{fl}
-use Rattle.whole.specs.Later.{laterF}
+use Rattle.whole.specs.Larger.{largerF}
 
 -- the largest of these and of what was found before
 unfoldable pub largestF : Float → List Float → Float
 largestF most [] = most
-largestF most (x ∷ l) = largestF (laterF most x) l
+largestF most (x ∷ l) = largestF (largerF most x) l
 
 abbrev pub scaleF : List Float → Float
 scaleF distances = largestF (fl 0) distances

@@ -5,7 +5,7 @@ ghost use Rattle.distance.specs.Lookup.{lookupF};
 ghost use Rattle.whole.specs.Gain.{gainFloorF};
 ghost use Rattle.local_search.specs.Gain.{scaleF, legsEqualF, rowSymmetricF, symmetricF};
 use distance::matrix::get;
-use whole::later;
+use whole::larger;
 
 // The largest distance, and 0 for an empty table.
 pub fn scale(distances: &[f64]) -> f64
@@ -14,7 +14,7 @@ pub fn scale(distances: &[f64]) -> f64
     let mut most = 0.0;
     let mut k = 0;
     while k < distances.len() {
-        most = later(most, distances[k]);
+        most = larger(most, distances[k]);
         k += 1;
     }
     most

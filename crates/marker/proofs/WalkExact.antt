@@ -21,7 +21,7 @@ use Rattle.definitions.specs.Marker.{Verdict, breakTooLate, windowMissed, break
 use Rattle.bounds.specs.Inside.{SmallBreak, Sized, Place, depot-inside, time-small, customer-small, break-small}
 use Rattle.bounds.specs.Bounds.{Early, arriveBy, serve-early}
 use Rattle.whole.specs.Whole.{fl, limit, fl-add}
-use Rattle.whole.specs.Later.{later-fl}
+use Rattle.whole.specs.Larger.{larger-fl}
 use Rattle.models.specs.Image.{flWindow, flBreak, flCustomer}
 use Rattle.models.specs.Window.{dueF}
 use Rattle.models.proofs.Exact.{due-exact}
@@ -85,7 +85,7 @@ module _ (s : Sheet) (S : Sized s) (t : Tables) (I : Image s t) where
               | none ↦ breakTooLate n k c (breakStart (breakOr here) arrival) (breakOr here .latest)
               | some readiness ↦ windowMissed n k c readiness (dueOf (customer s c .window))
             ])
-        go none = rw (break-or-exact here, later-fl arrival (breakOr here .earliest) (omega (arith, arrives-by)) (earliest-fits here H))
+        go none = rw (break-or-exact here, larger-fl arrival (breakOr here .earliest) (omega (arith, arrives-by)) (earliest-fits here H))
         go (some readiness) = rw (due-exact (customer s c .window))
 
     call-fault-exact : callFaultF n k c (recordF t c) (Option·map flBreak here) (Ieee.add binary64 (fl (l .time)) (timeF t a c)) ≡ flVerdict (callFault s n here k a c l)

@@ -4,7 +4,7 @@ ghost use lib.ListN.{replicate};
 ghost use Rattle.basics.specs.Options.{present};
 ghost use Rattle.models.specs.Records.{windowOf, openingOf, customerOf, depotRecord};
 ghost use Rattle.models.specs.Window.{lateF, waitingF, latenessF, dueF};
-use whole::later;
+use whole::larger;
 
 pub struct TimeWindow {
     pub ready: f64,
@@ -92,6 +92,6 @@ impl TimeWindow {
         ensures { λ r. ⌜ r ≡ latenessF (windowOf self) arrival ⌝ }
     {
         let over = arrival - self.due;
-        later(over, 0.0)
+        larger(over, 0.0)
     }
 }

@@ -1,10 +1,20 @@
 // What the numbers of a sheet may be.
 ghost use mathlib.Core.Path.{_≡_};
-ghost use Rattle.definitions.specs.Domain.{isCapacity, isDemand, isPenalty, isNumber};
+ghost use Rattle.definitions.specs.Domain.{isPlaces, isCapacity, isDemand, isPenalty, isNumber, isCall};
 
 pub const MOST_NUMBER: u32 = 10_000_000;
 
 pub const MOST_PENALTY: u32 = 1_000;
+
+// Of a tour or a run list; and the most run ends.
+pub const MOST_CALLS: usize = 128;
+
+// From 1 to 64 places, the depot among them.
+pub fn is_places(n: usize) -> bool
+    ensures { λ r. ⌜ r ≡ isPlaces n ⌝ }
+{
+    1 <= n && n <= 64
+}
 
 pub fn is_capacity(n: u32) -> bool
     ensures { λ r. ⌜ r ≡ isCapacity n ⌝ }
@@ -30,4 +40,11 @@ pub fn is_number(n: u32) -> bool
     ensures { λ r. ⌜ r ≡ isNumber n ⌝ }
 {
     n <= MOST_NUMBER
+}
+
+// A call's customer, on a sheet with that many places.
+pub fn is_call(places: usize, c: usize) -> bool
+    ensures { λ r. ⌜ r ≡ isCall places c ⌝ }
+{
+    1 <= c && c < places
 }

@@ -6,8 +6,8 @@ use types.Kit.{Given}
 use denote.RattleType.{RattleType}
 use denote.Laws.{Lawful}
 use denote.Enum.Laws as EL
-use Rattle.checked_improvers.proofs.improving.Reversed as Vt
-use Rattle.checked_improvers.proofs.improving.Reversed.Laws as Vt′
+use Rattle.checked_improvers.proofs.reversing.Reversed as Vt
+use Rattle.checked_improvers.proofs.reversing.Reversed.Laws as Vt′
 
 abbrev pub Vd : RattleType
 Vd = Vt.the-row

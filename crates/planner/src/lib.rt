@@ -2,7 +2,7 @@
 pub mod cutting;
 pub mod eliminating;
 pub mod evaluating;
-pub mod improving;
 pub mod marking;
 pub mod reading;
+pub mod reversing;
 pub mod visiting;

@@ -1,13 +1,14 @@
 // Refusal 1 of lists of calls.
 ghost use mathlib.Core.Path.{_≡_};
 ghost use Rattle.definitions.specs.Refusals.{badCalls, badTour, badRunList};
-use crate::numbers::is_call;
+use models::domain::MOST_CALLS;
+use models::domain::is_call;
 
 // More than 128 calls, or a call out of range.
 fn bad_calls(places: usize, calls: &[usize]) -> bool
     ensures { λ r. ⌜ r ≡ badCalls places (now (calls .entry)) ⌝ }
 {
-    if 128 < calls.len() {
+    if MOST_CALLS < calls.len() {
         return true;
     }
     let mut i = 0;

@@ -2,26 +2,12 @@
 ghost use mathlib.Core.Path.{_≡_};
 ghost use Prim.Native.Nat.{ℕ};
 ghost use lib.Dec.{eqb};
-ghost use Rattle.definitions.specs.Domain.{isPlaces, isPenalty, isNumber, isCall};
+ghost use Rattle.definitions.specs.Domain.{isPenalty, isNumber};
 ghost use Rattle.definitions.specs.Refusals.{unfit};
 ghost use Rattle.whole.specs.Value.{value};
 use models::domain::MOST_NUMBER;
 use models::domain::MOST_PENALTY;
 use whole::is_whole;
-
-// From 1 to 64 places, the depot among them.
-pub fn is_places(n: usize) -> bool
-    ensures { λ r. ⌜ r ≡ isPlaces n ⌝ }
-{
-    1 <= n && n <= 64
-}
-
-// A call's customer, on a sheet with that many places.
-pub fn is_call(places: usize, c: usize) -> bool
-    ensures { λ r. ⌜ r ≡ isCall places c ⌝ }
-{
-    1 <= c && c < places
-}
 
 // Whether x is no distance, time, service, window end, break number, limit or fixed run cost.
 pub fn unfit_number(x: f64) -> bool

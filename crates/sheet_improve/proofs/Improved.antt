@@ -13,10 +13,10 @@ use Rattle.definitions.specs.Room.{written}
 use Rattle.whole.specs.Value.{value}
 use Rattle.models.specs.declared.customer.Customer.{Customer}
 use Rattle.models.specs.declared.head.Head.{Head}
-use Rattle.checked_improvers.specs.declared.improving.Reversed.{Reversed}
+use Rattle.checked_improvers.specs.declared.reversing.Reversed.{Reversed}
 use Rattle.checked_improvers.specs.declared.eliminating.Elimination.{Elimination}
 use Rattle.checked.specs.Answers.{Answers}
-use Rattle.checked_improvers.specs.Improving.{reversalLent, reversedOf, Reverses}
+use Rattle.checked_improvers.specs.Reversing.{reversalLent, reversedOf, Reverses}
 use Rattle.checked_improvers.specs.Eliminating as Checked
 use Rattle.checked_improvers.specs.Eliminating.{eliminationOf, Eliminates}
 use Rattle.plan_listing.specs.Held.{InMemory}

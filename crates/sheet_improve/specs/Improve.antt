@@ -7,9 +7,9 @@ use lib.ListN.{length}
 use Rattle.definitions.specs.Sheet.{Sheet}
 use Rattle.definitions.specs.Answers.{Answer, front, Improved, Eliminated, twoOptOf, eliminateOf}
 use Rattle.definitions.specs.Room.{written}
-use Rattle.checked_improvers.specs.declared.improving.Reversed.{Reversed}
+use Rattle.checked_improvers.specs.declared.reversing.Reversed.{Reversed}
 use Rattle.checked_improvers.specs.declared.eliminating.Elimination.{Elimination}
-use Rattle.checked_improvers.specs.Improving.{reversedOf}
+use Rattle.checked_improvers.specs.Reversing.{reversedOf}
 use Rattle.checked_improvers.specs.Eliminating.{eliminationOf}
 use Rattle.sheet_calls.specs.Lent.{lentWith}
 

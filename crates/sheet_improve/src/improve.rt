@@ -8,8 +8,8 @@ ghost use Rattle.plan_listing.specs.Held.{Accepted};
 ghost use Rattle.sheet_improve.specs.Improve.{reversedOn, eliminatedOn, RunLeft, RunsLeft};
 use checked_improvers::eliminating::Elimination;
 use checked_improvers::eliminating::eliminate_routes;
-use checked_improvers::improving::Reversed;
-use checked_improvers::improving::two_opt_improve;
+use checked_improvers::reversing::Reversed;
+use checked_improvers::reversing::two_opt_improve;
 use plan_listing::held::load;
 
 // The reversal on an accepted sheet.

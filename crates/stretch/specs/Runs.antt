@@ -15,7 +15,7 @@ use Rattle.models.specs.Records.{restOf, limitOf}
 use Rattle.models.specs.Limits.{allowF}
 use Rattle.models.specs.Window.{lateF}
 use Rattle.whole.specs.Whole.{fl}
-use Rattle.whole.specs.Later.{laterF}
+use Rattle.whole.specs.Larger.{largerF}
 use Rattle.clock.specs.Records.{ClockF}
 use Rattle.clock.specs.Clock.{begunF, finishF}
 use Rattle.evaluation.specs.Records.{Tables, LimitsF}
@@ -71,7 +71,7 @@ chargeF w penalty time late =
 -- then the window's opening is waited for
 unfoldable pub enterF : Option (WindowOf Float) → Option Float → Float → Float → Option Timed
 enterF none penalty time late = some (record { time = time; «late_cost» = late })
-enterF (some w) penalty time late = chargeF w penalty time late >>= λ l. some (record { time = laterF time (w .ready); «late_cost» = l })
+enterF (some w) penalty time late = chargeF w penalty time late >>= λ l. some (record { time = largerF time (w .ready); «late_cost» = l })
 
 -- and the call served
 unfoldable pub visitF : CustomerOf Float → Float → Float → Option Timed

@@ -20,7 +20,7 @@ use models::vehicle::Rest;
 use models::vehicle::VehicleBreak;
 use stops::stops::stop_at;
 use table::cells::offer;
-use whole::later;
+use whole::larger;
 
 // The time on the way through a run without a break, and what its lateness costs so far.
 pub struct Timed {
@@ -41,7 +41,7 @@ pub fn enter(opening: Opening, penalty: Penalty, time: f64, late_cost: f64) -> V
     let Opening::Window(window) = opening else {
         return Visited::Open(Timed { time, late_cost });
     };
-    let start = later(time, window.ready);
+    let start = larger(time, window.ready);
     if !window.is_violated(time) {
         return Visited::Open(Timed {
             time: start,

@@ -4,7 +4,7 @@ pub mod Values
 pub mod Whole
 pub mod Bits
 pub mod Value
-pub mod Later
+pub mod Larger
 pub mod Infinity
 pub mod Order
 pub mod LessThan

@@ -5,7 +5,7 @@ ghost use lib.Dec.{leb};
 ghost use lib.Ieee.{inf};
 ghost use Rattle.basics.specs.Options.{holds};
 ghost use Rattle.whole.specs.Value.{value};
-ghost use Rattle.whole.specs.Later.{laterF};
+ghost use Rattle.whole.specs.Larger.{largerF};
 
 // Above every number: what is not known yet, or can't be had.
 pub fn infinity() -> f64
@@ -29,9 +29,9 @@ pub fn is_whole(x: f64, max: u32) -> bool
     false
 }
 
-// The later of two times that are no NaN.
-pub fn later(a: f64, b: f64) -> f64
-    ensures { λ r. ⌜ r ≡ laterF a b ⌝ }
+// The larger of two numbers that are no NaN (`f64::max` in the Rust).
+pub fn larger(a: f64, b: f64) -> f64
+    ensures { λ r. ⌜ r ≡ largerF a b ⌝ }
 {
     if a < b { b } else { a }
 }

@@ -6,7 +6,6 @@ ghost use Rattle.definitions.specs.Words.{wordsOf, leftOver, littleEndian};
 ghost use Rattle.words.specs.Held.{heldWord, noWord};
 
 pub mod check;
-pub mod domain;
 pub mod state;
 
 pub struct Word {

@@ -9,12 +9,13 @@ ghost use Rattle.definitions.specs.Reader as Reader;
 ghost use Rattle.definitions.specs.Reader.{among, onward, mayStand, inRange, pairFalls, faultAt};
 ghost use Rattle.words.specs.Held.{heldWord, stateOf, faultOf};
 use crate::Word;
-use crate::domain::is_call;
-use crate::domain::is_places;
+use models::domain::MOST_CALLS;
+use models::domain::is_call;
 use models::domain::is_capacity;
 use models::domain::is_demand;
 use models::domain::is_number;
 use models::domain::is_penalty;
+use models::domain::is_places;
 
 pub struct State {
     // The word before.
@@ -204,14 +205,14 @@ impl State {
     pub fn tour_full(self) -> bool
         ensures { λ r. ⌜ r ≡ eqb (self .last .kind) 0xE && leb mostCalls (self .row) ⌝ }
     {
-        self.last.kind == 0xE && 128 <= self.row
+        self.last.kind == 0xE && MOST_CALLS <= self.row
     }
 
     // Whether a call's customer is one, and the tour has room for it.
     pub fn call_in_range(self, c: u32) -> bool
         ensures { λ r. ⌜ r ≡ isCall (self .places) c && not (eqb (self .last .kind) 0xE && leb mostCalls (self .row)) ⌝ }
     {
-        is_call(self.places, c) && !self.tour_full()
+        is_call(self.places as usize, c as usize) && !self.tour_full()
     }
 
     pub fn in_range(self, w: Word) -> bool
@@ -219,7 +220,7 @@ impl State {
     {
         let kind = w.kind;
         match kind {
-            1 => is_places(w.value),
+            1 => is_places(w.value as usize),
             2 => is_capacity(w.value),
             7 => is_demand(w.value),
             0xB => is_penalty(w.value),

@@ -4,7 +4,7 @@ use denote.Ref.{now}
 use Rattle.sheet.specs.declared.read.Reading.the-variants as Readings
 use Rattle.sheet.specs.Summary.{heldCounts, heldSummary}
 use Rattle.plan_listing.proofs.Reading.{is-accepted}
-use Rattle.checked_improvers.specs.declared.improving.Reversed.the-variants as Reverseds
+use Rattle.checked_improvers.specs.declared.reversing.Reversed.the-variants as Reverseds
 use Rattle.exports.proofs.Improved.{reverse-unread, reverse-refused, reverse-given}
 use borrow.Author.Needs.{needs}
 use Rattle.exports.proofs.improve.lizsomdur_reverse.Statement.{statement}

@@ -20,14 +20,14 @@ abbrev μ-loop : tie.MeasureT-loop
 loop-holds : tie.Need-loop-holds Inv-loop μ-loop
 loop-holds c = refl
 
-mul-later : tie.Need-mul-later Inv-loop μ-loop
-mul-later c = search needs
+mul-larger : tie.Need-mul-larger Inv-loop μ-loop
+mul-larger c = search needs
 
-shared-slice-read-later : tie.Need-shared-slice-read-later Inv-loop μ-loop
-shared-slice-read-later c = search needs
+shared-slice-read-larger : tie.Need-shared-slice-read-larger Inv-loop μ-loop
+shared-slice-read-larger c = search needs
 
-later-requires : tie.Need-later-requires Inv-loop μ-loop
-later-requires c κs = search needs
+larger-requires : tie.Need-larger-requires Inv-loop μ-loop
+larger-requires c κs = search needs
 
 add-k : tie.Need-add-k Inv-loop μ-loop
 add-k c = search needs
@@ -39,7 +39,7 @@ loop-again : tie.Need-loop-again Inv-loop μ-loop
 loop-again c =
     let l = c .before .before .before .loop in
     let a = c .before .before .before .before .before .args in
-    sym (largest-turn (now (a .distances)) (l .most) _ (l .k) (c .before .before .loop-test .taken) (c .later .ensures)) ∙ l .inv
+    sym (largest-turn (now (a .distances)) (l .most) _ (l .k) (c .before .before .loop-test .taken) (c .larger .ensures)) ∙ l .inv
 
 returns : tie.Need-returns Inv-loop μ-loop
 returns c =
@@ -54,9 +54,9 @@ scale-spec =
     Inv-loop
     μ-loop
     loop-holds
-    mul-later
-    shared-slice-read-later
-    later-requires
+    mul-larger
+    shared-slice-read-larger
+    larger-requires
     add-k
     loop-less
     loop-again

@@ -18,8 +18,8 @@ returns : tie.Need-returns
 unfolding enterF
 returns c = let e : c .before .before .args .opening ≡ Always = search needs in rw e
 
-later-requires : tie.Need-later-requires
-later-requires c κs = search needs
+larger-requires : tie.Need-larger-requires
+larger-requires c κs = search needs
 
 is-violated-requires : tie.Need-is-violated-requires
 is-violated-requires c κs = search needs
@@ -28,7 +28,7 @@ returns-2 : tie.Need-returns-2
 unfolding enterF chargeF
 returns-2 c =
     let e : c .before .before .before .before .before .before .args .opening ≡ Window (c .before .before .before .before .opening .given .0 .0) = search needs in
-    rw (e, fails _ _ (c .before .is-violated .ensures) (c .if1 .taken)) (rw (← c .before .before .later .ensures))
+    rw (e, fails _ _ (c .before .is-violated .ensures) (c .if1 .taken)) (rw (← c .before .before .larger .ensures))
 
 enum-told-2 : tie.Need-enum-told-2
 enum-told-2 c = search needs
@@ -48,7 +48,7 @@ unfolding enterF chargeF
 returns-4 c =
     let e : c .before .before .before .before .before .before .before .before .before .before .args .opening ≡ Window (c .before .before .before .before .before .before .before .before .opening .given .0 .0) = search needs in
     let f : c .before .before .before .before .before .before .before .before .before .before .args .penalty ≡ Soft (c .before .before .penalty .given .0 .0) = search needs in
-    rw (e, holds _ _ (c .before .before .before .before .before .is-violated .ensures) (c .before .before .before .before .if1 .left), f) (rw (← c .before .before .before .before .before .before .later .ensures))
+    rw (e, holds _ _ (c .before .before .before .before .before .is-violated .ensures) (c .before .before .before .before .if1 .left), f) (rw (← c .before .before .before .before .before .before .larger .ensures))
 
 pub enter-spec : {M : Type 1} → statement M
 enter-spec =
@@ -57,7 +57,7 @@ enter-spec =
     enum-known-opening
     enum-told
     returns
-    later-requires
+    larger-requires
     is-violated-requires
     returns-2
     enum-told-2

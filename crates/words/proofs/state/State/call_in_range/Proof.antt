@@ -4,6 +4,9 @@ use borrow.Author.Needs.{needs}
 use Rattle.words.proofs.state.State.call_in_range.Statement.{statement}
 use Rattle.words.proofs.state.State.call_in_range.Tie as tie
 
+cast-is-call : tie.Need-cast-is-call
+cast-is-call c = search needs
+
 is-call-requires : tie.Need-is-call-requires
 is-call-requires c κs = search needs
 
@@ -17,4 +20,4 @@ returns-2 : tie.Need-returns-2
 returns-2 c = rw (c .if1 .left, sym (c .before .is-call .ensures) ∙ c .if1 .left)
 
 pub call-in-range-spec : {M : Type 1} → statement M
-call-in-range-spec = tie.close (tie.spec is-call-requires tour-full-requires returns returns-2)
+call-in-range-spec = tie.close (tie.spec cast-is-call is-call-requires tour-full-requires returns returns-2)

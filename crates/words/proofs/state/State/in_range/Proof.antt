@@ -5,6 +5,9 @@ use Rattle.definitions.specs.Reader.{inRange}
 use Rattle.words.proofs.state.State.in_range.Statement.{statement}
 use Rattle.words.proofs.state.State.in_range.Tie as tie
 
+cast-is-places : tie.Need-cast-is-places
+cast-is-places c = search needs
+
 is-places-requires : tie.Need-is-places-requires
 is-places-requires c κs = search needs
 
@@ -25,7 +28,7 @@ is-number-requires c κs = search needs
 
 returns : tie.Need-returns
 unfolding inRange
-returns c = rw (c .before .match .keys1) (c .is-places .ensures)
+returns c = rw (c .before .before .match .keys1) (c .is-places .ensures)
 
 returns-2 : tie.Need-returns-2
 unfolding inRange
@@ -66,6 +69,7 @@ pub in-range-spec : {M : Type 1} → statement M
 in-range-spec =
     tie.close
     (tie.spec
+    cast-is-places
     is-places-requires
     is-capacity-requires
     is-demand-requires

@@ -1,7 +1,7 @@
 -- `domain::is_call` meets its contract. Assumes nothing.
 use borrow.Author.Tests.{le-leb, lt-leb}
-use Rattle.words.proofs.domain.is_call.Statement.{statement}
-use Rattle.words.proofs.domain.is_call.Tie as tie
+use Rattle.models.proofs.domain.is_call.Statement.{statement}
+use Rattle.models.proofs.domain.is_call.Tie as tie
 
 returns : tie.Need-returns
 returns c = rw (le-leb 1 (c .before .args .c) (c .if1 .taken))

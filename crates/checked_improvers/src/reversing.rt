@@ -2,7 +2,7 @@
 ghost use lib.ListN.{length};
 ghost use Rattle.definitions.specs.Answers.{twoOptOf};
 ghost use Rattle.whole.specs.Value.{value};
-ghost use Rattle.checked_improvers.specs.Improving.{reversalLent, Reverses};
+ghost use Rattle.checked_improvers.specs.Reversing.{reversalLent, Reverses};
 use checks::by_call::refuse_reversing;
 use local_search::search::search_of;
 use models::customer::Customer;

@@ -4,8 +4,8 @@ ghost use lib.ListN.{length};
 ghost use Rattle.definitions.specs.Answers.{front, twoOptOf};
 ghost use Rattle.definitions.specs.Room.{written};
 ghost use Rattle.whole.specs.Value.{value};
-ghost use Rattle.checked_improvers.specs.Improving.{reversalLent, reversedOf};
-use checked_improvers::improving::Reversed;
+ghost use Rattle.checked_improvers.specs.Reversing.{reversalLent, reversedOf};
+use checked_improvers::reversing::Reversed;
 use lending::count;
 use lending::gathered;
 use models::customer::Customer;
@@ -25,7 +25,7 @@ pub fn two_opt_improve(
 {
     let n = count(customers);
     let all = gathered(customers);
-    checked_improvers::improving::two_opt_improve(
+    checked_improvers::reversing::two_opt_improve(
         head,
         all,
         n,

@@ -1,7 +1,7 @@
 -- `domain::is_places` meets its contract. Assumes nothing.
 use borrow.Author.Tests.{le-leb, lt-leb}
-use Rattle.words.proofs.domain.is_places.Statement.{statement}
-use Rattle.words.proofs.domain.is_places.Tie as tie
+use Rattle.models.proofs.domain.is_places.Statement.{statement}
+use Rattle.models.proofs.domain.is_places.Tie as tie
 
 returns : tie.Need-returns
 returns c = rw (le-leb 1 (c .before .args .n) (c .if1 .taken))

@@ -10,9 +10,9 @@ use Rattle.whole.specs.Whole.{fl}
 use Rattle.models.specs.declared.customer.Customer.{Customer}
 use Rattle.models.specs.declared.head.Head.{Head}
 use Rattle.checks.specs.Lent.{sheetOf, lentOf}
-use Rattle.checked_improvers.specs.declared.improving.ImprovedRun.{ImprovedRun}
-use Rattle.checked_improvers.specs.declared.improving.Reversed.{Reversed}
-use Rattle.checked_improvers.specs.declared.improving.Reversed.the-variants as Reverseds
+use Rattle.checked_improvers.specs.declared.reversing.ImprovedRun.{ImprovedRun}
+use Rattle.checked_improvers.specs.declared.reversing.Reversed.{Reversed}
+use Rattle.checked_improvers.specs.declared.reversing.Reversed.the-variants as Reverseds
 use Rattle.checked.specs.Answers.{Answers}
 
 -- the sheet, the run, and the length of the list for the improved run's calls

@@ -1,9 +1,9 @@
--- `improving::two_opt_improve` meets its contract. Assumes nothing.
+-- `reversing::two_opt_improve` meets its contract. Assumes nothing.
 use Rattle.local_search.specs.Search.{searchOf}
 use Rattle.checked_improvers.proofs.ReversalAnswers.{reversal-room, refused-reversal, given-reversal}
 use borrow.Author.Needs.{needs}
-use Rattle.checked_improvers.proofs.improving.two_opt_improve.Statement.{statement}
-use Rattle.checked_improvers.proofs.improving.two_opt_improve.Tie as tie
+use Rattle.checked_improvers.proofs.reversing.two_opt_improve.Statement.{statement}
+use Rattle.checked_improvers.proofs.reversing.two_opt_improve.Tie as tie
 
 refuse-reversing-requires : tie.Need-refuse-reversing-requires
 refuse-reversing-requires c κs = search needs
