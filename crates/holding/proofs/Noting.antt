@@ -1,5 +1,5 @@
 -- Row i of the calls held, over the parts of the lists that are lent to it. Assumes nothing.
-use Prim.Native.Nat.{ℕ, zero, suc, _+_, _-_, _<_}
+use Prim.Native.Nat.{ℕ, zero, suc, _+_, _-_, _<_, _≤_}
 use native.Mathlib.Nat.{add-suc}
 use native.Mathlib.Omega.{arith}
 use mathlib.Core.Path.{_≡_, refl, sym, ap, subst, _∙_}
@@ -58,6 +58,15 @@ legs-joined t held q legs times legs' times' L W k p h =
     let g = L k p b h in
     record { distance-is = o .0 ∙ g .distance-is; time-is = o .1 ∙ g .time-is })
     (λ f. W .new k (ltb-false k q f) p h)
+
+-- where they are all of the calls', those before any number are; and the other way round, where no call has that number
+pub legs-part : (t : Tables) (held : List ℕ) (q : ℕ) (legs times : List Float) → LegsAre t held legs times → LegsTo (distanceF t) (timeF t) held q legs times
+unfolding LegsAre LegsTo
+legs-part t held q legs times L k p b h = L k p h
+
+pub legs-whole : (t : Tables) (held : List ℕ) (q : ℕ) (legs times : List Float) → length held ≤ q → LegsTo (distanceF t) (timeF t) held q legs times → LegsAre t held legs times
+unfolding LegsAre LegsTo
+legs-whole t held q legs times f L k p h = L k p (omega arith) h
 
 -- all are, as they are written at first
 pub legs-begun : (distance time : ℕ → ℕ → Float) (held : List ℕ) (n : ℕ) (legs times legs' times' : List Float) → LegsWritten distance time held 0 legs times legs' times' → LegsTo distance time held n legs' times'

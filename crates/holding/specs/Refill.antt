@@ -1,7 +1,7 @@
--- What the drops do to the table: a row of the calls held and how far it went, cells that are cleared, and the rows that are filled again after a call was dropped. Definitions only.
-use Prim.Native.Nat.{ℕ, _-_, _<_, _≤_}
+-- What the drops do to the table: a row of the calls held and how far it went, cells that are cleared, the rows that are filled again after a call was dropped, and one turn, at which a row is filled and a call may be dropped. Definitions only.
+use Prim.Native.Nat.{ℕ, suc, _+_, _-_, _<_, _≤_}
 use mathlib.Core.Path.{_≡_}
-use mathlib.Core.Bool.{false}
+use mathlib.Core.Bool.{Bool, true, false}
 use mathlib.Core.List.{List}
 use lib.ListN.{length, getD, set, take, drop, replicate}
 use lib.Ieee.{Float, nan, inf}
@@ -13,6 +13,7 @@ use Rattle.cutting.specs.Carried.{Carry, carriedTo, RowDone}
 use Rattle.definitions.specs.Drop.{callsAt}
 use Rattle.definitions.specs.Room.{written}
 use Rattle.whole.specs.Whole.{fl}
+use Rattle.table.specs.Table.{DropCall}
 use Rattle.models.specs.declared.customer.Customer.{Customer}
 use Rattle.evaluation.specs.Records as Records
 use Rattle.evaluation.specs.Records.{Tables}
@@ -20,7 +21,7 @@ use Rattle.stops.specs.Stops.{WorkedOut, LegIs, LegsAre}
 use Rattle.stretch.specs.Tariff.{Tariff, stretches, runsOf, farsOf, TableOf, Ended}
 use Rattle.stretch.specs.declared.terms.Terms.{Terms}
 use Rattle.stretch.specs.Runs.{Instance, over, tariff}
-use Rattle.holding.specs.Drops.{dropsF}
+use Rattle.holding.specs.Drops.{haveF, dropsF}
 
 -- from cell number `from` on all is v, and what stands before stays
 pub record Cleared {A : Type 0} (from : ℕ) (v d : A) (l l' : List A) : Type 0 where
@@ -75,6 +76,23 @@ module _ (I : Tables → Instance) (held : List ℕ) (legs times : List Float) (
       (t : Tables) → WorkedOut t codes figures → LegsAre t held legs times → FrontOf (tariff (I t)) held q cost far pred → EarlyBelow (tariff (I t)) held q reach
       → TableOf (tariff (I t)) held q cost' far' pred' × ReachedBelow (tariff (I t)) held q reach' × (length reach' ≡ cells)
 
+-- ---- one turn
+
+-- the table of the rows below i, where each row ended, and the legs, all of the calls held
+pub record Filled (I : Instance) (held : List ℕ) (i : ℕ) (legs times cost far : List Float) (pred reach : List ℕ) : Type 0 where
+  pub legs-long : length legs ≡ 128
+  pub times-long : length times ≡ 128
+  pub reach-long : length reach ≡ cells
+  pub legs-are : LegsAre (I .tables) held legs times
+  pub table : TableOf (tariff I) held i cost far pred
+  pub reached : ReachedBelow (tariff I) held i reach
+
+-- row i of the n calls held is done, and r says whether the first i + 1 have a cutting: if so all stay, else the last of them is dropped as number `gone`, and the rows below i are those of the calls left
+pub record Turned (I : Instance) (n i gone : ℕ) (r : Bool) (held positions dropped held' positions' dropped' : List ℕ) (legs' times' cost' far' : List Float) (pred' reach' : List ℕ) : Type 0 where
+  pub tells : r ≡ haveF I (take n held) (suc i)
+  pub stays : r ≡ true → (held' ≡ held) × (positions' ≡ positions) × (dropped' ≡ dropped) × Filled I (take n held) (i + 1) legs' times' cost' far' pred' reach'
+  pub drops : r ≡ false → DropCall n i gone held positions dropped held' positions' dropped' × Filled I (take (n - 1) held') i legs' times' cost' far' pred' reach'
+
 -- ---- the calls that stay
 
 -- the table before the first row
@@ -97,6 +115,12 @@ module _ (distances times : List Float) (size : ℕ) (codes : List ℕ) (figures
 
   unfoldable pub SomeLists : Type 0
   SomeLists = (customers : List Customer) × ListsOf customers
+
+  -- a turn, where the rows below i are filled
+  unfoldable pub RowOrDrop : Terms → ℕ → ℕ → ℕ → Bool → List ℕ → List ℕ → List ℕ → List Float → List Float → List Float → List Float → List ℕ → List ℕ → List ℕ → List ℕ → List ℕ → List Float → List Float → List Float → List Float → List ℕ → List ℕ → Type 0
+  RowOrDrop terms n i gone r held positions dropped legs timeLegs cost far pred reach held' positions' dropped' legs' timeLegs' cost' far' pred' reach' =
+      (customers : List Customer) → ListsOf customers → Filled (over (Records.lent customers distances times size) terms) (take n held) i legs timeLegs cost far pred reach
+      → Turned (over (Records.lent customers distances times size) terms) n i gone r held positions dropped held' positions' dropped' legs' timeLegs' cost' far' pred' reach'
 
   unfoldable pub Holds : Terms → List ℕ → List ℕ → ℕ → List ℕ → List ℕ → List Float → List Float → List ℕ → Type 0
   Holds terms tour dropped n hs dropped' cost far pred =

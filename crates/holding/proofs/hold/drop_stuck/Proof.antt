@@ -5,169 +5,103 @@ use mathlib.Core.Path.{sym, ap}
 use lib.ListN.{take}
 use lib.Seq.{length-take-le}
 use denote.Ref.{now}
-use Rattle.evaluation.specs.Records as Evaluation
-use Rattle.holding.proofs.Settling.{one-fewer, below-after, legs-kept}
-use Rattle.holding.proofs.Turns.{some-of, some-lists, Lent, Turn, turn-begins, row-long, turn-on, turn-off, turn-ends}
+use Rattle.evaluation.specs.Records.{lent}
+use Rattle.holding.proofs.Noting.{legs-part}
+use Rattle.holding.proofs.Settling.{filled-long}
+use Rattle.holding.proofs.Turns.{some-of, some-lists, Lent, Turn, turn-begins, turn-on, turn-off, turn-ends}
 use borrow.Author.Needs.{needs}
 use Rattle.holding.proofs.hold.drop_stuck.Statement.{statement}
 use Rattle.holding.proofs.hold.drop_stuck.Tie as tie
 
 abbrev Inv-loop : tie.InvT-loop
-Inv-loop held₀ positions₀ n dropped₀ legs₀ time-legs₀ distances times size codes figures terms cost₀ dist₀ pred₀ reach₀ top left₀ i₀ held positions dropped legs time-legs cost dist pred reach left i =
+Inv-loop held₀ positions₀ n dropped₀ legs₀ time-legs₀ distances times size codes figures terms cost₀ dist₀ pred₀ reach₀ left₀ i₀ held positions dropped legs time-legs cost dist pred reach left i =
     Turn (record { distances = distances; times = times; size = size; terms = terms; codes = codes; figures = figures })
     (take n held₀) held₀ dropped₀ held positions dropped left i legs time-legs cost dist pred reach
 
 abbrev μ-loop : tie.MeasureT-loop
-μ-loop held₀ positions₀ n dropped₀ legs₀ time-legs₀ distances times size codes figures terms cost₀ dist₀ pred₀ reach₀ top left₀ i₀ held positions dropped legs time-legs cost dist pred reach left i = left - i
-
-infinity-requires : tie.Need-infinity-requires Inv-loop μ-loop
-infinity-requires c κs = search needs
+μ-loop held₀ positions₀ n dropped₀ legs₀ time-legs₀ distances times size codes figures terms cost₀ dist₀ pred₀ reach₀ left₀ i₀ held positions dropped legs time-legs cost dist pred reach left i = left - i
 
 loop-holds : tie.Need-loop-holds Inv-loop μ-loop
 loop-holds c =
-    let s = c .before .before .before .before .before .before .before .before in
+    let s = c .before .before .before .before .before .before .before in
     let a = s .args in
     let p = s .pre in
     turn-begins (record { distances = now (a .distances); times = now (a .times); size = a .size; terms = a .terms; codes = now (a .codes); figures = now (a .figures) })
     (a .n) (now (a .held)) (now (a .positions)) (now (a .dropped)) (now (a .legs)) (now (a .time-legs)) (now (a .cost)) (now (a .dist)) (now (a .pred)) (now (a .reach)) (p .0) (p .1 .0) (p .1 .1 .0) (p .1 .1 .1 .0)
 
-slice-reshare-prefix-noted-row : tie.Need-slice-reshare-prefix-noted-row Inv-loop μ-loop
-slice-reshare-prefix-noted-row c =
-    let v = c .before .before .before .before .before .loop .inv .sized in
-    omega arith
-
-slice-aggregate-noted-row : tie.Need-slice-aggregate-noted-row Inv-loop μ-loop
-slice-aggregate-noted-row c =
-    let v = c .before .before .before .before .before .before .loop .inv .sized in
-    sym (length-take-le _ _ (omega arith))
-
-noted-row-requires : tie.Need-noted-row-requires Inv-loop μ-loop
-noted-row-requires c κs =
-    let s = c .before .before .before .before .before .before .before .before .before .before .before .before .before .before .before .before .before .before .before in
-    let a = s .args in
-    let l = c .before .before .before .before .before .before .before .before .before .before .loop in
-    let v = l .inv .sized in
-    let t = c .before .before .before .before .before .before .before .before .before .loop-test .taken in
-    let w = some-lists (now (a .distances)) (now (a .times)) (a .size) (now (a .codes)) (now (a .figures)) (s .pre .1 .1 .1 .1) in
-    let m = length-take-le (l .left) (l .held) (omega arith) in
-    ((v .cost-long, v .far-long, v .pred-long, v .reach-long), ((omega (arith, m), omega (arith, m), v .below), (v .legs-long, v .times-long, w .codes-long, w .figures-long)))
-
-add-if1 : tie.Need-add-if1 Inv-loop μ-loop
-add-if1 c =
-    let v = c .before .before .before .before .before .before .before .before .before .before .before .loop .inv .sized in
-    let t = c .before .before .before .before .before .before .before .before .before .before .loop-test .taken in
-    omega arith
-
-mul-if1 : tie.Need-mul-if1 Inv-loop μ-loop
-mul-if1 c =
-    let v = c .before .before .before .before .before .before .before .before .before .before .before .loop .inv .sized in
-    let t = c .before .before .before .before .before .before .before .before .before .before .loop-test .taken in
-    omega arith
-
-element-copy-out-if1 : tie.Need-element-copy-out-if1 Inv-loop μ-loop
-element-copy-out-if1 c =
-    let v = c .before .before .before .before .before .before .before .before .before .before .before .loop .inv .sized in
-    let t = c .before .before .before .before .before .before .before .before .before .before .loop-test .taken in
-    omega arith
-
-add-i : tie.Need-add-i Inv-loop μ-loop
-add-i c =
-    let v = c .before .before .before .before .before .before .before .before .before .before .before .before .before .loop .inv .sized in
-    let t = c .before .before .before .before .before .before .before .before .before .before .before .before .loop-test .taken in
-    omega arith
-
-loop-less : tie.Need-loop-less Inv-loop μ-loop
-loop-less c =
-    let v = c .before .before .before .before .before .before .before .before .before .before .before .before .before .loop .inv .sized in
-    let t = c .before .before .before .before .before .before .before .before .before .before .before .before .loop-test .taken in
-    omega arith
-
-loop-again : tie.Need-loop-again Inv-loop μ-loop
-loop-again c =
-    let s = c .before .before .before .before .before .before .before .before .before .before .before .before .before .before .before .before .before .before .before .before .before .before in
-    let a = s .args in
-    let l = c .before .before .before .before .before .before .before .before .before .before .before .before .before .loop in
-    let E : Lent = record { distances = now (a .distances); times = now (a .times); size = a .size; terms = a .terms; codes = now (a .codes); figures = now (a .figures) } in
-    let who = some-of (now (a .distances)) (now (a .times)) (a .size) (now (a .codes)) (now (a .figures)) (s .pre .1 .1 .1 .1) in
-    let w = some-lists (now (a .distances)) (now (a .times)) (a .size) (now (a .codes)) (now (a .figures)) (s .pre .1 .1 .1 .1) in
-    turn-on E _ (now (a .held)) (now (a .dropped)) (l .held) (l .positions) (l .dropped) (l .left) (l .i) (l .legs) (l .time-legs) (l .cost) (l .dist) (l .pred) (l .reach) (l .inv) (c .before .before .before .before .before .before .before .before .before .before .before .before .loop-test .taken) _ _ _ _ (c .before .before .noted-row .ensures) who w _ (c .before .before .before .before .before .before .before .before .before .before .before .before .before .before .infinity .ensures) (c .if1 .taken)
-
-sub-drop-call : tie.Need-sub-drop-call Inv-loop μ-loop
-sub-drop-call c =
-    let s = c .before .before .before .before .before .before .before .before .before .before .before .before .before .before .before .before .before .before .before .before .before .before .before .before .before in
-    let v = c .before .before .before .before .before .before .before .before .before .before .before .before .before .before .before .before .loop .inv .sized in
+sub-row-or-drop : tie.Need-sub-row-or-drop Inv-loop μ-loop
+sub-row-or-drop c =
+    let s = c .before .before .before .before .before .before .before .before .before .before .before .before in
+    let v = c .before .before .before .before .loop .inv .sized in
     omega (arith, length-take-le (s .args .n) (now (s .args .held)) (s .pre .0 .1))
 
-drop-call-requires : tie.Need-drop-call-requires Inv-loop μ-loop
-drop-call-requires c κs =
-    let s = c .before .before .before .before .before .before .before .before .before .before .before .before .before .before .before .before .before .before .before .before .before .before .before .before .before in
-    let m = length-take-le (s .args .n) (now (s .args .held)) (s .pre .0 .1) in
-    let v = c .before .before .before .before .before .before .before .before .before .before .before .before .before .before .before .before .loop .inv .sized in
-    let t = c .before .before .before .before .before .before .before .before .before .before .before .before .before .before .before .loop-test .taken in
-    ((t, omega arith, omega arith), omega arith)
-
-sub-left : tie.Need-sub-left Inv-loop μ-loop
-sub-left c =
-    let v = c .before .before .before .before .before .before .before .before .before .before .before .before .before .before .before .before .before .before .before .before .before .before .before .loop .inv .sized in
-    let t = c .before .before .before .before .before .before .before .before .before .before .before .before .before .before .before .before .before .before .before .before .before .before .loop-test .taken in
-    omega arith
-
-slice-reshare-prefix-close-gap : tie.Need-slice-reshare-prefix-close-gap Inv-loop μ-loop
-slice-reshare-prefix-close-gap c =
-    let v = c .before .before .before .before .before .before .before .before .before .before .before .before .before .before .before .before .before .before .before .before .before .before .before .before .before .before .before .loop .inv .sized in
-    let t = c .before .before .before .before .before .before .before .before .before .before .before .before .before .before .before .before .before .before .before .before .before .before .before .before .before .before .loop-test .taken in
-    let k = c .before .before .before .before .before .before .before .before .before .before .drop-call .kept in
-    omega arith
-
-slice-aggregate-close-gap : tie.Need-slice-aggregate-close-gap Inv-loop μ-loop
-slice-aggregate-close-gap c =
-    let v = c .before .before .before .before .before .before .before .before .before .before .before .before .before .before .before .before .before .before .before .before .before .before .before .before .before .before .before .before .loop .inv .sized in
-    let t = c .before .before .before .before .before .before .before .before .before .before .before .before .before .before .before .before .before .before .before .before .before .before .before .before .before .before .before .loop-test .taken in
-    let k = c .before .before .before .before .before .before .before .before .before .before .before .drop-call .kept in
-    sym (length-take-le _ _ (omega arith))
-
-close-gap-requires : tie.Need-close-gap-requires Inv-loop μ-loop
-close-gap-requires c κs =
-    let s = c .before .before .before .before .before .before .before .before .before .before .before .before .before .before .before .before .before .before .before .before .before .before .before .before .before .before .before .before .before .before .before .before .before .before .before .before .before .before .before in
+row-or-drop-requires : tie.Need-row-or-drop-requires Inv-loop μ-loop
+row-or-drop-requires c κs =
+    let s = c .before .before .before .before .before .before .before .before .before .before .before .before .before .before .before .before .before .before in
     let a = s .args in
-    let l = c .before .before .before .before .before .before .before .before .before .before .before .before .before .before .before .before .before .before .before .before .before .before .before .before .before .before .before .before .before .before .loop in
-    let E : Lent = record { distances = now (a .distances); times = now (a .times); size = a .size; terms = a .terms; codes = now (a .codes); figures = now (a .figures) } in
+    let l = c .before .before .before .before .before .before .before .before .before .before .loop in
+    let t = c .before .before .before .before .before .before .before .before .before .loop-test .taken in
     let who = some-of (now (a .distances)) (now (a .times)) (a .size) (now (a .codes)) (now (a .figures)) (s .pre .1 .1 .1 .1) in
     let w = some-lists (now (a .distances)) (now (a .times)) (a .size) (now (a .codes)) (now (a .figures)) (s .pre .1 .1 .1 .1) in
     let v = l .inv .sized in
-    let t = c .before .before .before .before .before .before .before .before .before .before .before .before .before .before .before .before .before .before .before .before .before .before .before .before .before .before .before .before .before .loop-test .taken in
-    let less = c .before .before .before .before .before .before .before .before .before .before .before .before .before .drop-call .ensures .held-less in
-    let k = row-long E _ (now (a .held)) (now (a .dropped)) (l .held) (l .positions) (l .dropped) (l .left) (l .i) (l .legs) (l .time-legs) (l .cost) (l .dist) (l .pred) (l .reach) (l .inv) t _ _ _ _ (c .before .before .before .before .before .before .before .before .before .before .before .before .before .before .before .before .before .before .before .noted-row .ensures) who w in
-    let m = one-fewer (l .left) (l .i) (l .held) _ t (omega arith) less in (
-      (k .0, k .1, k .2, k .3),
+    let f = l .inv .settling who w .filled in
+    let m = length-take-le (a .n) (now (a .held)) (s .pre .0 .1) in (
+      (t, omega arith, omega arith, omega arith, omega arith, v .below),
       (
-        (omega (arith, m), omega (arith, m), below-after (l .left) (l .i) (l .held) _ t (omega arith) less (v .below)),
+        filled-long _ _ (l .i) (l .legs) (l .time-legs) (l .cost) (l .dist) (l .pred) (l .reach) f,
         (
-          (v .legs-long, v .times-long),
-          (
-            legs-kept (l .left) (l .i) (l .held) _ t (omega arith) less (Evaluation.lent who (now (a .distances)) (now (a .times)) (a .size)) (l .legs) (l .time-legs) (l .inv .settling who w .legs-are),
-            s .pre .1 .1 .1 .1,
-          ),
+          (f .legs-long, f .times-long, legs-part (lent who (now (a .distances)) (now (a .times)) (a .size)) _ (l .left) (l .legs) (l .time-legs) (f .legs-are)),
+          s .pre .1 .1 .1 .1,
         ),
       ),
     )
 
+add-i : tie.Need-add-i Inv-loop μ-loop
+add-i c =
+    let v = c .before .before .before .before .before .before .before .before .before .before .before .before .before .before .before .before .before .before .loop .inv .sized in
+    let t = c .before .before .before .before .before .before .before .before .before .before .before .before .before .before .before .before .before .loop-test .taken in
+    omega arith
+
+loop-less : tie.Need-loop-less Inv-loop μ-loop
+loop-less c =
+    let v = c .before .before .before .before .before .before .before .before .before .before .before .before .before .before .before .before .before .before .loop .inv .sized in
+    let t = c .before .before .before .before .before .before .before .before .before .before .before .before .before .before .before .before .before .loop-test .taken in
+    omega arith
+
+loop-again : tie.Need-loop-again Inv-loop μ-loop
+loop-again c =
+    let s = c .before .before .before .before .before .before .before .before .before .before .before .before .before .before .before .before .before .before .before .before .before .before .before .before .before .before in
+    let a = s .args in
+    let l = c .before .before .before .before .before .before .before .before .before .before .before .before .before .before .before .before .before .before .loop in
+    let E : Lent = record { distances = now (a .distances); times = now (a .times); size = a .size; terms = a .terms; codes = now (a .codes); figures = now (a .figures) } in
+    let who = some-of (now (a .distances)) (now (a .times)) (a .size) (now (a .codes)) (now (a .figures)) (s .pre .1 .1 .1 .1) in
+    let w = some-lists (now (a .distances)) (now (a .times)) (a .size) (now (a .codes)) (now (a .figures)) (s .pre .1 .1 .1 .1) in
+    let g = ap (λ (k : ℕ). k - l .left) (sym (length-take-le (a .n) (now (a .held)) (s .pre .0 .1))) in
+    turn-on E _ (now (a .held)) (now (a .dropped)) (l .held) (l .positions) (l .dropped) (l .left) (l .i) (l .legs) (l .time-legs) (l .cost) (l .dist) (l .pred) (l .reach) (l .inv) (c .before .before .before .before .before .before .before .before .before .before .before .before .before .before .before .before .before .loop-test .taken) _ g _ _ _ _ _ _ _ _ _ _ (c .before .before .before .before .before .before .before .row-or-drop .ensures) who w (c .if1 .taken)
+
+sub-left : tie.Need-sub-left Inv-loop μ-loop
+sub-left c =
+    let v = c .before .before .before .before .before .before .before .before .before .before .before .before .before .before .before .before .before .before .loop .inv .sized in
+    let t = c .before .before .before .before .before .before .before .before .before .before .before .before .before .before .before .before .before .loop-test .taken in
+    omega arith
+
 loop-less-2 : tie.Need-loop-less-2 Inv-loop μ-loop
 loop-less-2 c =
-    let v = c .before .before .before .before .before .before .before .before .before .before .before .before .before .before .before .before .before .before .before .before .before .before .before .before .before .before .before .before .before .before .before .loop .inv .sized in
-    let t = c .before .before .before .before .before .before .before .before .before .before .before .before .before .before .before .before .before .before .before .before .before .before .before .before .before .before .before .before .before .before .loop-test .taken in
+    let v = c .before .before .before .before .before .before .before .before .before .before .before .before .before .before .before .before .before .before .loop .inv .sized in
+    let t = c .before .before .before .before .before .before .before .before .before .before .before .before .before .before .before .before .before .loop-test .taken in
     omega arith
 
 loop-again-2 : tie.Need-loop-again-2 Inv-loop μ-loop
 loop-again-2 c =
-    let s = c .before .before .before .before .before .before .before .before .before .before .before .before .before .before .before .before .before .before .before .before .before .before .before .before .before .before .before .before .before .before .before .before .before .before .before .before .before .before .before .before in
+    let s = c .before .before .before .before .before .before .before .before .before .before .before .before .before .before .before .before .before .before .before .before .before .before .before .before .before .before in
     let a = s .args in
-    let l = c .before .before .before .before .before .before .before .before .before .before .before .before .before .before .before .before .before .before .before .before .before .before .before .before .before .before .before .before .before .before .before .loop in
+    let l = c .before .before .before .before .before .before .before .before .before .before .before .before .before .before .before .before .before .before .loop in
     let E : Lent = record { distances = now (a .distances); times = now (a .times); size = a .size; terms = a .terms; codes = now (a .codes); figures = now (a .figures) } in
     let who = some-of (now (a .distances)) (now (a .times)) (a .size) (now (a .codes)) (now (a .figures)) (s .pre .1 .1 .1 .1) in
     let w = some-lists (now (a .distances)) (now (a .times)) (a .size) (now (a .codes)) (now (a .figures)) (s .pre .1 .1 .1 .1) in
-    let k = c .before .before .before .before .before .before .before .before .before .before .before .before .before .before .drop-call .kept in
-    turn-off E _ (now (a .held)) (now (a .dropped)) (l .held) (l .positions) (l .dropped) (l .left) (l .i) (l .legs) (l .time-legs) (l .cost) (l .dist) (l .pred) (l .reach) (l .inv) (c .before .before .before .before .before .before .before .before .before .before .before .before .before .before .before .before .before .before .before .before .before .before .before .before .before .before .before .before .before .before .loop-test .taken) _ _ _ _ (c .before .before .before .before .before .before .before .before .before .before .before .before .before .before .before .before .before .before .before .before .noted-row .ensures) who w _ (c .before .before .before .before .before .before .before .before .before .before .before .before .before .before .before .before .before .before .before .before .before .before .before .before .before .before .before .before .before .before .before .before .infinity .ensures) (c .before .before .before .before .before .before .before .before .before .before .before .before .before .before .before .before .before .before .if1 .left) _ (ap (λ (k : ℕ). k - l .left) (sym (length-take-le (a .n) (now (a .held)) (s .pre .0 .1)))) _ _ _ (c .before .before .before .before .before .before .before .before .before .before .before .before .before .before .drop-call .ensures) _ _ (c .close-gap .ensures .0) _ _ _ _ (c .close-gap .ensures .1) (omega (arith, k), omega (arith, k), omega (arith, k))
+    let k = c .before .before .before .before .before .before .before .row-or-drop .kept in
+    let g = ap (λ (k : ℕ). k - l .left) (sym (length-take-le (a .n) (now (a .held)) (s .pre .0 .1))) in
+    turn-off E _ (now (a .held)) (now (a .dropped)) (l .held) (l .positions) (l .dropped) (l .left) (l .i) (l .legs) (l .time-legs) (l .cost) (l .dist) (l .pred) (l .reach) (l .inv) (c .before .before .before .before .before .before .before .before .before .before .before .before .before .before .before .before .before .loop-test .taken) _ g _ _ _ _ _ _ _ _ _ _ (c .before .before .before .before .before .before .before .row-or-drop .ensures) who w (c .if1 .left) (omega (arith, k), omega (arith, k), omega (arith, k))
 
 same-length : tie.Need-same-length Inv-loop μ-loop
 same-length c =
@@ -186,7 +120,7 @@ same-length-3 c =
 
 returns : tie.Need-returns Inv-loop μ-loop
 returns c =
-    let s = c .before .before .before .before .before .before .before .before .before .before in
+    let s = c .before .before .before .before .before .before .before .before .before in
     let a = s .args in
     let l = c .before .loop in
     let E : Lent = record { distances = now (a .distances); times = now (a .times); size = a .size; terms = a .terms; codes = now (a .codes); figures = now (a .figures) } in
@@ -199,23 +133,13 @@ drop-stuck-spec =
     (tie.spec
     Inv-loop
     μ-loop
-    infinity-requires
     loop-holds
-    slice-reshare-prefix-noted-row
-    slice-aggregate-noted-row
-    noted-row-requires
-    add-if1
-    mul-if1
-    element-copy-out-if1
+    sub-row-or-drop
+    row-or-drop-requires
     add-i
     loop-less
     loop-again
-    sub-drop-call
-    drop-call-requires
     sub-left
-    slice-reshare-prefix-close-gap
-    slice-aggregate-close-gap
-    close-gap-requires
     loop-less-2
     loop-again-2
     same-length
