@@ -2,15 +2,26 @@
 use crate::source::Source;
 use crate::word::{bytes, ended, kind, most, value, word};
 
-/// The sheet with one of its numbers moved to what a run of its first calls comes to, or to one below or above that: load, distance, duration, arrival.
+/// The kinds of the numbers that a run is held against.
+const LIMITS: [u32; 6] = [2, 4, 5, 6, 9, 0xA];
+
+/// Moves one of the sheet's numbers onto an edge of a run of its first calls.
 pub fn on_edge(source: &mut Source, words: &mut [u32]) {
-    let Some(run) = first_calls(source, words) else {
+    let tour = all(words, 0xE);
+    if let Some(last) = source.index(&tour) {
+        on_edge_of(source, words, &tour[..=last], &LIMITS);
+    }
+}
+
+/// Moves one of the sheet's numbers of these kinds to what a run of these calls comes to, or to one below or above that: load, distance, duration, arrival.
+fn on_edge_of(source: &mut Source, words: &mut [u32], calls: &[u32], kinds: &[u32]) {
+    let run = run(words, calls);
+    let edges: Vec<usize> = (0..words.len())
+        .filter(|&at| kinds.contains(&kind(words[at])))
+        .collect();
+    let Some(&at) = source.any(&edges) else {
         return;
     };
-    let edges: Vec<usize> = (0..words.len())
-        .filter(|&at| [2, 4, 5, 6, 9, 0xA].contains(&kind(words[at])))
-        .collect();
-    let at = edges[source.below(edges.len() as u32) as usize];
     let number = match kind(words[at]) {
         2 => run.load,
         4 => run.distance,
@@ -18,6 +29,21 @@ pub fn on_edge(source: &mut Source, words: &mut [u32]) {
         _ => run.arrivals[source.below(run.arrivals.len() as u32) as usize],
     };
     words[at] = word(kind(words[at]), source.near(number).min(most(3)));
+}
+
+/// Moves a number of each kind, every other one, onto an edge of a run of these calls.
+pub fn on_edges(source: &mut Source, words: &mut [u32], calls: &[u32]) {
+    for kind in LIMITS {
+        if source.one_in(2) {
+            on_edge_of(source, words, calls, &[kind]);
+        }
+    }
+}
+
+/// The values of the words of this kind.
+fn all(words: &[u32], wanted: u32) -> Vec<u32> {
+    let these = words.iter().filter(|&&w| kind(w) == wanted);
+    these.map(|&w| value(w)).collect()
 }
 
 /// What a run comes to that waits for nobody.
@@ -28,18 +54,10 @@ struct Run {
     arrivals: Vec<u32>,
 }
 
-fn first_calls(source: &mut Source, words: &[u32]) -> Option<Run> {
-    let all = |wanted: u32| -> Vec<u32> {
-        let these = words.iter().filter(|&&w| kind(w) == wanted);
-        these.map(|&w| value(w)).collect()
-    };
-    let (demands, services, legs, times, tour) = (all(7), all(8), all(0xC), all(0xD), all(0xE));
+fn run(words: &[u32], calls: &[u32]) -> Run {
+    let [demands, services, legs, times] = [7, 8, 0xC, 0xD].map(|kind| all(words, kind));
     let times = if times.is_empty() { &legs } else { &times };
     let places = value(words[0]);
-    if tour.is_empty() {
-        return None;
-    }
-    let calls = 1 + source.below(tour.len() as u32) as usize;
     let mut run = Run {
         load: 0,
         distance: 0,
@@ -47,7 +65,7 @@ fn first_calls(source: &mut Source, words: &[u32]) -> Option<Run> {
         arrivals: Vec::new(),
     };
     let mut at = 0;
-    for &customer in tour[..calls].iter().chain([&0]) {
+    for &customer in calls.iter().chain([&0]) {
         let leg = (at * places + customer) as usize;
         run.distance += legs[leg];
         run.duration += times[leg];
@@ -58,7 +76,7 @@ fn first_calls(source: &mut Source, words: &[u32]) -> Option<Run> {
         }
         at = customer;
     }
-    Some(run)
+    run
 }
 
 /// The sheet's bytes with something wrong, or right after all.

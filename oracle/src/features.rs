@@ -6,6 +6,23 @@ use std::fmt;
 /// A run or a tour of so many calls counts as long.
 const LONG: usize = 100;
 
+/// How the answers to cuttings begin, and what they are then.
+const MARKS: [(&str, &str); 13] = [
+    ("refused 13", "refused by 13"),
+    ("refused 1", "by 1"),
+    ("refused 5", "by 5"),
+    ("verdict 1", "other calls"),
+    ("verdict 2", "overload"),
+    ("verdict 3", "break too late"),
+    ("verdict 4", "window missed"),
+    ("verdict 5", "break missing"),
+    ("verdict 6", "too far"),
+    ("verdict 7", "too long"),
+    ("verdict 8", "best"),
+    ("verdict 9", "dearer"),
+    ("verdict 10", "cheaper"),
+];
+
 /// Names in the order of their first question, each with its count.
 #[derive(Default)]
 pub struct Features {
@@ -59,6 +76,20 @@ impl Features {
         let filled = routes.iter().filter(|route| !route.is_empty()).count();
         let left = lines(answer, "left ").len();
         self.count("with a run eliminated", 0 < left && left < filled);
+    }
+
+    /// A cutting of a sheet that may be refused, and its mark.
+    pub fn mark(&mut self, file: &[u8], answer: &str) {
+        self.questions += 1;
+        let words = reader::words(file);
+        self.count("with a refused sheet", words.is_err());
+        let said: Vec<&str> = answer.split_whitespace().take(2).collect();
+        for (start, name) in MARKS {
+            self.count(name, words.is_ok() && said.join(" ") == start);
+        }
+        if let Ok(words) = words {
+            self.sheet(&Sheet::from_words(&words));
+        }
     }
 }
 

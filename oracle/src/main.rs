@@ -1,29 +1,36 @@
 //! Answers sheets in words by the Rust planner.
 mod cases;
 mod compare;
+mod cuttings;
 mod distance;
 mod edges;
 mod evaluation;
+mod faults;
 mod features;
 mod ga;
 mod listing;
 mod local_search;
+mod marker;
+mod marks;
 mod models;
+mod plan;
 mod questions;
 mod random;
 mod reader;
 mod record;
+mod ruled;
 mod run_answer;
 mod runs;
 mod sheet;
 mod solomon;
 mod source;
+mod spoiled;
 mod word;
 
 use std::io::Read;
 use std::process::exit;
 
-const USAGE: &str = "usage: oracle [--seed S] list | random N | record N FILE.. | runs N | compare PROGRAM N FILE..";
+const USAGE: &str = "usage: oracle [--seed S] list | random N | record N FILE.. | runs N | marks N | compare PROGRAM N FILE..";
 
 fn main() {
     let args: Vec<String> = std::env::args().skip(1).collect();
@@ -36,6 +43,7 @@ fn main() {
         ["random", n] => random(seed, number(n)),
         ["record", n, ..] => record::write(seed, number(n), &args[2..]),
         ["runs", n] => runs::write(seed, number(n)),
+        ["marks", n] => marks::write(seed, number(n)),
         ["compare", program, n, ..] => {
             let alike = compare::all(program, seed, number(n), &args[3..]);
             exit(i32::from(!alike))

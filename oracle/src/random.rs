@@ -49,6 +49,18 @@ pub fn medium(source: &mut Source) -> Vec<u32> {
     sheet(source, &MEDIUM, places, calls)
 }
 
+/// Three to six places and three to nine calls, and every word that may stand in a sheet.
+pub fn ruled(source: &mut Source) -> Vec<u32> {
+    let scale = Scale {
+        day: source.one_of(&[12, 40]),
+        full: true,
+        ..MEDIUM
+    };
+    let places = 3 + source.below(4);
+    let calls = 3 + source.below(7);
+    sheet(source, &scale, places, calls)
+}
+
 /// Two to twelve places and 100 to 128 calls; some such that a run of many calls, or of all, is legal.
 pub fn long(source: &mut Source) -> Vec<u32> {
     let scale = Scale {

@@ -21,6 +21,16 @@ impl Source {
         self.below(n) == 0
     }
 
+    /// An index of the list, if it has any.
+    pub fn index<T>(&mut self, list: &[T]) -> Option<usize> {
+        let length = u32::try_from(list.len()).expect("a short list");
+        (length > 0).then(|| self.below(length) as usize)
+    }
+
+    pub fn any<'a, T>(&mut self, list: &'a [T]) -> Option<&'a T> {
+        self.index(list).map(|at| &list[at])
+    }
+
     pub fn one_of(&mut self, numbers: &[u32]) -> u32 {
         numbers[self.below(numbers.len() as u32) as usize]
     }

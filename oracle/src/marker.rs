@@ -1,0 +1,166 @@
+//! The mark of a cutting beside the planner's. Written from the scope document alone: the Rust has no marker, and of its code only the plan is asked.
+use crate::sheet::Sheet;
+use std::cmp::Ordering;
+
+/// Runs to be marked: the calls of all of them, then the end and the break place of each. Any numbers may stand there.
+#[derive(Clone)]
+pub struct Cutting {
+    pub calls: Vec<usize>,
+    pub ends: Vec<usize>,
+    pub places: Vec<usize>,
+}
+
+/// A verdict's number and values, as library/lizsomdur.h has them.
+pub type Verdict = (u32, Vec<u64>);
+
+pub const OTHER_CALLS: u32 = 1;
+pub const OVERLOAD: u32 = 2;
+pub const BREAK_TOO_LATE: u32 = 3;
+pub const WINDOW_MISSED: u32 = 4;
+pub const BREAK_MISSING: u32 = 5;
+pub const TOO_FAR: u32 = 6;
+pub const TOO_LONG: u32 = 7;
+pub const BEST: u32 = 8;
+pub const DEARER: u32 = 9;
+pub const CHEAPER: u32 = 10;
+
+/// The most calls, and the most run ends.
+const MOST: usize = 128;
+
+/// The mark on an accepted sheet for which the planner serves these customers at this cost, or the number that refuses the lists.
+pub fn mark(sheet: &Sheet, served: &[usize], cost: u64, cutting: &Cutting) -> Result<Verdict, u32> {
+    match refusal(sheet, cutting) {
+        Some(number) => Err(number),
+        None => Ok(verdict(sheet, served, cost, cutting)),
+    }
+}
+
+/// The first number that fits. An accepted sheet gives no reason for 14 and 2, and 4 is the improvers'.
+fn refusal(sheet: &Sheet, cutting: &Cutting) -> Option<u32> {
+    let customers = 1..sheet.customers.len();
+    if cutting.places.len() < cutting.ends.len() {
+        Some(13)
+    } else if cutting.calls.len() > MOST || cutting.calls.iter().any(|c| !customers.contains(c)) {
+        Some(1)
+    } else if cutting.ends.len() > MOST || !divides(cutting) || !breaks_fit(sheet, cutting) {
+        Some(5)
+    } else {
+        None
+    }
+}
+
+/// Where each run starts and ends, and its break place.
+pub fn spans(cutting: &Cutting) -> impl Iterator<Item = (usize, usize, usize)> + '_ {
+    let starts = std::iter::once(0).chain(cutting.ends.iter().copied());
+    let ends = cutting.ends.iter().copied();
+    let places = cutting.places.iter().copied();
+    starts.zip(ends).zip(places).map(|((s, e), p)| (s, e, p))
+}
+
+/// Whether each run has a call, and the last ends with the calls.
+fn divides(cutting: &Cutting) -> bool {
+    let last = cutting.ends.last().copied().unwrap_or(0);
+    last == cutting.calls.len() && spans(cutting).all(|(start, end, _)| start < end)
+}
+
+/// Whether each break place is one of its run's calls, or 0; without a break there is only 0. No run is empty.
+fn breaks_fit(sheet: &Sheet, cutting: &Cutting) -> bool {
+    let rest = sheet.limits.rest.is_some();
+    spans(cutting).all(|(start, end, place)| place == 0 || rest && place <= end - start)
+}
+
+fn verdict(sheet: &Sheet, served: &[usize], cost: u64, cutting: &Cutting) -> Verdict {
+    if cutting.calls != served {
+        return (OTHER_CALLS, vec![first_difference(&cutting.calls, served)]);
+    }
+    let mut sum = 0;
+    for (number, (start, end, place)) in (1..).zip(spans(cutting)) {
+        match run_cost(sheet, &cutting.calls[start..end], place) {
+            Ok(cost) => sum += cost,
+            Err(fault) => return behind(&[number], fault),
+        }
+    }
+    match sum.cmp(&cost) {
+        Ordering::Equal => (BEST, vec![]),
+        Ordering::Greater => (DEARER, vec![sum - cost]),
+        Ordering::Less => (CHEAPER, vec![cost - sum]),
+    }
+}
+
+/// The first position, from 1, where the lists differ or one has ended.
+fn first_difference(one: &[usize], other: &[usize]) -> u64 {
+    let alike = one.iter().zip(other).take_while(|(a, b)| a == b).count();
+    alike as u64 + 1
+}
+
+/// What the run costs, or its first fault.
+fn run_cost(sheet: &Sheet, calls: &[usize], place: usize) -> Result<u64, Verdict> {
+    let demands = calls.iter().map(|&c| sheet.customers[c].demand() as u64);
+    within(OVERLOAD, demands.sum(), sheet.capacity as u64)?;
+    let (mut at, mut time, mut distance, mut pay) = (0, 0, 0, 0);
+    for (number, &customer) in (1..).zip(calls) {
+        distance += whole(sheet.distances.get(at, customer));
+        let arrival = time + whole(sheet.distances.travel_time(at, customer));
+        let (done, paid) = serve(sheet, customer, arrival, number == place)
+            .map_err(|fault| behind(&[number as u64, customer as u64], fault))?;
+        (at, time, pay) = (customer, done, pay + paid);
+    }
+    distance += whole(sheet.distances.get(at, 0));
+    let home = time + whole(sheet.distances.travel_time(at, 0));
+    if let (Some(rest), 0) = (sheet.limits.rest, place) {
+        within(BREAK_MISSING, home, whole(rest.earliest()))?;
+    }
+    if let Some(limit) = sheet.limits.max_distance {
+        within(TOO_FAR, distance, whole(limit))?;
+    }
+    if let Some(limit) = sheet.limits.max_duration {
+        within(TOO_LONG, home, whole(limit))?;
+    }
+    Ok(whole(sheet.fixed) + distance + pay)
+}
+
+/// When the customer is done with, and what is paid for being late.
+fn serve(
+    sheet: &Sheet,
+    customer: usize,
+    arrival: u64,
+    break_here: bool,
+) -> Result<(u64, u64), Verdict> {
+    let (mut readiness, mut paid) = (arrival, 0);
+    if break_here {
+        let rest = sheet.limits.rest.expect("a break on the sheet");
+        let start = arrival.max(whole(rest.earliest()));
+        within(BREAK_TOO_LATE, start, whole(rest.latest()))?;
+        readiness = start + whole(rest.duration());
+    }
+    let mut time = readiness;
+    let customer = &sheet.customers[customer];
+    if let Some(window) = customer.time_window() {
+        let due = whole(window.due());
+        match customer.lateness_penalty() {
+            None => within(WINDOW_MISSED, readiness, due)?,
+            Some(penalty) => paid = whole(penalty) * readiness.saturating_sub(due),
+        }
+        time = time.max(whole(window.ready()));
+    }
+    Ok((time + whole(customer.service_duration()), paid))
+}
+
+/// A value above its limit is a fault; the limit itself is allowed.
+fn within(fault: u32, value: u64, limit: u64) -> Result<(), Verdict> {
+    if value > limit {
+        Err((fault, vec![value, limit]))
+    } else {
+        Ok(())
+    }
+}
+
+/// The fault with these values before its own.
+fn behind(values: &[u64], (fault, own): Verdict) -> Verdict {
+    (fault, [values, &own].concat())
+}
+
+/// The numbers of a sheet are whole and at most 10,000,000.
+fn whole(x: f64) -> u64 {
+    x as u64
+}

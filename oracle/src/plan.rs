@@ -1,0 +1,69 @@
+//! The plan of a sheet by the Rust's `split_tw`, with what that does not say itself: cost, breaks and drops.
+use crate::evaluation::{route_eval, RouteEval};
+use crate::ga::{split_tw, SplitResult};
+use crate::sheet::Sheet;
+
+pub struct Plan {
+    /// The calls of each run, and what the Rust reports of it.
+    pub runs: Vec<(Vec<usize>, RouteEval)>,
+    /// The customers that are served, in order.
+    pub served: Vec<usize>,
+    /// The positions that are dropped, from 0, in drop order.
+    pub dropped: Vec<usize>,
+    pub distance: f64,
+    pub cost: f64,
+}
+
+pub fn of(sheet: &Sheet) -> Plan {
+    let cut = split(sheet, &sheet.tour);
+    let (dropped, served) = drops(sheet);
+    let calls = cut.routes.concat();
+    assert_eq!(calls, served, "the Rust serves the held calls");
+    let runs: Vec<_> = cut
+        .routes
+        .into_iter()
+        .map(|run| {
+            let total = evaluated(sheet, &run).expect("a legal run");
+            (run, total)
+        })
+        .collect();
+    let costs = runs
+        .iter()
+        .map(|(_, total)| sheet.fixed + total.distance + total.lateness_cost);
+    Plan {
+        cost: costs.fold(0.0, |sum, cost| sum + cost),
+        runs,
+        served,
+        dropped,
+        distance: cut.total_distance,
+    }
+}
+
+/// What the Rust reports of a run with the clock's break, if it is allowed.
+pub fn evaluated(sheet: &Sheet, run: &[usize]) -> Option<RouteEval> {
+    route_eval(run, 0, &sheet.distances, &sheet.customers, &sheet.limits)
+}
+
+fn split(sheet: &Sheet, tour: &[usize]) -> SplitResult {
+    split_tw(
+        tour,
+        &sheet.customers,
+        &sheet.distances,
+        sheet.capacity,
+        &sheet.limits,
+        sheet.fixed,
+    )
+}
+
+/// The positions that are dropped, from 0, in drop order, and the calls that are held at the end. Each beginning of the held calls is asked about once: what is dropped changes no shorter one.
+fn drops(sheet: &Sheet) -> (Vec<usize>, Vec<usize>) {
+    let (mut dropped, mut held) = (Vec::new(), Vec::new());
+    for (position, &call) in sheet.tour.iter().enumerate() {
+        held.push(call);
+        if split(sheet, &held).routes.concat().len() < held.len() {
+            held.pop();
+            dropped.push(position);
+        }
+    }
+    (dropped, held)
+}
