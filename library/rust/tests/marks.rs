@@ -1,8 +1,9 @@
-//! The marks of the worked sheets, beside those that the program crates/marks says.
+//! The marks of the worked sheets, beside those that the program crates/marks says, and recorded marks, beside those of the oracle's own marker.
 mod common;
+use common::recorded_marks::{recorded_marks, Recorded};
 use common::worked::marked;
 use common::{kept, runs};
-use lizsomdur::{mark, Verdict};
+use lizsomdur::{mark, Run, Verdict};
 
 /// A fault with what clashes, as that program says it.
 fn fault(
@@ -89,4 +90,57 @@ fn marks_are_those_of_the_proved_program() {
         })
         .collect();
     assert_eq!(said, proved);
+}
+
+/// In the order of their numbers.
+const NAMES: [&str; 10] = [
+    "OtherCalls",
+    "Overload",
+    "BreakTooLate",
+    "WindowMissed",
+    "BreakMissing",
+    "TooFar",
+    "TooLong",
+    "Best",
+    "Dearer",
+    "Cheaper",
+];
+
+/// The number and the values of a verdict, by its name and the numbers that are shown with it.
+fn numbered(verdict: Verdict) -> (u32, Vec<u64>) {
+    let shown = format!("{verdict:?}");
+    let mut words = shown.split([' ', ',']);
+    let name = words.next().expect("a name");
+    let number = NAMES.iter().position(|&known| known == name);
+    let values = words.filter_map(|word| word.parse().ok());
+    (number.expect("a verdict") as u32 + 1, values.collect())
+}
+
+/// The runs of a question whose lists are those of runs, perhaps empty ones.
+fn given(question: &Recorded) -> Option<Vec<Run>> {
+    let Recorded {
+        calls,
+        ends,
+        places,
+        ..
+    } = question;
+    let starts = [&[0], &ends[..]].concat();
+    let parts = starts.iter().zip(ends).map(|(&a, &b)| calls.get(a..b));
+    let parts: Vec<&[usize]> = parts.collect::<Option<_>>()?;
+    let whole = starts.last() == Some(&calls.len()) && places.len() >= ends.len();
+    let cut: Vec<_> = parts.into_iter().zip(places.iter().copied()).collect();
+    whole.then(|| runs(&cut))
+}
+
+#[test]
+fn marks_are_the_recorded_ones() {
+    let mut marked = 0;
+    for (number, question) in recorded_marks().iter().enumerate() {
+        if let Some(runs) = given(question) {
+            let said = mark(&question.sheet, &runs).map(numbered);
+            assert_eq!(said, question.mark, "question {number}");
+            marked += 1;
+        }
+    }
+    assert!(marked > 200);
 }

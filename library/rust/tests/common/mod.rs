@@ -1,7 +1,8 @@
-//! Recorded questions with the original Rust planner's answers, and sheets in words.
+//! Recorded questions with the oracle's answers, and sheets in words.
 #![allow(dead_code)]
 pub mod faulty;
 pub mod listing;
+pub mod recorded_marks;
 pub mod sheets;
 pub mod worked;
 
@@ -22,7 +23,9 @@ pub fn sample(name: &str) -> Vec<u8> {
 
 /// Each question of this kind with its answer: those in the repository and, where LIZSOMDUR_RECORDS names a file, those in it.
 pub fn records(kind: u8) -> Vec<(Vec<u8>, String)> {
-    let mut bytes = std::fs::read(kept("crates/replay/stdin")).expect("recorded answers");
+    let files = ["crates/replay/stdin", "library/rust/tests/marks.recorded"];
+    let files = files.map(|file| std::fs::read(kept(file)).expect("recorded answers"));
+    let mut bytes = files.concat();
     if let Some(more) = std::env::var_os("LIZSOMDUR_RECORDS") {
         bytes.extend(std::fs::read(more).expect("more recorded answers"));
     }

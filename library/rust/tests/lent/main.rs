@@ -4,6 +4,7 @@ mod common;
 mod lists;
 #[path = "../../src/raw.rs"]
 mod raw;
+mod recorded;
 #[path = "../../src/slices.rs"]
 mod slices;
 

@@ -1,0 +1,51 @@
+//! Recorded marks, with what they leave in lent memory.
+use crate::common::recorded_marks::{recorded_marks, Recorded};
+use crate::lists::{Judged, OLD};
+use lizsomdur::Refusal;
+use std::collections::BTreeSet;
+
+/// The number returned, and what is left: a verdict with its values at the front, the bad word of a sheet, or nothing new.
+fn expected(question: &Recorded) -> (u32, Judged) {
+    let mut left = Judged::new();
+    match &question.mark {
+        Ok((verdict, values)) => {
+            left.verdict = *verdict;
+            for (at, &value) in values.iter().enumerate() {
+                left.values[at] = value as f64;
+            }
+            (0, left)
+        }
+        Err(Refusal { number, word }) => {
+            left.word = word.unwrap_or(OLD);
+            (*number, left)
+        }
+    }
+}
+
+/// The verdict, or the number that refuses the lists; none where the sheet is refused.
+fn said(question: &Recorded) -> Option<Result<u32, u32>> {
+    match &question.mark {
+        Ok((verdict, _)) => Some(Ok(*verdict)),
+        Err(refusal) if refusal.word.is_none() => Some(Err(refusal.number)),
+        Err(_) => None,
+    }
+}
+
+#[test]
+fn marks_are_the_recorded_ones_and_leave_the_rest() {
+    let questions = recorded_marks();
+    for (number, question) in questions.iter().enumerate() {
+        let Recorded {
+            sheet,
+            calls,
+            ends,
+            places,
+            ..
+        } = question;
+        let given = Judged::new().after(sheet, calls, ends, places);
+        assert_eq!(given, expected(question), "question {number}");
+    }
+    let seen: BTreeSet<_> = questions.iter().filter_map(said).collect();
+    let all = (1..=10).map(Ok).chain([1, 5, 13].map(Err));
+    assert_eq!(seen, all.collect());
+}
