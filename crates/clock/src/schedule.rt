@@ -1,5 +1,6 @@
 // The clock of a run that carries a driver's break (evaluation/schedule.rs). It keeps two labels: with the break still to take, and with it taken.
 ghost use mathlib.Core.Path.{_≡_};
+ghost use mathlib.Core.Option.{none, some};
 ghost use Prim.Native.Nat.{_<_};
 ghost use Rattle.models.specs.Records.{windowOf, penaltyOf, customerOf, breakOf, restOf};
 ghost use Rattle.clock.specs.Records.{readyOf, reachedOf, clockOf, finishedOf};
@@ -258,24 +259,39 @@ impl BreakClock {
         }
     }
 
+    // The label before the break with one call more, `travel` away.
+    pub fn skipped(self, customer: Customer, travel: f64) -> Reached
+        ensures { λ r. ⌜ reachedOf r ≡ carryF (customerOf customer) none (self .index) travel (reachedOf (self .before)) ⌝ }
+    {
+        let before = self.before;
+        carry(before, travel, customer, self.index, Rest::Unbroken)
+    }
+
+    // The label after the break with one call more: the smaller of the one carried on and the one with the break here.
+    pub fn taken(self, customer: Customer, travel: f64) -> Reached
+        ensures { λ r. ⌜ reachedOf r ≡ earlierF (carryF (customerOf customer) none (self .index) travel (reachedOf (self .after))) (carryF (customerOf customer) (some (breakOf (self .rest))) (self .index) travel (reachedOf (self .before))) ⌝ }
+    {
+        let rest = self.rest;
+        let before = self.before;
+        let after = self.after;
+        let index = self.index;
+        let here = carry(before, travel, customer, index, Rest::Break(rest));
+        let carried = carry(after, travel, customer, index, Rest::Unbroken);
+        Label::earlier(carried, here)
+    }
+
     // One call more, `travel` away.
     pub fn push(self, cid: usize, customer: Customer, travel: f64) -> BreakClock
         requires { ⌜ self .index < 0xFFFF_FFFF_FFFF_FFFF ⌝ }
         ensures { λ r. ⌜ clockOf r ≡ pushF (clockOf self) cid (customerOf customer) travel ⌝ }
     {
         let rest = self.rest;
-        let before = self.before;
-        let after = self.after;
-        let index = self.index;
-        let skipped = carry(before, travel, customer, index, Rest::Unbroken);
-        let here = carry(before, travel, customer, index, Rest::Break(rest));
-        let carried = carry(after, travel, customer, index, Rest::Unbroken);
         BreakClock {
             rest,
-            before: skipped,
-            after: Label::earlier(carried, here),
+            before: self.skipped(customer, travel),
+            after: self.taken(customer, travel),
             prev: cid,
-            index: index + 1,
+            index: self.index + 1,
         }
     }
 

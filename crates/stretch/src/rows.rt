@@ -1,9 +1,11 @@
 // Row i of the table of the cut by windows, limits and break (ga/split_tw.rs): the runs that start at call i.
 ghost use mathlib.Core.Path.{_≡_};
 ghost use mathlib.Core.Option.{none, some};
-ghost use Prim.Native.Nat.{_+_, _≤_};
+ghost use Prim.Native.Nat.{_+_, _<_, _≤_};
 ghost use lib.ListN.{length};
 ghost use Rattle.models.specs.Records.{openingOf, penaltyOf, customerOf, breakOf};
+ghost use Rattle.clock.specs.Records.{clockOf};
+ghost use Rattle.clock.specs.Clock.{pushF};
 ghost use Rattle.stops.specs.Stops.{Below64};
 ghost use Rattle.stretch.specs.Runs.{visitedOf, enterF, visitF, overBy, over, Rowed};
 use crate::terms::Terms;
@@ -123,6 +125,21 @@ pub fn plain_row(
     m
 }
 
+// The clock with one call more, as `push` makes it. The row alone calls this, so it is compiled into the row's loop and the labels stay in registers; `push`, which has more callers, is too large for that.
+fn pushed(clock: BreakClock, cid: usize, customer: Customer, travel: f64) -> BreakClock
+    requires { ⌜ clock .index < 0xFFFF_FFFF_FFFF_FFFF ⌝ }
+    ensures { λ r. ⌜ clockOf r ≡ pushF (clockOf clock) cid (customerOf customer) travel ⌝ }
+{
+    let rest = clock.rest;
+    BreakClock {
+        rest,
+        before: clock.skipped(customer, travel),
+        after: clock.taken(customer, travel),
+        prev: cid,
+        index: clock.index + 1,
+    }
+}
+
 // Row i with a break: the clock grows along the stretch, a call at a time.
 pub fn rest_row(
     cost: &mut [f64; 129],
@@ -157,7 +174,8 @@ pub fn rest_row(
             return m;
         }
         gone = way_to(legs, stop.out, gone, m);
-        clock = clock.push(cid, stop.customer, leg_to(time_legs, stop.time_out, m));
+        let travel = leg_to(time_legs, stop.time_out, m);
+        clock = pushed(clock, cid, stop.customer, travel);
         if !clock.alive() {
             return m;
         }

@@ -112,8 +112,8 @@ way-to-requires c κs = omega (arith, c .before .before .before .before .before 
 leg-to-requires : tie.Need-leg-to-requires Inv-loop μ-loop
 leg-to-requires c κs = omega (arith, c .before .before .before .before .before .before .loop-test .taken, c .before .before .before .before .before .before .before .before .before .before .before .before .before .before .before .before .before .pre .1 .1 .1)
 
-push-requires : tie.Need-push-requires Inv-loop μ-loop
-push-requires c κs = omega (arith, c .before .before .before .before .before .before .before .before .loop .inv .1, c .before .before .before .before .before .before .before .loop-test .taken, c .before .before .before .before .before .before .before .before .before .before .before .before .before .before .before .before .before .before .pre .1 .0 .0)
+pushed-requires : tie.Need-pushed-requires Inv-loop μ-loop
+pushed-requires c κs = omega (arith, c .before .before .before .before .before .before .before .before .loop .inv .1, c .before .before .before .before .before .before .before .loop-test .taken, c .before .before .before .before .before .before .before .before .before .before .before .before .before .before .before .before .before .before .pre .1 .0 .0)
 
 alive-requires : tie.Need-alive-requires Inv-loop μ-loop
 alive-requires c κs = search needs
@@ -134,7 +134,7 @@ returns-2 c =
           let C = call-is t (a .codes .now) (a .figures .now) (a .stretch .now) (a .legs .now) (a .time-legs .now) W L (s .pre .1 .0 .1) (l .loop .m) _ _ _ h (p .before .before .before .before .before .before .stop-at .ensures) refl (p .before .leg-to .ensures) in
           dead I b refl (now (a .stretch)) (a .i) (now (a .cost)) (now (a .dist)) (now (a .pred)) _ _
           _ _ _ _ _ _ _ (l .loop .inv .0 .keeps t W L) _ _ _ _ _ C _ h (s .pre .1 .0 .0) (p .before .before .before .before .before .wide .ensures .0) (holds _ _ (p .before .before .before .before .fits2 .ensures) (p .before .before .before .if1 .left))
-          (p .before .before .way-to .ensures) (p .push .ensures) (fails _ _ (c .before .alive .ensures) (c .if2 .taken))),
+          (p .before .before .way-to .ensures) (p .pushed .ensures) (fails _ _ (c .before .alive .ensures) (c .if2 .taken))),
       l .loop .inv .0 .within,
     )
 
@@ -172,9 +172,9 @@ loop-again c =
             let C = call-is t (a .codes .now) (a .figures .now) (a .stretch .now) (a .legs .now) (a .time-legs .now) W L (s .pre .1 .0 .1) (l .loop .m) _ _ _ h (p .before .before .before .before .before .before .stop-at .ensures) refl (p .before .leg-to .ensures) in
             endless I b refl (now (a .stretch)) (a .i) (now (a .cost)) (now (a .dist)) (now (a .pred)) _ _
             _ _ _ _ _ _ _ (l .loop .inv .0 .keeps t W L) _ _ _ _ _ C _ h (s .pre .1 .0 .0) (p .before .before .before .before .before .wide .ensures .0) (holds _ _ (p .before .before .before .before .fits2 .ensures) (p .before .before .before .if1 .left))
-            (p .before .before .way-to .ensures) (p .push .ensures) _ (f .finish .ensures) (ap finishedOf e);
+            (p .before .before .way-to .ensures) (p .pushed .ensures) _ (f .finish .ensures) (ap finishedOf e);
       },
-      next-index _ _ _ _ _ _ (p .push .ensures) (l .loop .inv .1),
+      next-index _ _ _ _ _ _ (p .pushed .ensures) (l .loop .inv .1),
     )
 
 allow-requires : tie.Need-allow-requires Inv-loop μ-loop
@@ -202,9 +202,9 @@ loop-again-2 c =
             let C = call-is t (a .codes .now) (a .figures .now) (a .stretch .now) (a .legs .now) (a .time-legs .now) W L (s .pre .1 .0 .1) (l .loop .m) _ _ _ h (p .before .before .before .before .before .before .stop-at .ensures) refl (p .before .leg-to .ensures) in
             skip I b refl (now (a .stretch)) (a .i) (now (a .cost)) (now (a .dist)) (now (a .pred)) _ _
             _ _ _ _ _ _ _ (l .loop .inv .0 .keeps t W L) _ _ _ _ _ C _ h (s .pre .1 .0 .0) (p .before .before .before .before .before .wide .ensures .0) (holds _ _ (p .before .before .before .before .fits2 .ensures) (p .before .before .before .if1 .left))
-            (p .before .before .way-to .ensures) (p .push .ensures) _ (f .finish .ensures) _ (ap finishedOf e) (fails _ _ (c .before .allow .ensures) (c .if3 .taken));
+            (p .before .before .way-to .ensures) (p .pushed .ensures) _ (f .finish .ensures) _ (ap finishedOf e) (fails _ _ (c .before .allow .ensures) (c .if3 .taken));
       },
-      next-index _ _ _ _ _ _ (p .push .ensures) (l .loop .inv .1),
+      next-index _ _ _ _ _ _ (p .pushed .ensures) (l .loop .inv .1),
     )
 
 add-offer : tie.Need-add-offer Inv-loop μ-loop
@@ -235,9 +235,9 @@ loop-again-3 c =
             let C = call-is t (a .codes .now) (a .figures .now) (a .stretch .now) (a .legs .now) (a .time-legs .now) W L (s .pre .1 .0 .1) (l .loop .m) _ _ _ h (p .before .before .before .before .before .before .stop-at .ensures) refl (p .before .leg-to .ensures) in
             put I b refl (now (a .stretch)) (a .i) (now (a .cost)) (now (a .dist)) (now (a .pred)) _ _
             _ _ _ _ _ _ _ (l .loop .inv .0 .keeps t W L) _ _ _ _ _ C _ h (s .pre .1 .0 .0) (p .before .before .before .before .before .wide .ensures .0) (holds _ _ (p .before .before .before .before .fits2 .ensures) (p .before .before .before .if1 .left))
-            (p .before .before .way-to .ensures) (p .push .ensures) _ (f .finish .ensures) _ (ap finishedOf e) _ _ _ (holds _ _ (c .before .before .before .before .before .before .allow .ensures) (c .before .before .before .before .before .if3 .left)) (c .offer .ensures);
+            (p .before .before .way-to .ensures) (p .pushed .ensures) _ (f .finish .ensures) _ (ap finishedOf e) _ _ _ (holds _ _ (c .before .before .before .before .before .before .allow .ensures) (c .before .before .before .before .before .if3 .left)) (c .offer .ensures);
       },
-      next-index _ _ _ _ _ _ (p .push .ensures) (l .loop .inv .1),
+      next-index _ _ _ _ _ _ (p .pushed .ensures) (l .loop .inv .1),
     )
 
 returns-3 : tie.Need-returns-3 Inv-loop μ-loop
@@ -276,7 +276,7 @@ rest-row-spec =
     returns
     way-to-requires
     leg-to-requires
-    push-requires
+    pushed-requires
     alive-requires
     returns-2
     add-m

@@ -4,27 +4,18 @@ use borrow.Author.Needs.{needs}
 use Rattle.clock.proofs.schedule.BreakClock.push.Statement.{statement}
 use Rattle.clock.proofs.schedule.BreakClock.push.Tie as tie
 
-carry-requires : tie.Need-carry-requires
-carry-requires c κs = search needs
+skipped-requires : tie.Need-skipped-requires
+skipped-requires c κs = search needs
 
-carry-requires-2 : tie.Need-carry-requires-2
-carry-requires-2 c κs = search needs
+taken-requires : tie.Need-taken-requires
+taken-requires c κs = search needs
 
-carry-requires-3 : tie.Need-carry-requires-3
-carry-requires-3 c κs = search needs
-
-earlier-requires : tie.Need-earlier-requires
-earlier-requires c κs = search needs
-
-add-t14 : tie.Need-add-t14
-add-t14 c = search needs
+add-t8 : tie.Need-add-t8
+add-t8 c = search needs
 
 returns : tie.Need-returns
 unfolding pushF
-returns c =
-    rw (c .earlier .ensures, c .before .carry3 .ensures, c .before .before .carry2 .ensures, c .before .before .before .carry .ensures)
+returns c = rw (c .before .taken .ensures, c .before .before .skipped .ensures)
 
 pub push-spec : {M : Type 1} → statement M
-push-spec =
-    tie.close
-    (tie.spec carry-requires carry-requires-2 carry-requires-3 earlier-requires add-t14 returns)
+push-spec = tie.close (tie.spec skipped-requires taken-requires add-t8 returns)
