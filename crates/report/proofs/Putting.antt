@@ -64,6 +64,22 @@ module _ {at r : ℕ} {a old new : List ℕ} (p : Put at a old new r) where
   pub joined-two : (b d : List ℕ) {last : List ℕ} {end : ℕ} → Put r (b ++ d) new last end → r ≤ length old → Put at (a ++ b ++ d) old last end
   joined-two b d {last} {end} q h = rw (append-assoc a b d) (joined q h)
 
+  -- of three parts
+  pub joined-three : (b d e : List ℕ) {last : List ℕ} {end : ℕ} → Put r (b ++ d ++ e) new last end → r ≤ length old → Put at (a ++ b ++ d ++ e) old last end
+  joined-three b d e {last} {end} q h = rw (append-assoc a b d, append-assoc a (b ++ d) e) (joined q h)
+
+-- three pieces
+pub joined-all : {at r₁ r₂ end : ℕ} {a b c old n₁ n₂ last : List ℕ} → Put at a old n₁ r₁ → Put r₁ b n₁ n₂ r₂ → Put r₂ c n₂ last end → r₂ ≤ length old → Put at (a ++ b ++ c) old last end
+joined-all p q s h = joined (joined p q (omega (arith, q .next))) s h
+
+-- a line of four pieces
+pub joined-line : {at r₁ r₂ r₃ end : ℕ} {a old n₁ n₂ n₃ last : List ℕ} (b b' c c' d d' e : List ℕ) → Put at a old n₁ r₁ → Put r₁ (b ++ b') n₁ n₂ r₂
+    → Put r₂ (c ++ c') n₂ n₃ r₃ → Put r₃ (d ++ d' ++ e) n₃ last end → r₃ ≤ length old → Put at (a ++ b ++ b' ++ c ++ c' ++ d ++ d' ++ e) old last end
+joined-line b b' c c' d d' e p q s u h =
+    let two = joined-two p b b' q (omega (arith, q .next, s .next)) in
+    let three = joined-two two c c' s (omega (arith, s .next)) in
+    joined-three three d d' e u h
+
 -- ---- a loop that puts a piece at each turn
 
 -- up to `end` some of the whole text is put, and `rest` is still to be

@@ -5,6 +5,7 @@ ghost use Rattle.definitions.specs.Listing as Listing;
 ghost use Rattle.definitions.specs.Listing.{customersText, restText};
 ghost use Rattle.report.specs.Put.{Put};
 ghost use Rattle.report.specs.Lines.{startIf, runText, dropLine, figures};
+use crate::text::ended;
 use crate::text::numbered;
 use crate::text::spaced;
 use crate::text::word;
@@ -55,8 +56,7 @@ pub fn drop_line(out: &mut [u8], at: usize, customer: usize) -> usize
     ensures text { λ r. ⌜ Put at (dropLine customer) (now (out .entry)) (now (out .exit)) r ⌝ }
     ensures short { λ r. ⌜ r ≤ at + 26 ⌝ }
 {
-    let end = numbered(&mut *out, at, b"drop", customer as u64);
-    word(&mut *out, end, b"\n")
+    ended(&mut *out, at, b"drop", customer as u64)
 }
 
 // Distance, cost, and how many calls are served and dropped.
@@ -75,8 +75,7 @@ pub fn total_line(
     let mut end = numbered(&mut *out, at, b"total", distance);
     end = numbered(&mut *out, end, b" cost", cost);
     end = numbered(&mut *out, end, b" served", served.len() as u64);
-    end = numbered(&mut *out, end, b" dropped", dropped.len() as u64);
-    word(&mut *out, end, b"\n")
+    ended(&mut *out, end, b" dropped", dropped.len() as u64)
 }
 
 // A refusal: its number and word.
@@ -85,7 +84,6 @@ pub fn refusal_line(out: &mut [u8], at: usize, number: u64, index: u64) -> usize
     ensures text { λ r. ⌜ Put at (Listing.refusalText number index) (now (out .entry)) (now (out .exit)) r ⌝ }
     ensures short { λ r. ⌜ r ≤ at + 53 ⌝ }
 {
-    let mut end = numbered(&mut *out, at, b"refused", number);
-    end = numbered(&mut *out, end, b" at", index);
-    word(&mut *out, end, b"\n")
+    let end = numbered(&mut *out, at, b"refused", number);
+    ended(&mut *out, end, b" at", index)
 }

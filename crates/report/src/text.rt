@@ -61,3 +61,13 @@ pub fn numbered(out: &mut [u8], at: usize, text: &[u8], n: u64) -> usize
     let end = word(&mut *out, at, text);
     spaced(&mut *out, end, n)
 }
+
+// The same, and the end of the line.
+pub fn ended(out: &mut [u8], at: usize, text: &[u8], n: u64) -> usize
+    requires { ⌜ at + (length (now text) + 22) ≤ length (now out) ⌝ }
+    ensures text { λ r. ⌜ Put at (now (text .entry) ++ Listing.spaced n ++ Listing.endOfLine) (now (out .entry)) (now (out .exit)) r ⌝ }
+    ensures short { λ r. ⌜ r ≤ at + (length (now (text .entry)) + 22) ⌝ }
+{
+    let end = numbered(&mut *out, at, text, n);
+    word(&mut *out, end, b"\n")
+}

@@ -1,7 +1,7 @@
 -- `lines::refusal_line` meets its contract. Assumes nothing.
 use native.Mathlib.Omega.{arith}
-use Rattle.definitions.specs.Listing.{text, spaced}
-use Rattle.report.proofs.Putting.{joined, joined-two}
+use Rattle.definitions.specs.Listing.{text, spaced, endOfLine}
+use Rattle.report.proofs.Putting.{joined-three}
 use borrow.Author.Needs.{needs}
 use Rattle.report.proofs.lines.refusal_line.Statement.{statement}
 use Rattle.report.proofs.lines.refusal_line.Tie as tie
@@ -12,30 +12,21 @@ slice-aggregate-numbered c = search needs
 numbered-requires : tie.Need-numbered-requires
 numbered-requires c κs = search needs
 
-slice-aggregate-numbered-2 : tie.Need-slice-aggregate-numbered-2
-slice-aggregate-numbered-2 c = search needs
+slice-aggregate-ended : tie.Need-slice-aggregate-ended
+slice-aggregate-ended c = search needs
 
-numbered-requires-2 : tie.Need-numbered-requires-2
-numbered-requires-2 c κs = search needs
-
-slice-aggregate-word : tie.Need-slice-aggregate-word
-slice-aggregate-word c = search needs
-
-word-requires : tie.Need-word-requires
-word-requires c κs = search needs
+ended-requires : tie.Need-ended-requires
+ended-requires c κs = search needs
 
 same-length : tie.Need-same-length
 same-length c = search needs
 
 returns : tie.Need-returns
 returns c =
-    let w = c .before .before in
-    let i = w .before .before .before .before .before in
-    let n = i .before .before .before .before .before in
-    let s = n .before .before .before .before in (
-      joined (joined-two (n .numbered .ensures .0) (text " at") (spaced (s .args .index)) (i .numbered2 .ensures .0) (omega arith)) (w .word .ensures) (omega arith),
-      omega arith,
-    )
+    let e = c .before .before in
+    let n = e .before .before .before .before .before in
+    let s = n .before .before .before .before in
+    (joined-three (n .numbered .ensures .0) (text " at") (spaced (s .args .index)) endOfLine (e .ended .ensures .0) (omega arith), omega arith)
 
 pub refusal-line-spec : {M : Type 1} → statement M
 refusal-line-spec =
@@ -43,9 +34,7 @@ refusal-line-spec =
     (tie.spec
     slice-aggregate-numbered
     numbered-requires
-    slice-aggregate-numbered-2
-    numbered-requires-2
-    slice-aggregate-word
-    word-requires
+    slice-aggregate-ended
+    ended-requires
     same-length
     returns)

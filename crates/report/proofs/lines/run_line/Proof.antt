@@ -1,6 +1,6 @@
 -- `lines::run_line` meets its contract. Assumes nothing.
 use native.Mathlib.Omega.{arith}
-use Rattle.report.proofs.Putting.{joined}
+use Rattle.report.proofs.Putting.{joined, joined-all}
 use borrow.Author.Needs.{needs}
 use Rattle.report.proofs.lines.run_line.Statement.{statement}
 use Rattle.report.proofs.lines.run_line.Tie as tie
@@ -33,7 +33,7 @@ returns c =
     let k = r .before .before .before .before in
     let w = k .before .before .before .before in
     let b = w .word .ensures .next in
-    (joined (joined (joined (w .word .ensures) (k .customers .ensures .0) (omega arith)) (r .rest .ensures .0) (omega arith)) (e .word2 .ensures) (omega arith), omega arith)
+    (joined (joined-all (w .word .ensures) (k .customers .ensures .0) (r .rest .ensures .0) (omega arith)) (e .word2 .ensures) (omega arith), omega arith)
 
 pub run-line-spec : {M : Type 1} → statement M
 run-line-spec =

@@ -1,7 +1,7 @@
 -- `plan::plan_text` meets its contract. Assumes nothing.
 use native.Mathlib.Omega.{arith}
 use Rattle.report.specs.Plan.{planF}
-use Rattle.report.proofs.Putting.{joined}
+use Rattle.report.proofs.Putting.{joined-all}
 use borrow.Author.Needs.{needs}
 use Rattle.report.proofs.plan.plan_text.Statement.{statement}
 use Rattle.report.proofs.plan.plan_text.Tie as tie
@@ -36,7 +36,7 @@ returns c =
     let runs = r .run-lines .ensures .1 in
     let drops = d .drop-lines .ensures .1 in
     let total = t .total-line .ensures .1 in
-    (rw (← far .whole-part .ensures, ← cost .whole-part2 .ensures) (joined (joined (r .run-lines .ensures .0) (d .drop-lines .ensures .0) (omega arith)) (t .total-line .ensures .0) (omega arith)), omega arith)
+    (joined-all (r .run-lines .ensures .0) (d .drop-lines .ensures .0) (rw (far .whole-part .ensures, cost .whole-part2 .ensures) at (t .total-line .ensures .0)) (omega arith), omega arith)
 
 pub plan-text-spec : {M : Type 1} → statement M
 plan-text-spec =

@@ -1,12 +1,9 @@
--- `lines::drop_line` meets its contract. Assumes nothing.
+-- `text::ended` meets its contract. Assumes nothing.
 use native.Mathlib.Omega.{arith}
 use Rattle.report.proofs.Putting.{joined}
 use borrow.Author.Needs.{needs}
-use Rattle.report.proofs.lines.drop_line.Statement.{statement}
-use Rattle.report.proofs.lines.drop_line.Tie as tie
-
-slice-aggregate-numbered : tie.Need-slice-aggregate-numbered
-slice-aggregate-numbered c = search needs
+use Rattle.report.proofs.text.ended.Statement.{statement}
+use Rattle.report.proofs.text.ended.Tie as tie
 
 numbered-requires : tie.Need-numbered-requires
 numbered-requires c κs = search needs
@@ -26,11 +23,10 @@ returns c =
     let n = w .before .before .before .before .before in
     (joined (n .numbered .ensures .0) (w .word .ensures) (omega arith), omega arith)
 
-pub drop-line-spec : {M : Type 1} → statement M
-drop-line-spec =
+pub ended-spec : {M : Type 1} → statement M
+ended-spec =
     tie.close
     (tie.spec
-    slice-aggregate-numbered
     numbered-requires
     slice-aggregate-word
     word-requires
