@@ -59,8 +59,7 @@ fn last_line(out: &mut [u8], at: usize, tally: Tally, last: Seen) -> usize
         Seen::End => count_line(&mut *out, at, tally.answers, tally.unlike),
         Seen::CutShort => stop_line(&mut *out, at, number, b" is cut short\n"),
         Seen::TooLong => stop_line(&mut *out, at, number, b" is too long\n"),
-        Seen::Alike => stop_line(&mut *out, at, number, b" is one too many\n"),
-        Seen::Unlike => stop_line(&mut *out, at, number, b" is one too many\n"),
+        Seen::Alike | Seen::Unlike => stop_line(&mut *out, at, number, b" is one too many\n"),
     }
 }
 

@@ -1,10 +1,31 @@
 -- `closing::last_line` meets its contract. Assumes nothing.
+use Prim.Native.Nat.{_+_}
 use native.Mathlib.Omega.{arith}
-use mathlib.Core.Path.{_≡_}
+use mathlib.Core.Path.{_≡_, refl}
+use mathlib.Core.Logic.{inl, inr}
+use mathlib.Core.List.{[], _∷_}
+use denote.Enum.Declared.{tagOf}
+use types.Run.{OneOf}
+use Rattle.definitions.specs.Listing.{text}
+use Rattle.records.specs.declared.seen.Seen.{Seen}
+use Rattle.records.specs.declared.tally.Tally.{Tally}
+use Rattle.records.specs.Closing.{stopLine, lastLine}
+use Rattle.records.proofs.seen.Seen.{the-type}
 use Rattle.records.specs.declared.seen.Seen.the-variants.{Alike, Unlike, End, CutShort, TooLong}
 use borrow.Author.Needs.{needs}
 use Rattle.records.proofs.closing.last_line.Statement.{statement}
 use Rattle.records.proofs.closing.last_line.Tie as tie
+
+-- an answer where none is due
+one-too-many : (t : Tally) (last : Seen) → OneOf (0 ∷ 1 ∷ []) (tagOf the-type last) → lastLine t last ≡ stopLine (t .answers + 1) (text " is one too many\n")
+one-too-many t Alike o = refl
+one-too-many t Unlike o = refl
+one-too-many t End (inl e) = absurd (omega arith)
+one-too-many t End (inr e) = absurd (omega arith)
+one-too-many t CutShort (inl e) = absurd (omega arith)
+one-too-many t CutShort (inr e) = absurd (omega arith)
+one-too-many t TooLong (inl e) = absurd (omega arith)
+one-too-many t TooLong (inr e) = absurd (omega arith)
 
 add-number : tie.Need-add-number
 add-number c = search needs
@@ -33,23 +54,11 @@ slice-aggregate-stop-line-2 c = search needs
 stop-line-requires-2 : tie.Need-stop-line-requires-2
 stop-line-requires-2 c κs = search needs
 
-enum-told-4 : tie.Need-enum-told-4
-enum-told-4 c = search needs
-
 slice-aggregate-stop-line-3 : tie.Need-slice-aggregate-stop-line-3
 slice-aggregate-stop-line-3 c = search needs
 
 stop-line-requires-3 : tie.Need-stop-line-requires-3
 stop-line-requires-3 c κs = search needs
-
-enum-told-5 : tie.Need-enum-told-5
-enum-told-5 c = search needs
-
-slice-aggregate-stop-line-4 : tie.Need-slice-aggregate-stop-line-4
-slice-aggregate-stop-line-4 c = search needs
-
-stop-line-requires-4 : tie.Need-stop-line-requires-4
-stop-line-requires-4 c κs = search needs
 
 same-length : tie.Need-same-length
 same-length c = search needs
@@ -80,16 +89,9 @@ same-length-4 c = search needs
 
 returns-4 : tie.Need-returns-4
 returns-4 c =
-    let e : c .before .before .before .before .before .before .before .before .before .args .last ≡ Alike = search needs in
-    rw e (c .before .before .stop-line3 .ensures .0, omega arith)
-
-same-length-5 : tie.Need-same-length-5
-same-length-5 c = search needs
-
-returns-5 : tie.Need-returns-5
-returns-5 c =
-    let e : c .before .before .before .before .before .before .before .before .before .args .last ≡ Unlike = search needs in
-    rw e (c .before .before .stop-line4 .ensures .0, omega arith)
+    let m = c .before .before .before .before .before in
+    let a = m .before .before .before .args in
+    rw (one-too-many (a .tally) (a .last) (m .match .keys4)) (c .before .before .stop-line3 .ensures .0, omega arith)
 
 pub last-line-spec : {M : Type 1} → statement M
 last-line-spec =
@@ -104,12 +106,8 @@ last-line-spec =
     enum-told-3
     slice-aggregate-stop-line-2
     stop-line-requires-2
-    enum-told-4
     slice-aggregate-stop-line-3
     stop-line-requires-3
-    enum-told-5
-    slice-aggregate-stop-line-4
-    stop-line-requires-4
     same-length
     returns
     same-length-2
@@ -117,6 +115,4 @@ last-line-spec =
     same-length-3
     returns-3
     same-length-4
-    returns-4
-    same-length-5
-    returns-5)
+    returns-4)
