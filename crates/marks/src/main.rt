@@ -35,16 +35,10 @@ fn run_fault(fault: &[u8], run: usize) {
     numbered(b" in run ", run as u64);
 }
 
-fn overload(run: usize, load: u64, capacity: u64) {
-    run_fault(b"overload", run);
-    numbered(b": ", load);
-    numbered(b" over ", capacity);
-}
-
-fn over(fault: &[u8], run: usize, value: f64, limit: f64) {
+fn over(fault: &[u8], run: usize, value: u64, limit: u64) {
     run_fault(fault, run);
-    amount(b": ", value);
-    amount(b" over ", limit);
+    numbered(b": ", value);
+    numbered(b" over ", limit);
 }
 
 fn after(time: f64, limit: f64) {
@@ -97,7 +91,7 @@ fn show_fault(verdict: Verdict) {
             run,
             load,
             capacity,
-        } => overload(run, load, wide(capacity)),
+        } => over(b"overload", run, load, wide(capacity)),
         Verdict::BreakMissing {
             run,
             duration,
@@ -107,12 +101,12 @@ fn show_fault(verdict: Verdict) {
             run,
             distance,
             limit,
-        } => over(b"too far", run, distance, limit),
+        } => over(b"too far", run, whole_part(distance), whole_part(limit)),
         Verdict::TooLong {
             run,
             duration,
             limit,
-        } => over(b"too long", run, duration, limit),
+        } => over(b"too long", run, whole_part(duration), whole_part(limit)),
         _ => show_call_fault(verdict),
     }
 }
@@ -138,34 +132,20 @@ fn show(name: &[u8], marking: Marking) {
     text(b"\n");
 }
 
-// What is marked: the calls of all runs, the run ends, and a break place for each run.
-struct Marked {
-    calls: usize,
-    ends: usize,
-    places: usize,
-}
-
-fn cutting(calls: usize, ends: usize, places: usize) -> Marked {
-    Marked {
-        calls,
-        ends,
-        places,
-    }
-}
-
-// The mark of runs of these calls, on a sheet without a time table.
-fn judge_calls(
+// The mark of runs with these ends and break places, on a sheet without a time table.
+fn judge(
     head: Head,
     customers: [Customer; 64],
     distances: &[f64],
     tour: &[usize],
     calls: &[usize],
-    marked: Marked,
+    ends: usize,
+    places: usize,
 ) -> Marking {
     let times = [0.0];
-    let ends = digits(marked.ends);
-    let places = digits(marked.places);
-    let from = begin(marked.ends);
+    let run_ends = digits(ends);
+    let run_places = digits(places);
+    let from = begin(ends);
     mark(
         head,
         customers,
@@ -174,82 +154,98 @@ fn judge_calls(
         &times[..0],
         tour,
         calls,
-        &ends[from..],
-        &places[from..],
+        &run_ends[from..],
+        &run_places[from..],
     )
 }
 
-// The mark of a cutting of a tour.
-fn judge(
+// The mark of a cutting of a tour: the calls of all runs, the run ends, and a break place for each run.
+fn tell(
+    name: &[u8],
     head: Head,
     customers: [Customer; 64],
     distances: &[f64],
     tour: usize,
-    marked: Marked,
-) -> Marking {
+    calls: usize,
+    ends: usize,
+    places: usize,
+) {
     let given = digits(tour);
-    let calls = digits(marked.calls);
-    judge_calls(
+    let cut = digits(calls);
+    let marking = judge(
         head,
         customers,
         distances,
         &given[begin(tour)..],
-        &calls[begin(marked.calls)..],
-        marked,
-    )
+        &cut[begin(calls)..],
+        ends,
+        places,
+    );
+    show(name, marking);
 }
 
-// The mark of a cutting on a bench sheet.
-fn cut(name: &[u8], change: Change, tour: usize, marked: Marked) {
+// The same on a bench sheet.
+fn cut(name: &[u8], change: Change, tour: usize, calls: usize, ends: usize, places: usize) {
     let sheet = changed(change);
-    let head = sheet.head;
     let customers = sheet.customers;
     let distances = sheet.distances;
-    show(name, judge(head, customers, &distances, tour, marked));
+    tell(
+        name,
+        sheet.head,
+        customers,
+        &distances,
+        tour,
+        calls,
+        ends,
+        places,
+    );
 }
 
-// The mark of a cutting on the full sheet.
-fn full_cut(name: &[u8], tour: usize, marked: Marked) {
+// The same on the full sheet.
+fn full_cut(name: &[u8], tour: usize, calls: usize, ends: usize, places: usize) {
     let sheet = full();
-    let head = sheet.head;
     let customers = sheet.customers;
     let distances = sheet.distances;
-    show(name, judge(head, customers, &distances, tour, marked));
+    tell(
+        name,
+        sheet.head,
+        customers,
+        &distances,
+        tour,
+        calls,
+        ends,
+        places,
+    );
 }
 
-// A tour as one run.
-fn whole(tour: usize, place: usize) -> Marked {
-    cutting(tour, 5 - begin(tour), place)
-}
-
-// The mark of the tour as one run on a bench sheet.
+// The mark of a tour as one run on a bench sheet.
 fn run(name: &[u8], change: Change, tour: usize, place: usize) {
-    cut(name, change, tour, whole(tour, place));
+    cut(name, change, tour, tour, 5 - begin(tour), place);
 }
 
-// The mark of the tour as one run on the full sheet.
+// The mark of a tour as one run on the full sheet.
 fn full_run(name: &[u8], tour: usize, place: usize) {
-    full_cut(name, tour, whole(tour, place));
+    full_cut(name, tour, tour, 5 - begin(tour), place);
 }
 
 fn costs() {
     run(b"q", Change::BreakAtPrice, 12, 2);
     run(b"best", Change::Nothing, 12, 0);
-    cut(b"dearer", Change::Nothing, 12, cutting(12, 12, 0));
+    cut(b"dearer", Change::Nothing, 12, 12, 12, 0);
 }
 
 // A call changed, one left out, none at all, one too many.
 fn calls() {
-    cut(b"changed", Change::Nothing, 12, cutting(11, 2, 0));
-    cut(b"left out", Change::Nothing, 12, cutting(1, 1, 0));
-    cut(b"none", Change::Nothing, 12, cutting(0, 0, 0));
-    cut(b"too many", Change::Nothing, 12, cutting(121, 23, 0));
+    cut(b"changed", Change::Nothing, 12, 11, 2, 0);
+    cut(b"left out", Change::Nothing, 12, 1, 1, 0);
+    cut(b"none", Change::Nothing, 12, 0, 0, 0);
+    cut(b"too many", Change::Nothing, 12, 121, 23, 0);
 }
 
 // Sheets on which calls are dropped.
 fn drops() {
-    cut(b"nothing", Change::Capacity(1), 12, cutting(0, 0, 0));
-    cut(b"served", Change::Due(9.0), 12, cutting(2, 1, 0));
+    cut(b"nothing", Change::Capacity(1), 12, 0, 0, 0);
+    cut(b"served", Change::Due(9.0), 12, 2, 1, 0);
     run(b"dropped", Change::Due(9.0), 12, 0);
 }
 
@@ -263,7 +259,7 @@ fn faults() {
 
 fn full_costs() {
     full_run(b"full best", 12, 2);
-    full_cut(b"full dearer", 12, cutting(12, 12, 0));
+    full_cut(b"full dearer", 12, 12, 12, 0);
     full_run(b"full cheaper", 52, 2);
     full_run(b"full break not needed", 2, 0);
     full_run(b"full break taken", 2, 1);
@@ -280,7 +276,7 @@ fn full_faults() {
 
 // Of two faults the one that is told.
 fn order() {
-    full_cut(b"calls before load", 212, cutting(222, 3, 0));
+    full_cut(b"calls before load", 212, 222, 3, 0);
     full_run(b"load before walk", 212, 0);
     full_run(b"break before window", 23, 2);
     full_run(b"earlier call first", 213, 3);
@@ -291,9 +287,9 @@ fn order() {
 
 // Of two runs the first with a fault.
 fn runs() {
-    full_cut(b"first run first", 32242, cutting(32242, 25, 11));
-    full_cut(b"second run long", 132, cutting(132, 13, 1));
-    full_cut(b"second run window", 21, cutting(21, 12, 1));
+    full_cut(b"first run first", 32242, 32242, 25, 11);
+    full_cut(b"second run long", 132, 132, 13, 1);
+    full_cut(b"second run window", 21, 21, 12, 1);
 }
 
 fn main() {
