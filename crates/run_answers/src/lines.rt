@@ -33,19 +33,6 @@ fn visit_line(recorded: &[u8], at: usize, visit: Visit) -> usize {
     word(recorded, end, b"\n")
 }
 
-// A window that is violated: its customer, the arrival and the due time.
-fn window_figures(recorded: &[u8], at: usize, customer: usize, arrival: f64, due: f64) -> usize {
-    let end = number(recorded, at, 1);
-    number_and_two(recorded, end, customer as u64, arrival, due)
-}
-
-// An overload: the load and the capacity.
-fn load_figures(recorded: &[u8], at: usize, load: u64, capacity: u32) -> usize {
-    let mut end = number(recorded, at, 3);
-    end = number(recorded, end, load);
-    number(recorded, end, capacity as u64)
-}
-
 // The number of a violation, and its figures.
 fn violation_figures(recorded: &[u8], at: usize, kind: ViolationType) -> usize {
     match kind {
@@ -53,10 +40,15 @@ fn violation_figures(recorded: &[u8], at: usize, kind: ViolationType) -> usize {
             customer_id,
             arrival,
             due,
-        } => window_figures(recorded, at, customer_id, arrival, due),
+        } => {
+            let end = number(recorded, at, 1);
+            number_and_two(recorded, end, customer_id as u64, arrival, due)
+        }
         ViolationType::BreakNotPlaceable => number(recorded, at, 2),
         ViolationType::CapacityExceeded { load, capacity } => {
-            load_figures(recorded, at, load, capacity)
+            let mut end = number(recorded, at, 3);
+            end = number(recorded, end, load);
+            number(recorded, end, capacity as u64)
         }
         ViolationType::MaxDistanceExceeded {
             distance,
@@ -77,33 +69,22 @@ fn violation_line(recorded: &[u8], at: usize, violation: Violation) -> usize {
     word(recorded, end, b"\n")
 }
 
-// The violation with an index.
-fn violation_at(recorded: &[u8], at: usize, list: [Violation; 131], k: usize) -> usize {
-    if 131 <= k {
-        return UNLIKE;
-    }
-    let violation = list[k];
-    violation_line(recorded, at, violation)
-}
-
-// The visit with an index.
-fn visit_at(recorded: &[u8], at: usize, list: [Visit; 128], k: usize) -> usize {
-    if 128 <= k {
-        return UNLIKE;
-    }
-    let visit = list[k];
-    visit_line(recorded, at, visit)
-}
-
 // The line with an index: the violations are behind the visits.
 fn line(recorded: &[u8], at: usize, built: Built, k: usize) -> usize {
     let count = built.count;
     if k < count {
+        if 128 <= k {
+            return UNLIKE;
+        }
         let visits = built.visits;
-        return visit_at(recorded, at, visits, k);
+        return visit_line(recorded, at, visits[k]);
+    }
+    let j = k - count;
+    if 131 <= j {
+        return UNLIKE;
     }
     let violations = built.violations;
-    violation_at(recorded, at, violations, k - count)
+    violation_line(recorded, at, violations[j])
 }
 
 // The visits, and the violations.
@@ -138,21 +119,14 @@ fn total_figures(recorded: &[u8], at: usize, built: Built) -> usize {
     number(recorded, end, built.load)
 }
 
-// The totals, and the break.
-fn route_line(recorded: &[u8], at: usize, built: Built) -> usize
-    ensures { λ r. ⌜ Inside (now (recorded .entry)) r ⌝ }
-{
-    let start = built.start;
-    let mut end = word(recorded, at, b"route");
-    end = total_figures(recorded, end, built);
-    end = break_figures(recorded, end, built.place, start);
-    word(recorded, end, b"\n")
-}
-
-// All lines of the run.
+// All lines of the run: the visits and the violations, then the totals and the break.
 pub fn built_lines(recorded: &[u8], at: usize, built: Built) -> usize
     ensures { λ r. ⌜ Inside (now (recorded .entry)) r ⌝ }
 {
-    let end = visits_and_violations(recorded, at, built);
-    route_line(recorded, end, built)
+    let start = built.start;
+    let mut end = visits_and_violations(recorded, at, built);
+    end = word(recorded, end, b"route");
+    end = total_figures(recorded, end, built);
+    end = break_figures(recorded, end, built.place, start);
+    word(recorded, end, b"\n")
 }
