@@ -1,29 +1,15 @@
--- On a sheet within the limits the cost of runs and cuttings, and the distances that the improvers sum up, stay below 2 ^ 53. Assumes nothing.
+-- The bound of the cost of runs and cuttings, and of the distances that the improvers sum up.
 use Prim.Native.Nat.{ℕ, _+_, _*_, _≤_}
-use native.Mathlib.Omega.{arith}
-use mathlib.Core.Path.{_≡_, refl, sym, ap, subst, _∙_}
-use mathlib.Core.Bool.{true, not, _&&_, false≢true}
-use mathlib.Core.List.{List, [], _∷_}
+use mathlib.Core.Path.{_≡_}
+use mathlib.Core.Bool.{true, not}
+use mathlib.Core.List.{List, []}
 use mathlib.Core.Option.{Option, none, some}
-use lib.ListN.{length, length-append, length-map}
-use Rattle.basics.specs.Tests.{and-left}
-use Rattle.basics.specs.Options.{valueOr, granted, unbound, clash}
-use Rattle.basics.specs.Lists.{isEmpty, sum, All, length-count}
+use lib.ListN.{length}
+use Rattle.basics.specs.Lists.{isEmpty}
 use Rattle.definitions.specs.Domain.{mostCalls, mostNumber}
-use Rattle.definitions.specs.Sheet.{Sheet}
-use Rattle.definitions.specs.Run.{Run, distanceFrom, Totals, ride, fits, price, payOf, runCost}
-use Rattle.definitions.specs.Clock.{clock, Arc, arc}
-use Rattle.definitions.specs.Cutting.{joined, cuttingCost, Best, nothing, cheapest}
-use Rattle.definitions.specs.Drop.{callAt, callsAt, drops, planBy, plainArc}
-use Rattle.definitions.specs.Promise.{Parts, ended, kept, gone}
-use Rattle.definitions.specs.Improver.{Given, distanceOf}
-use Rattle.theorems.proofs.Legality.{arc-clock}
-use Rattle.theorems.proofs.Least.{Reach, more, Made, best-reach, best-of}
-use Rattle.theorems.proofs.Dropping.{drops-parts}
-use Rattle.theorems.proofs.LegLaws as Legs
-use Rattle.bounds.specs.Inside.{Small, Sized}
-use Rattle.whole.specs.Whole.{limit}
-use Rattle.bounds.specs.Bounds.{mostPay, legs-most, distance-most, ride-most, clock-most}
+use Rattle.definitions.specs.Run.{Run}
+use Rattle.definitions.specs.Clock.{Arc}
+use Rattle.bounds.specs.Bounds.{mostPay}
 
 -- what a call adds to the cost of a cutting at the most: a run's fixed cost and two legs, and its lateness pay
 abbrev pub mostCost : ℕ
@@ -33,160 +19,13 @@ mostCost = 3 * mostNumber + mostPay
 abbrev pub mostFar : ℕ
 mostFar = 2 * mostNumber
 
-pub cost-fits : (j cost : ℕ) → j ≤ mostCalls → cost ≤ j * mostCost → cost ≤ limit
-cost-fits j cost few h = omega arith
-
-pub far-fits : (j far : ℕ) → j ≤ mostCalls → far ≤ j * mostFar → far ≤ limit
-far-fits j far few h = omega arith
-
 -- ---- a run
 
 -- the run has a call
 abbrev pub Called : Run → Type 0
 Called r = not (isEmpty (r .calls)) ≡ true
 
-some-length : (calls : List ℕ) → not (isEmpty calls) ≡ true → 1 ≤ length calls
-some-length [] e = absurd (false≢true e)
-some-length (c ∷ cs) e = omega arith
-
 -- a way to price runs by which no call costs more than `mostCost`
 pub record Priced (arc : List ℕ → Option Arc) : Type 0 where
   pub no-run : arc [] ≡ none
   pub run-most : (calls : List ℕ) (a : Arc) → length calls ≤ mostCalls → arc calls ≡ some a → a .cost ≤ length calls * mostCost
-
-module _ (s : Sheet) (S : Sized s) where
-  -- what a run of n calls costs
-  pub price-most : (n distance pay : ℕ) → 1 ≤ n → distance ≤ (n + 1) * mostNumber → pay ≤ n * mostPay → price s distance pay ≤ n * mostCost
-  price-most n distance pay h d p = omega (arith, S .fixed-small)
-
-  -- the sums on the way to it, on top of the cost of i calls before it
-  pub price-room : (i n cost distance pay : ℕ) → i ≤ mostCalls → n ≤ mostCalls → cost ≤ i * mostCost → distance ≤ (n + 1) * mostNumber → pay ≤ n * mostPay
-      → cost + s .fixed + distance + pay ≤ limit
-  price-room i n cost distance pay h k c d p = omega (arith, S .fixed-small)
-
-  pub arc-priced : Priced (arc s)
-  unfolding arc
-  arc-priced = record { no-run = unbound (clock s []) _ (λ t. refl); run-most = most }
-    where
-      most : (calls : List ℕ) (a : Arc) → length calls ≤ mostCalls → arc s calls ≡ some a → a .cost ≤ length calls * mostCost
-      most calls a few e =
-          let y = arc-clock s calls a e in
-          let t = y .0 in
-          let T = clock-most s S calls few t (y .1) in
-          subst (λ (x : Arc). x .cost ≤ length calls * mostCost) (y .3)
-          (price-most (length calls) (t .distance) (t .pay) (some-length calls (y .2 .some-calls)) (T .distance-most) (T .pay-most))
-
-  -- `split` pays for no lateness
-  pub plain-priced : Priced (plainArc s)
-  unfolding plainArc
-  plain-priced = record { no-run = refl; run-most = most }
-    where
-      most : (calls : List ℕ) (a : Arc) → length calls ≤ mostCalls → plainArc s calls ≡ some a → a .cost ≤ length calls * mostCost
-      most calls a few e =
-          let g = granted (not (isEmpty calls) && fits s calls) (record { place = 0; cost = price s (distanceFrom s 0 calls) 0 }) a e in
-          let h = some-length calls (and-left (not (isEmpty calls)) _ (g .0)) in
-          subst (λ (x : Arc). x .cost ≤ length calls * mostCost) (g .1) (price-most (length calls) (distanceFrom s 0 calls) 0 h (distance-most s S 0 calls) (omega arith))
-
-  -- with any break place
-  pub run-cost-most : (r : Run) → Called r → length (r .calls) ≤ mostCalls → runCost s r ≤ length (r .calls) * mostCost
-  unfolding runCost
-  run-cost-most r h few =
-      price-most (length (r .calls)) (distanceFrom s 0 (r .calls)) (payOf (ride s r)) (some-length (r .calls) h) (distance-most s S 0 (r .calls)) (paid (ride s r) refl)
-    where
-      paid : (o : Option Totals) → ride s r ≡ o → payOf o ≤ length (r .calls) * mostPay
-      paid none e = omega arith
-      paid (some t) e = ride-most s S r few t e .pay-most
-
-  pub run-distance-most : (r : Run) → Called r → length (r .calls) ≤ mostCalls → distanceFrom s 0 (r .calls) ≤ length (r .calls) * mostFar
-  run-distance-most r h few = omega (arith, distance-most s S 0 (r .calls), some-length (r .calls) h)
-
--- ---- cuttings
-
--- what holds for each run of a list, in all
-runs-most : (f : Run → ℕ) (m : ℕ) → ((r : Run) → Called r → length (r .calls) ≤ mostCalls → f r ≤ length (r .calls) * m)
-    → (runs : List Run) → All Called runs → length (joined runs) ≤ mostCalls → sum f runs ≤ length (joined runs) * m
-runs-most f m h [] c few = omega arith
-runs-most f m h (r ∷ rs) c few =
-    let z = length-append (r .calls) (joined rs) in
-    let k : f r ≤ length (r .calls) * m = h r (c .0) (omega arith) in
-    let i : sum f rs ≤ length (joined rs) * m = runs-most f m h rs (c .1) (omega arith) in
-    rw z (omega arith)
-
-module _ (s : Sheet) (S : Sized s) (runs : List Run) (called : All Called runs) (few : length (joined runs) ≤ mostCalls) where
-  -- of a cutting with any break places
-  pub cutting-cost-most : cuttingCost s runs ≤ length (joined runs) * mostCost
-  cutting-cost-most = runs-most (runCost s) mostCost (run-cost-most s S) runs called few
-
-  pub cutting-distance-most : sum (λ r. distanceFrom s 0 (r .calls)) runs ≤ length (joined runs) * mostFar
-  cutting-distance-most = runs-most (λ r. distanceFrom s 0 (r .calls)) mostFar (run-distance-most s S) runs called few
-
-module _ (arc : List ℕ → Option Arc) (P : Priced arc) where
-  -- any cutting of the calls
-  pub reach-most : {calls : List ℕ} {n : ℕ} → Reach arc calls n → length calls ≤ mostCalls → n ≤ length calls * mostCost
-  reach-most (Reach.start e z) few = omega arith
-  reach-most {calls} (more before since m a R q e z) few =
-      let j : length before + length since ≡ length calls = sym (length-append before since) ∙ ap length e in
-      let b = reach-most R (omega arith) in
-      let c = P .run-most since a (omega arith) q in
-      omega arith
-
-  -- the best of them
-  pub best-most : (calls : List ℕ) → length calls ≤ mostCalls → (b : Best) → cheapest arc calls ≡ some b → b .cost ≤ length calls * mostCost
-  best-most calls few b e = reach-most (best-reach arc calls (cheapest arc calls) (best-of arc (P .no-run) calls) b e) few
-
-  made-called : (runs : List Run) → Made arc runs → All Called runs
-  made-called [] m = tt
-  made-called (r ∷ rs) m = (go (r .calls) (m .0 .1), made-called rs (m .1))
-    where
-      go : (calls : List ℕ) → arc calls ≡ some (m .0 .0) → not (isEmpty calls) ≡ true
-      go [] e = clash (sym (P .no-run) ∙ e)
-      go (c ∷ cs) e = refl
-
-  -- and its distance
-  pub best-distance-most : (s : Sheet) → Sized s → (calls : List ℕ) → length calls ≤ mostCalls → (b : Best) → cheapest arc calls ≡ some b
-      → sum (λ r. distanceFrom s 0 (r .calls)) (b .runs) ≤ length calls * mostFar
-  best-distance-most s S calls few b e =
-      let c = best-of arc (P .no-run) calls .cuts b e in
-      let z : length (joined (b .runs)) ≡ length calls = ap length (c .0) in
-      omega (arith, cutting-distance-most s S (b .runs) (made-called (b .runs) (c .1)) (omega arith))
-
--- ---- the plan
-
-parts-few : {all held dropped : List ℕ} → Parts all held dropped → length held ≤ length all
-parts-few ended = omega arith
-parts-few (kept x P) = let h = parts-few P in omega arith
-parts-few (gone x P) = let h = parts-few P in omega arith
-
-module _ (arc : List ℕ → Option Arc) (P : Priced arc) (tour : List ℕ) (few : length tour ≤ mostCalls) where
-  -- no more calls are held than the tour has
-  pub held-few : length (callsAt tour (drops arc tour .held)) ≤ mostCalls
-  held-few =
-      omega (
-        arith,
-        length-map (drops arc tour .held) (callAt tour),
-        parts-few (drops-parts arc tour (P .no-run)),
-        length-count 1 (length tour),
-      )
-
-  -- the plan's cost and distance
-  pub plan-fits : (s : Sheet) → Sized s → (planBy arc s tour .cost ≤ limit) × (planBy arc s tour .distance ≤ limit)
-  plan-fits s S = go (cheapest arc held) refl
-    where
-      held : List ℕ
-      held = callsAt tour (drops arc tour .held)
-
-      go : (o : Option Best) → cheapest arc held ≡ o
-          → (valueOr nothing o .cost ≤ limit) × (sum (λ r. distanceFrom s 0 (r .calls)) (valueOr nothing o .runs) ≤ limit)
-      go none e = (omega arith, omega arith)
-      go (some b) e = (
-        cost-fits (length held) (b .cost) held-few (best-most arc P held held-few b e),
-        far-fits (length held) (sum (λ r. distanceFrom s 0 (r .calls)) (b .runs)) held-few (best-distance-most arc P s S held held-few b e),
-      )
-
--- ---- the improvers
-
-module _ (G : Given) (near : (a b : ℕ) → Small (G .leg a b)) where
-  -- the distance of a run
-  pub run-far : (run : List ℕ) → distanceOf G run ≤ length run * mostFar
-  run-far [] = omega arith
-  run-far (c ∷ cs) = omega (arith, legs-most (G .leg) near 0 (c ∷ cs))

@@ -1,5 +1,5 @@
--- Every lookup of a run lies inside its table.
-pub mod Inside
--- Every sum stays below 2 ^ 53: distance, load, time, lateness and pay; then costs, and what the improvers reckon.
+-- What is known of a sheet within the limits.
+pub mod Sized
+-- The bounds: of distance, load, time, lateness and pay; then of costs, and of what the improvers reckon.
 pub mod Bounds
 pub mod CostBounds

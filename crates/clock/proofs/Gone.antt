@@ -4,8 +4,9 @@ use mathlib.Core.Path.{_≡_}
 use mathlib.Core.Bool.{false}
 use mathlib.Core.Option.{none}
 use lib.Ieee.{Float}
-use Rattle.basics.specs.Tests.{or-left, or-right}
-use Rattle.basics.specs.Options.{absent, present}
+use Rattle.basics.proofs.TestLaws.{or-left, or-right}
+use Rattle.basics.proofs.OptionLaws.{absent}
+use Rattle.basics.specs.Options.{present}
 use Rattle.definitions.specs.Sheet.{CustomerOf}
 use Rattle.clock.specs.Records.{ClockF}
 use Rattle.clock.specs.Serving.{earlierF}

@@ -3,7 +3,7 @@ use Prim.Native.Nat.{ℕ, _+_, _≤_}
 use native.Mathlib.Omega.{arith}
 use mathlib.Core.Path.{_≡_, refl, ap, subst, _∙_}
 use mathlib.Core.Option.{Option, none, some, Option·map}
-use Rattle.basics.specs.Tests.{by-test}
+use Rattle.basics.proofs.TestLaws.{by-test}
 use Rattle.basics.specs.Options.{_>>=_, holds, Holds}
 use Rattle.definitions.specs.Domain.{mostCalls}
 use Rattle.definitions.specs.Sheet.{Break}
@@ -11,9 +11,10 @@ use Rattle.definitions.specs.Limits.{excused}
 use Rattle.definitions.specs.Run as Whole
 use Rattle.definitions.specs.Run.{Totals}
 use Rattle.definitions.specs.Clock.{Clock, counts}
-use Rattle.bounds.specs.Inside.{Small, SmallBreak}
+use Rattle.bounds.specs.Sized.{Small, SmallBreak}
 use Rattle.bounds.specs.Bounds.{Early, EarlyClock}
-use Rattle.whole.specs.Whole.{fl, fl-add, fl-le}
+use Rattle.whole.specs.Whole.{fl}
+use Rattle.whole.proofs.WholeLaws.{fl-add, fl-le}
 use Rattle.models.specs.Image.{flBreak}
 use Rattle.clock.specs.declared.schedule.Label.{Label}
 use Rattle.clock.specs.Clock.{isExcusedF, countsF, homeF, finishF}

@@ -7,7 +7,7 @@ use mathlib.Core.Option.{Option, none, some, Option·map}
 use borrow.Author.Tests.{ltb-false}
 use lib.Ieee as Ieee
 use lib.Ieee.{binary64}
-use Rattle.basics.specs.Tests.{by-test}
+use Rattle.basics.proofs.TestLaws.{by-test}
 use Rattle.basics.specs.Options.{_>>=_, Holds}
 use Rattle.definitions.specs.Domain.{mostCalls, mostPenalty}
 use Rattle.definitions.specs.Sheet.{Window, Break, Customer}
@@ -15,10 +15,12 @@ use Rattle.definitions.specs.Window.{late, lateness, Entry, enter}
 use Rattle.definitions.specs.Run as Whole
 use Rattle.definitions.specs.Run.{breakStart, tooLate, ready, placeAfter, serveAt}
 use Rattle.definitions.specs.Clock.{smaller, sooner}
-use Rattle.bounds.specs.Inside.{Small, SmallWindow, SmallBreak, SmallCustomer}
-use Rattle.bounds.specs.Bounds.{Early, arriveBy, readyBy, ready-most, enter-most, late-pay-most, LabelFits}
-use Rattle.whole.specs.Whole.{fl, fl-add, fl-mul, fl-lt, fl-eq}
-use Rattle.whole.specs.Larger.{larger-fl}
+use Rattle.bounds.specs.Sized.{Small, SmallWindow, SmallBreak, SmallCustomer}
+use Rattle.bounds.specs.Bounds.{Early, arriveBy, readyBy, LabelFits}
+use Rattle.bounds.proofs.BoundLaws.{ready-most, enter-most, late-pay-most}
+use Rattle.whole.specs.Whole.{fl}
+use Rattle.whole.proofs.WholeLaws.{fl-add, fl-mul, fl-lt, fl-eq}
+use Rattle.whole.proofs.LargerLaws.{larger-fl}
 use Rattle.models.specs.Image.{flWindow, flBreak, flCustomer}
 use Rattle.models.specs.Window.{waitingF}
 use Rattle.models.proofs.Exact.{late-exact, waiting-exact, lateness-exact}

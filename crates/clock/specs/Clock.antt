@@ -22,13 +22,22 @@ isExcusedF b back o = holds o (λ l. excusedF b (Ieee.add binary64 (l .time) bac
 abbrev pub begunF : BreakOf Float → ClockF
 begunF b = record { rest = b; before = some startLabel; after = none; prev = 0; index = 1 }
 
--- One call more. The after-label is the smaller of the one carried on and the before-label broken here.
+-- the before-label with one call more
+abbrev pub skippedF : ClockF → CustomerOf Float → Float → Option Label
+skippedF x c travel = carryF c none (x .index) travel (x .before)
+
+-- the after-label: the smaller of the one carried on and the before-label broken here
+abbrev pub takenF : ClockF → CustomerOf Float → Float → Option Label
+takenF x c travel =
+    earlierF (carryF c none (x .index) travel (x .after)) (carryF c (some (x .rest)) (x .index) travel (x .before))
+
+-- one call more
 unfoldable pub pushF : ClockF → ℕ → CustomerOf Float → Float → ClockF
 pushF x cid c travel =
     record {
       rest = x .rest;
-      before = carryF c none (x .index) travel (x .before);
-      after = earlierF (carryF c none (x .index) travel (x .after)) (carryF c (some (x .rest)) (x .index) travel (x .before));
+      before = skippedF x c travel;
+      after = takenF x c travel;
       prev = cid;
       index = x .index + 1;
     }
@@ -42,7 +51,14 @@ unfoldable pub countsF : Float → ClockF → Option Label
 countsF back x = cond (isExcusedF (x .rest) back (x .before)) (x .before) (x .after)
 
 abbrev pub homeF : Float → Float → Label → Scheduled
-homeF distance back l = record { distance = distance; duration = Ieee.add binary64 (l .time) back; lateness = l .lateness; cost = l .cost; place = l .place }
+homeF distance back l =
+    record {
+      distance = distance;
+      duration = Ieee.add binary64 (l .time) back;
+      lateness = l .lateness;
+      cost = l .cost;
+      place = l .place;
+    }
 
 unfoldable pub finishF : Float → Float → ClockF → Option Scheduled
 finishF distance back x = countsF back x >>= λ l. some (homeF distance back l)

@@ -14,8 +14,22 @@ abbrev pub flLabel : Whole.Label → Label
 flLabel l = record { time = fl (l .time); lateness = fl (l .lateness); cost = fl (l .pay); place = l .place }
 
 abbrev pub flTotals : Whole.Totals → Scheduled
-flTotals t = record { distance = fl (t .distance); duration = fl (t .duration); lateness = fl (t .lateness); cost = fl (t .pay); place = t .place }
+flTotals t =
+    record {
+      distance = fl (t .distance);
+      duration = fl (t .duration);
+      lateness = fl (t .lateness);
+      cost = fl (t .pay);
+      place = t .place;
+    }
 
 -- with the break b, after the place a, before call number k
 abbrev pub flClock : Break → ℕ → ℕ → Clock → ClockF
-flClock b a k x = record { rest = flBreak b; before = Option·map flLabel (x .before); after = Option·map flLabel (x .after); prev = a; index = k }
+flClock b a k x =
+    record {
+      rest = flBreak b;
+      before = Option·map flLabel (x .before);
+      after = Option·map flLabel (x .after);
+      prev = a;
+      index = k;
+    }

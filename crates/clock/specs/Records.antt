@@ -35,4 +35,11 @@ pub record ClockF : Type 0 where
   pub index : ℕ
 
 abbrev pub clockOf : BreakClock → ClockF
-clockOf x = record { rest = breakOf (x .rest); before = reachedOf (x .before); after = reachedOf (x .after); prev = x .prev; index = x .index }
+clockOf x =
+    record {
+      rest = breakOf (x .rest);
+      before = reachedOf (x .before);
+      after = reachedOf (x .after);
+      prev = x .prev;
+      index = x .index;
+    }

@@ -28,7 +28,8 @@ breakStartF b arrival = largerF arrival (b .earliest)
 -- readiness: after the break, if it is here and starts by latest, and else the arrival
 unfoldable pub readyF : Option (BreakOf Float) → Float → Option Float
 readyF none arrival = some arrival
-readyF (some b) arrival = cond (Ieee.lt (b .latest) (breakStartF b arrival)) none (some (Ieee.add binary64 (breakStartF b arrival) (b .duration)))
+readyF (some b) arrival =
+    cond (Ieee.lt (b .latest) (breakStartF b arrival)) none (some (Ieee.add binary64 (breakStartF b arrival) (b .duration)))
 
 abbrev pub placeAfterF : Option (BreakOf Float) → ℕ → ℕ → ℕ
 placeAfterF none k place = place
@@ -53,7 +54,8 @@ chargeF w penalty readiness l = cond (lateF w readiness) (penalty >>= λ p. some
 -- the label as service starts
 unfoldable pub enterF : Option (WindowOf Float) → Option Float → Float → Label → Option Label
 enterF none penalty readiness l = some (atTime readiness l)
-enterF (some w) penalty readiness l = chargeF w penalty readiness l >>= λ m. some (atTime (Ieee.add binary64 readiness (waitingF w readiness)) m)
+enterF (some w) penalty readiness l =
+    chargeF w penalty readiness l >>= λ m. some (atTime (Ieee.add binary64 readiness (waitingF w readiness)) m)
 
 -- ---- a call
 

@@ -1,11 +1,11 @@
-// The clock of a run that carries a driver's break (evaluation/schedule.rs). It keeps two labels: with the break still to take, and with it taken.
+// The clock of a run that carries a driver's break (evaluation/schedule.rs). It keeps two labels: with the break still
+// to take, and with it taken.
 ghost use mathlib.Core.Path.{_≡_};
-ghost use mathlib.Core.Option.{none, some};
 ghost use Prim.Native.Nat.{_<_};
 ghost use Rattle.models.specs.Records.{windowOf, penaltyOf, customerOf, breakOf, restOf};
 ghost use Rattle.clock.specs.Records.{readyOf, reachedOf, clockOf, finishedOf};
 ghost use Rattle.clock.specs.Serving.{startLabel, breakStartF, readyF, placeAfterF, chargeF, enterF, serveF, carryF, smallerF, earlierF};
-ghost use Rattle.clock.specs.Clock.{excusedF, begunF, pushF, aliveF, isExcusedF, countsF, homeF, finishF};
+ghost use Rattle.clock.specs.Clock.{excusedF, begunF, skippedF, takenF, pushF, aliveF, isExcusedF, countsF, homeF, finishF};
 use models::customer::Customer;
 use models::customer::Opening;
 use models::customer::Penalty;
@@ -49,7 +49,8 @@ pub enum Finished {
     Home(Scheduled),
 }
 
-// The clock of a run that grows one call at a time: the labels before and after the break, the last place, and the number of the next call.
+// The clock of a run that grows one call at a time: the labels before and after the break, the last place, and the
+// number of the next call.
 pub struct BreakClock {
     pub rest: VehicleBreak,
     pub before: Reached,
@@ -261,7 +262,7 @@ impl BreakClock {
 
     // The label before the break with one call more, `travel` away.
     pub fn skipped(self, customer: Customer, travel: f64) -> Reached
-        ensures { λ r. ⌜ reachedOf r ≡ carryF (customerOf customer) none (self .index) travel (reachedOf (self .before)) ⌝ }
+        ensures { λ r. ⌜ reachedOf r ≡ skippedF (clockOf self) (customerOf customer) travel ⌝ }
     {
         let before = self.before;
         carry(before, travel, customer, self.index, Rest::Unbroken)
@@ -269,7 +270,7 @@ impl BreakClock {
 
     // The label after the break with one call more: the smaller of the one carried on and the one with the break here.
     pub fn taken(self, customer: Customer, travel: f64) -> Reached
-        ensures { λ r. ⌜ reachedOf r ≡ earlierF (carryF (customerOf customer) none (self .index) travel (reachedOf (self .after))) (carryF (customerOf customer) (some (breakOf (self .rest))) (self .index) travel (reachedOf (self .before))) ⌝ }
+        ensures { λ r. ⌜ reachedOf r ≡ takenF (clockOf self) (customerOf customer) travel ⌝ }
     {
         let rest = self.rest;
         let before = self.before;
@@ -295,7 +296,7 @@ impl BreakClock {
         }
     }
 
-    // Whether some way of placing the break serves the calls so far; if not, no run that goes on from here has one either.
+    // Whether some way of placing the break serves the calls so far; if not, no run that goes on from here has one.
     pub fn alive(self) -> bool
         ensures { λ r. ⌜ r ≡ aliveF (clockOf self) ⌝ }
     {

@@ -19,7 +19,8 @@ use Rattle.definitions.proofs.Bench.{opened, base, carrying, until, lat
 
 -- what the answers are computed through
 answered : Unit {0}
-unfolding opened answer refusalOf refusals badSheet outOfRange pairsFall anySoft wholeSheet runsFrom checksNeeded improved passes pass passFrom triedAll tried eliminated searches search firstEmptied emptied placedAll placed firstBelow candidates sort insert
+unfolding opened answer refusalOf refusals badSheet outOfRange pairsFall anySoft wholeSheet runsFrom checksNeeded improved passes pass passFrom triedAll tried eliminated searches search firstEmptied
+    emptied placedAll placed firstBelow candidates sort insert
 answered = tt
 
 -- ---- cutting: the tour, and three result lists of that length

@@ -3,7 +3,8 @@ use Prim.Native.Nat.{ℕ}
 use mathlib.Core.Path.{_≡_}
 use mathlib.Core.List.{List, [], _∷_}
 use mathlib.Core.Option.{Option, none, some}
-use Rattle.definitions.specs.Sheet.{Window, Break, Customer, Sheet, depot}
+use Rattle.definitions.specs.Load.{ofSeats}
+use Rattle.definitions.specs.Sheet.{asking, Window, Break, Customer, Sheet, depot}
 use Rattle.definitions.specs.Window.{enter}
 use Rattle.definitions.specs.Run.{serveAt, Totals, Run, ready, serveAll, ride, placed, legal, runCost}
 use Rattle.definitions.specs.Clock.{clockFrom, clock, startOf, arc}
@@ -15,7 +16,8 @@ use Rattle.definitions.specs.Marker.{walkFault, runFault, markAgainst}
 
 -- what the cases are computed through
 unfoldable pub opened : Unit {0}
-unfolding splitTw drops dropFrom stuck cheapest pointsFrom arc clock clockFrom serveAt ready enter split removals plainArc routeEval routeFeasible effectiveCost startOf serveAll ride placed legal runCost visited visitsFrom windowsFrom lastLabel buildRoute markAgainst runFault walkFault
+unfolding splitTw drops dropFrom stuck cheapest pointsFrom arc clock clockFrom serveAt ready enter split removals plainArc routeEval routeFeasible effectiveCost startOf serveAll ride placed legal
+    runCost visited visitsFrom windowsFrom lastLabel buildRoute markAgainst runFault walkFault
 opened = tt
 
 -- ---- the sheets: places 3, demands 2, fixed 0, no service
@@ -27,7 +29,7 @@ abbrev pub pause : ℕ → ℕ → ℕ → Option Break
 pause earliest latest duration = some (record { earliest = earliest; latest = latest; duration = duration })
 
 abbrev pub person : Option Window → Option ℕ → Customer
-person window penalty = record { demand = 2; service = 0; window = window; penalty = penalty }
+person window penalty = asking (ofSeats 2) 0 window penalty
 
 abbrev pub anyone : Customer
 anyone = person none none
@@ -35,15 +37,9 @@ anyone = person none none
 abbrev pub sheet : (capacity : ℕ) (legs : List ℕ) (maxDistance maxDuration : Option ℕ) (rest : Option Break) (first : Customer) → Sheet
 sheet capacity legs maxDistance maxDuration rest first =
     record {
-      places = 3;
-      capacity = capacity;
-      fixed = 0;
-      maxDistance = maxDistance;
-      maxDuration = maxDuration;
-      rest = rest;
+      head = record { places = 3; capacity = ofSeats capacity; fixed = 0; maxDistance = maxDistance; maxDuration = maxDuration; rest = rest };
       customers = depot ∷ first ∷ anyone ∷ [];
-      distances = legs;
-      times = [];
+      legs = record { distances = legs; times = [] };
     }
 
 -- legs 0-1 10, 0-2 12, 1-2 5 both ways
@@ -74,44 +70,33 @@ late ready due penalty = sheet 4 legs none none (pause 0 30 4) (person (window r
 abbrev pub timed : Sheet
 timed =
     record {
-      places = 3;
-      capacity = 4;
-      fixed = 0;
-      maxDistance = none;
-      maxDuration = none;
-      rest = none;
+      head = record { places = 3; capacity = ofSeats 4; fixed = 0; maxDistance = none; maxDuration = none; rest = none };
       customers = depot ∷ anyone ∷ anyone ∷ [];
-      distances = legs;
-      times = 8 ∷ 1 ∷ 9 ∷ 9 ∷ 9 ∷ 2 ∷ 4 ∷ 9 ∷ 9 ∷ [];
+      legs = record { distances = legs; times = 8 ∷ 1 ∷ 9 ∷ 9 ∷ 9 ∷ 2 ∷ 4 ∷ 9 ∷ 9 ∷ [] };
     }
 
 -- a sheet with all that one may have; each customer can be served alone, so that of no tour a call is dropped
 abbrev pub full : Sheet
 full =
     record {
-      places = 6;
-      capacity = 4;
-      fixed = 3;
-      maxDistance = some 60;
-      maxDuration = some 80;
-      rest = pause 24 30 4;
-      customers =
-          depot
-          ∷ record { demand = 1; service = 1; window = window 0 14; penalty = none }
-          ∷ record { demand = 2; service = 0; window = none; penalty = none }
-          ∷ record { demand = 1; service = 20; window = window 0 31; penalty = none }
-          ∷ record { demand = 1; service = 3; window = none; penalty = none }
-          ∷ record { demand = 1; service = 1; window = window 26 27; penalty = some 5 }
+      head = record { places = 6; capacity = ofSeats 4; fixed = 3; maxDistance = some 60; maxDuration = some 80; rest = pause 24 30 4 };
+      customers = depot
+          ∷ asking (ofSeats 1) 1 (window 0 14) none
+          ∷ asking (ofSeats 2) 0 none none
+          ∷ asking (ofSeats 1) 20 (window 0 31) none
+          ∷ asking (ofSeats 1) 3 none none
+          ∷ asking (ofSeats 1) 1 (window 26 27) (some 5)
           ∷ [];
-      distances =
-          0 ∷ 10 ∷ 12 ∷ 25 ∷ 20 ∷ 6
-          ∷ 10 ∷ 0 ∷ 5 ∷ 16 ∷ 15 ∷ 9
-          ∷ 12 ∷ 5 ∷ 0 ∷ 20 ∷ 30 ∷ 3
-          ∷ 25 ∷ 16 ∷ 20 ∷ 0 ∷ 20 ∷ 20
-          ∷ 20 ∷ 15 ∷ 30 ∷ 20 ∷ 0 ∷ 20
-          ∷ 6 ∷ 9 ∷ 3 ∷ 20 ∷ 20 ∷ 0
-          ∷ [];
-      times = [];
+      legs = record {
+        distances = 0 ∷ 10 ∷ 12 ∷ 25 ∷ 20 ∷ 6
+            ∷ 10 ∷ 0 ∷ 5 ∷ 16 ∷ 15 ∷ 9
+            ∷ 12 ∷ 5 ∷ 0 ∷ 20 ∷ 30 ∷ 3
+            ∷ 25 ∷ 16 ∷ 20 ∷ 0 ∷ 20 ∷ 20
+            ∷ 20 ∷ 15 ∷ 30 ∷ 20 ∷ 0 ∷ 20
+            ∷ 6 ∷ 9 ∷ 3 ∷ 20 ∷ 20 ∷ 0
+            ∷ [];
+        times = [];
+      };
     }
 
 abbrev pub tour : List ℕ

@@ -3,6 +3,7 @@ use mathlib.Core.Path.{_≡_, refl}
 use mathlib.Core.Bool.{true}
 use mathlib.Core.List.{List, [], _∷_}
 use mathlib.Core.Option.{none, some}
+use Rattle.definitions.specs.Load.{ofSeats}
 use Rattle.definitions.specs.Sheet.{Sheet, depot}
 use Rattle.definitions.specs.Run.{Run, legal}
 use Rattle.definitions.specs.Evaluation.{routeEval}
@@ -108,15 +109,9 @@ case-q = (refl, refl)
 abbrev again : Sheet
 again =
     record {
-      places = 4;
-      capacity = 6;
-      fixed = 0;
-      maxDistance = some 40;
-      maxDuration = none;
-      rest = none;
+      head = record { places = 4; capacity = ofSeats 6; fixed = 0; maxDistance = some 40; maxDuration = none; rest = none };
       customers = depot ∷ anyone ∷ anyone ∷ anyone ∷ [];
-      distances = 0 ∷ 10 ∷ 5 ∷ 10 ∷ 10 ∷ 0 ∷ 5 ∷ 5 ∷ 30 ∷ 5 ∷ 0 ∷ 5 ∷ 10 ∷ 5 ∷ 5 ∷ 0 ∷ [];
-      times = [];
+      legs = record { distances = 0 ∷ 10 ∷ 5 ∷ 10 ∷ 10 ∷ 0 ∷ 5 ∷ 5 ∷ 30 ∷ 5 ∷ 0 ∷ 5 ∷ 10 ∷ 5 ∷ 5 ∷ 0 ∷ []; times = [] };
     }
 
 pub case-again : splitTw again (1 ∷ 2 ∷ 3 ∷ []) ≡ record { served = 1 ∷ 2 ∷ 3 ∷ []; ends = 3 ∷ []; dropped = []; cost = 30; distance = 30; places = 0 ∷ [] }

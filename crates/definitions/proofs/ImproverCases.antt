@@ -7,7 +7,8 @@ use mathlib.Core.Option.{none}
 use lib.ListN.{getD}
 use lib.Dec.{ltb, leb}
 use Rattle.definitions.specs.Sort.{rising, falling, insert, sort}
-use Rattle.definitions.specs.Sheet.{Customer, Sheet}
+use Rattle.definitions.specs.Load.{noLoad, ofSeats}
+use Rattle.definitions.specs.Sheet.{asking, Customer, Sheet}
 use Rattle.definitions.specs.Improver.{Given, checksNeeded}
 use Rattle.definitions.specs.RunList.{runsFrom, runsOf}
 use Rattle.definitions.specs.TwoOpt.{tried, triedAll, passFrom, pass, passes, improved, improvedDistance}
@@ -31,7 +32,7 @@ apart a b = (a - b) + (b - a)
 
 abbrev line : List ℕ → ℕ → Bool → (List ℕ → Bool) → Given
 line demands capacity asked feasible =
-    record { leg = apart; demand = λ c. getD demands c 0; capacity = capacity; fixed = 0; asked = asked; feasible = feasible }
+    record { leg = apart; demand = λ c. ofSeats (getD demands c 0); capacity = ofSeats capacity; fixed = 0; asked = asked; feasible = feasible }
 
 -- no window, limit or break
 abbrev free : Given
@@ -47,7 +48,7 @@ no-distance = refl
 
 -- an empty run has no distance, though the depot's own leg has one
 abbrev depotAway : Given
-depotAway = record { leg = λ a b. 7; demand = λ c. 0; capacity = 0; fixed = 0; asked = false; feasible = λ r. true }
+depotAway = record { leg = λ a b. 7; demand = λ c. noLoad; capacity = noLoad; fixed = 0; asked = false; feasible = λ r. true }
 
 no-leg : improvedDistance depotAway [] ≡ 0
 unfolding improved passes
@@ -78,7 +79,7 @@ stuck = refl
 
 -- the leg to a place with a smaller number is 9, else 1: 2 1 3 has 1 + 9 + 1 + 9, and 1 2 3 has 1 + 1 + 1 + 9
 abbrev uphill : Given
-uphill = record { leg = λ a b. cond (ltb b a) 9 1; demand = λ c. 0; capacity = 0; fixed = 0; asked = false; feasible = λ r. true }
+uphill = record { leg = λ a b. cond (ltb b a) 9 1; demand = λ c. noLoad; capacity = noLoad; fixed = 0; asked = false; feasible = λ r. true }
 
 one-way : improved uphill (2 ∷ 1 ∷ 3 ∷ []) ≡ 1 ∷ 2 ∷ 3 ∷ []
 unfolding improved passes pass passFrom triedAll tried
@@ -89,8 +90,8 @@ abbrev inside : Given
 inside =
     record {
       leg = λ a b. getD (0 ∷ 9 ∷ 1 ∷ 1 ∷ 0 ∷ 1 ∷ 1 ∷ 10 ∷ 0 ∷ []) (a * 3 + b) 0;
-      demand = λ c. 0;
-      capacity = 0;
+      demand = λ c. noLoad;
+      capacity = noLoad;
       fixed = 0;
       asked = false;
       feasible = λ r. true;
@@ -105,8 +106,8 @@ abbrev mixed : Given
 mixed =
     record {
       leg = λ a b. getD (0 ∷ 2 ∷ 1 ∷ 1 ∷ 5 ∷ 2 ∷ 0 ∷ 4 ∷ 5 ∷ 2 ∷ 1 ∷ 4 ∷ 0 ∷ 5 ∷ 2 ∷ 1 ∷ 5 ∷ 5 ∷ 0 ∷ 2 ∷ 5 ∷ 2 ∷ 2 ∷ 2 ∷ 0 ∷ []) (a * 5 + b) 0;
-      demand = λ c. 0;
-      capacity = 0;
+      demand = λ c. noLoad;
+      capacity = noLoad;
       fixed = 0;
       asked = false;
       feasible = λ r. true;
@@ -151,7 +152,7 @@ heavier-first = refl
 -- customers 10 apart and 1 from the depot: runs 1 and 2 have 4, joined they have 12; a fixed cost of 8 only makes up for that, one of 9 pays
 abbrev dear : ℕ → (List ℕ → Bool) → Given
 dear fixed feasible =
-    record { leg = λ a b. cond (ltb 0 a) (cond (ltb 0 b) 10 1) 1; demand = λ c. 0; capacity = 0; fixed = fixed; asked = true; feasible = feasible }
+    record { leg = λ a b. cond (ltb 0 a) (cond (ltb 0 b) 10 1) 1; demand = λ c. noLoad; capacity = noLoad; fixed = fixed; asked = true; feasible = feasible }
 
 no-gain : eliminated (dear 8 (λ r. true)) ((1 ∷ []) ∷ (2 ∷ []) ∷ []) ≡ (1 ∷ []) ∷ (2 ∷ []) ∷ []
 unfolding eliminated searches search sort insert firstEmptied emptied placedAll placed firstBelow candidates
@@ -172,26 +173,22 @@ not-first = refl
 abbrev onLine : Sheet
 onLine =
     record {
-      places = 6;
-      capacity = 5;
-      fixed = 0;
-      maxDistance = none;
-      maxDuration = none;
-      rest = none;
+      head = record { places = 6; capacity = ofSeats 5; fixed = 0; maxDistance = none; maxDuration = none; rest = none };
       customers = map asks (0 ∷ 1 ∷ 3 ∷ 0 ∷ 2 ∷ 4 ∷ []);
-      distances =
-          0 ∷ 1 ∷ 2 ∷ 3 ∷ 4 ∷ 5
-          ∷ 1 ∷ 0 ∷ 1 ∷ 2 ∷ 3 ∷ 4
-          ∷ 2 ∷ 1 ∷ 0 ∷ 1 ∷ 2 ∷ 3
-          ∷ 3 ∷ 2 ∷ 1 ∷ 0 ∷ 1 ∷ 2
-          ∷ 4 ∷ 3 ∷ 2 ∷ 1 ∷ 0 ∷ 1
-          ∷ 5 ∷ 4 ∷ 3 ∷ 2 ∷ 1 ∷ 0
-          ∷ [];
-      times = [];
+      legs = record {
+        distances = 0 ∷ 1 ∷ 2 ∷ 3 ∷ 4 ∷ 5
+            ∷ 1 ∷ 0 ∷ 1 ∷ 2 ∷ 3 ∷ 4
+            ∷ 2 ∷ 1 ∷ 0 ∷ 1 ∷ 2 ∷ 3
+            ∷ 3 ∷ 2 ∷ 1 ∷ 0 ∷ 1 ∷ 2
+            ∷ 4 ∷ 3 ∷ 2 ∷ 1 ∷ 0 ∷ 1
+            ∷ 5 ∷ 4 ∷ 3 ∷ 2 ∷ 1 ∷ 0
+            ∷ [];
+        times = [];
+      };
     }
   where
     asks : ℕ → Customer
-    asks demand = record { demand = demand; service = 0; window = none; penalty = none }
+    asks demand = asking (ofSeats demand) 0 none none
 
 -- calls 1 2 4 5 with ends 2 3 4 are the runs of `heavier-first`; the result is 2 4 1 5 with ends 2 4
 lent-runs : eliminate onLine (runsOf (1 ∷ 2 ∷ 4 ∷ 5 ∷ []) (2 ∷ 3 ∷ 4 ∷ [])) ≡ record { calls = 2 ∷ 4 ∷ 1 ∷ 5 ∷ []; ends = 2 ∷ 4 ∷ [] }

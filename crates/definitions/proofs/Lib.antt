@@ -13,3 +13,9 @@ pub mod VisitCases
 pub mod MarkCases
 -- The improvers.
 pub mod ImproverCases
+-- What these do not tell apart: sheets without numbers that are alike by chance, and the range of each number.
+pub mod FurtherSheets
+pub mod FurtherCases
+pub mod RangeCases
+-- Laws of loads.
+pub mod LoadLaws

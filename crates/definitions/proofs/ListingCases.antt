@@ -14,7 +14,8 @@ use Rattle.definitions.specs.Listing.{text, digitsIn, runLine, planText,
 
 -- what the listing is computed through
 opened : Unit {0}
-unfolding listing planText runLine digitsIn read readWords walk faultAt mayStand inRange pairFalls sheetOf tourOf splitTw drops dropFrom stuck cheapest pointsFrom arc clock clockFrom serveAt ready enter startOf serveAll runsFrom
+unfolding listing planText runLine digitsIn read readWords walk faultAt mayStand inRange pairFalls sheetOf tourOf splitTw drops dropFrom stuck cheapest pointsFrom arc clock clockFrom serveAt ready
+    enter startOf serveAll runsFrom
 opened = tt
 
 -- words as the scope document writes them

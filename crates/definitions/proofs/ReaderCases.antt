@@ -5,7 +5,8 @@ use mathlib.Core.Bool.{false}
 use mathlib.Core.List.{List, [], _∷_, _++_, map}
 use mathlib.Core.Option.{none, some}
 use lib.ListN.{take, set, replicate}
-use Rattle.definitions.specs.Sheet.{Sheet, Customer, depot}
+use Rattle.definitions.specs.Load.{noLoad, ofSeats}
+use Rattle.definitions.specs.Sheet.{asking, Sheet, Customer, depot}
 use Rattle.definitions.specs.Words.{Word, word, wordOf, bytesOf}
 use Rattle.definitions.specs.Encoding.{encode, bodyWords}
 use Rattle.definitions.specs.Reader.{readInto, read, readWords, walk, faultAt, mayStand, inRange, pairFalls, sheetOf, tourOf, sheet, refusedAt}
@@ -18,20 +19,14 @@ m =
     ∷ 0xE0000001 ∷ 0xE0000002 ∷ 0xF0000015 ∷ []
 
 abbrev rider : Customer
-rider = record { demand = 2; service = 0; window = none; penalty = none }
+rider = asking (ofSeats 2) 0 none none
 
 abbrev sheet-m : Sheet
 sheet-m =
     record {
-      places = 3;
-      capacity = 4;
-      fixed = 0;
-      maxDistance = none;
-      maxDuration = none;
-      rest = some (record { earliest = 20; latest = 30; duration = 4 });
+      head = record { places = 3; capacity = ofSeats 4; fixed = 0; maxDistance = none; maxDuration = none; rest = some (record { earliest = 20; latest = 30; duration = 4 }) };
       customers = depot ∷ rider ∷ rider ∷ [];
-      distances = 0 ∷ 10 ∷ 12 ∷ 10 ∷ 0 ∷ 5 ∷ 12 ∷ 5 ∷ 0 ∷ [];
-      times = [];
+      legs = record { distances = 0 ∷ 10 ∷ 12 ∷ 10 ∷ 0 ∷ 5 ∷ 12 ∷ 5 ∷ 0 ∷ []; times = [] };
     }
 
 abbrev tour-m : List ℕ
@@ -59,7 +54,11 @@ words-m = refl
 
 -- the sheet with one place, and nothing to do
 reads-least : readWords (word 1 1 ∷ word 2 0 ∷ word 3 0 ∷ word 0xC 0 ∷ word 0xF 4 ∷ []) false
-    ≡ sheet (record { places = 1; capacity = 0; fixed = 0; maxDistance = none; maxDuration = none; rest = none; customers = depot ∷ []; distances = 0 ∷ []; times = [] }) []
+    ≡ sheet (record {
+      head = record { places = 1; capacity = noLoad; fixed = 0; maxDistance = none; maxDuration = none; rest = none };
+      customers = depot ∷ [];
+      legs = record { distances = 0 ∷ []; times = [] };
+    }) []
 unfolding opened
 reads-least = refl
 
@@ -72,15 +71,9 @@ one inner tail n =
 reads-all : readWords (word 1 2 ∷ word 2 5 ∷ word 3 7 ∷ word 4 10000000 ∷ word 5 9 ∷ word 6 8 ∷ word 6 8 ∷ word 6 0
     ∷ word 7 32767 ∷ word 8 1 ∷ word 9 4 ∷ word 0xA 4 ∷ word 0xB 1000 ∷ (replicate 4 (word 0xC 3) ++ (replicate 4 (word 0xD 2) ++ (word 0xE 1 ∷ word 0xE 1 ∷ word 0xF 23 ∷ [])))) false
     ≡ sheet (record {
-      places = 2;
-      capacity = 5;
-      fixed = 7;
-      maxDistance = some 10000000;
-      maxDuration = some 9;
-      rest = some (record { earliest = 8; latest = 8; duration = 0 });
-      customers = depot ∷ record { demand = 32767; service = 1; window = some (record { ready = 4; due = 4 }); penalty = some 1000 } ∷ [];
-      distances = replicate 4 3;
-      times = replicate 4 2;
+      head = record { places = 2; capacity = ofSeats 5; fixed = 7; maxDistance = some 10000000; maxDuration = some 9; rest = some (record { earliest = 8; latest = 8; duration = 0 }) };
+      customers = depot ∷ asking (ofSeats 32767) 1 (some (record { ready = 4; due = 4 })) (some 1000) ∷ [];
+      legs = record { distances = replicate 4 3; times = replicate 4 2 };
     }) (1 ∷ 1 ∷ [])
 unfolding opened
 reads-all = refl

@@ -4,7 +4,8 @@ use mathlib.Core.Path.{_≡_, refl}
 use mathlib.Core.List.{List, [], _∷_, _++_, map}
 use mathlib.Core.Option.{Option, none, some}
 use lib.ListN.{replicate}
-use Rattle.definitions.specs.Sheet.{WindowOf, BreakOf, CustomerOf, SheetOf, anySoft}
+use Rattle.definitions.specs.Load.{noLoad, ofSeats}
+use Rattle.definitions.specs.Sheet.{asking, WindowOf, BreakOf, CustomerOf, SheetOf, anySoft}
 use Rattle.definitions.specs.Lent.{Lent, cutting, evaluating, visiting, marking, reversing, eliminating}
 use Rattle.definitions.specs.Refusals.{badSheet, outOfRange, pairsFall, refusals, refusalOf}
 
@@ -20,10 +21,10 @@ value odd = none
 -- ---- what is lent
 
 abbrev depot : CustomerOf Stored
-depot = record { demand = 0; service = held 0; window = none; penalty = none }
+depot = asking noLoad (held 0) none none
 
 abbrev person : Option (WindowOf Stored) → Option Stored → CustomerOf Stored
-person w p = record { demand = 2; service = held 0; window = w; penalty = p }
+person w p = asking (ofSeats 2) (held 0) w p
 
 abbrev two : List (CustomerOf Stored)
 two = depot ∷ person none none ∷ person none none ∷ []
@@ -41,15 +42,9 @@ legs = map held (0 ∷ 10 ∷ 12 ∷ 10 ∷ 0 ∷ 5 ∷ 12 ∷ 5 ∷ 0 ∷ [])
 abbrev sheetOf : (places capacity : ℕ) (fixed : Stored) → Option (BreakOf Stored) → List (CustomerOf Stored) → (distances times : List Stored) → SheetOf Stored
 sheetOf n k f b cs d t =
     record {
-      places = n;
-      capacity = k;
-      fixed = f;
-      maxDistance = none;
-      maxDuration = none;
-      rest = b;
+      head = record { places = n; capacity = ofSeats k; fixed = f; maxDistance = none; maxDuration = none; rest = b };
       customers = cs;
-      distances = d;
-      times = t;
+      legs = record { distances = d; times = t };
     }
 
 -- three places with these customers
@@ -163,26 +158,26 @@ unfolding opened
 odd-places = (refl, refl)
 
 -- a demand and a penalty at their limits, and one more each
-abbrev asking : ℕ → ℕ → SheetOf Stored
-asking demand penalty = with (depot ∷ record { demand = demand; service = held 0; window = none; penalty = some (held penalty) } ∷ person none none ∷ [])
+abbrev demanding : ℕ → ℕ → SheetOf Stored
+demanding demand penalty = with (depot ∷ asking (ofSeats demand) (held 0) none (some (held penalty)) ∷ person none none ∷ [])
 
-large-customer : (refusalOf value evaluating (toRun (asking 32768 1000) both []) ≡ some 1) × (refusalOf value evaluating (toRun (asking 32767 1001) both []) ≡ some 1)
-    × (refusalOf value evaluating (toRun (asking 32767 1000) both []) ≡ none)
+large-customer : (refusalOf value evaluating (toRun (demanding 32768 1000) both []) ≡ some 1) × (refusalOf value evaluating (toRun (demanding 32767 1001) both []) ≡ some 1)
+    × (refusalOf value evaluating (toRun (demanding 32767 1000) both []) ≡ none)
 unfolding opened
 large-customer = (refl, refl, refl)
 
 -- the depot with demand, or with service
-depot-served : (refusalOf value evaluating (toRun (with (record { demand = 1; service = held 0; window = none; penalty = none } ∷ two)) both []) ≡ some 1)
-    × (refusalOf value evaluating (toRun (with (record { demand = 0; service = held 1; window = none; penalty = none } ∷ two)) both []) ≡ some 1)
+depot-served : (refusalOf value evaluating (toRun (with (asking (ofSeats 1) (held 0) none none ∷ two)) both []) ≡ some 1)
+    × (refusalOf value evaluating (toRun (with (asking noLoad (held 1) none none ∷ two)) both []) ≡ some 1)
 unfolding opened
 depot-served = (refl, refl)
 
 -- with a window, though one at 0, or with a penalty
-depot-window : refusalOf value evaluating (toRun (with (record { demand = 0; service = held 0; window = some (record { ready = held 0; due = held 0 }); penalty = none } ∷ two)) both []) ≡ some 1
+depot-window : refusalOf value evaluating (toRun (with (asking noLoad (held 0) (some (record { ready = held 0; due = held 0 })) none ∷ two)) both []) ≡ some 1
 unfolding opened
 depot-window = refl
 
-depot-penalty : refusalOf value evaluating (toRun (with (record { demand = 0; service = held 0; window = none; penalty = some (held 0) } ∷ two)) both []) ≡ some 1
+depot-penalty : refusalOf value evaluating (toRun (with (asking noLoad (held 0) none (some (held 0)) ∷ two)) both []) ≡ some 1
 unfolding opened
 depot-penalty = refl
 

@@ -3,18 +3,19 @@ use Prim.Native.Nat.{ℕ}
 use mathlib.Core.Path.{_≡_, refl}
 use mathlib.Core.List.{List, [], _∷_}
 use mathlib.Core.Option.{Option, none, some}
+use Rattle.definitions.specs.Load.{ofSeats}
 use Rattle.definitions.specs.Sheet.{Sheet}
 use Rattle.definitions.specs.Run.{Totals}
 use Rattle.definitions.specs.Visits.{Visit, Violation, windowShut, breakNotPlaceable, overCapacity, overDistance, overDuration, buildRoute}
 use Rattle.definitions.proofs.Bench.{opened, window, pause, person, anyone, sheet, legs, until, rested, late, timed, full, tour, totals}
 
 abbrev visit : (customer arrival departure load : ℕ) → Visit
-visit customer arrival departure load = record { customer = customer; arrival = arrival; departure = departure; load = load }
+visit customer arrival departure load = record { customer = customer; arrival = arrival; departure = departure; load = ofSeats load }
 
 -- the run comes to these visits, totals, load, break start and violations
 abbrev Builds : Sheet → List ℕ → List Visit → Totals → ℕ → Option ℕ → List Violation → Type 0
 Builds s calls visits t load start violations =
-    buildRoute s calls ≡ record { visits = visits; totals = t; load = load; start = start; violations = violations }
+    buildRoute s calls ≡ record { visits = visits; totals = t; load = ofSeats load; start = start; violations = violations }
 
 -- the run 1 2 of base with nothing to hold it up
 abbrev straight : List Visit
@@ -87,7 +88,8 @@ unfolding opened
 visits-o = refl
 
 -- before load, distance and duration
-pub visits-break-first : Builds (sheet 3 legs (some 26) (some 25) (pause 5 9 4) anyone) tour straight (totals 27 27 0 0 0) 4 none (breakNotPlaceable ∷ overCapacity 4 3 ∷ overDistance 27 26 ∷ overDuration 27 25 ∷ [])
+pub visits-break-first : Builds (sheet 3 legs (some 26) (some 25) (pause 5 9 4) anyone) tour straight (totals 27 27 0 0 0) 4 none
+    (breakNotPlaceable ∷ overCapacity 4 3 ∷ overDistance 27 26 ∷ overDuration 27 25 ∷ [])
 unfolding opened
 visits-break-first = refl
 

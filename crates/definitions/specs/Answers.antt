@@ -1,5 +1,5 @@
--- The complete answer of each public call over what it is lent: refused by number with nothing written, or its result and what it writes at the front
--- of each lent list. Definitions only.
+-- The complete answer of each public call over what it is lent: refused by number with nothing written, or its result and what it
+-- writes at the front of each lent list. Definitions only.
 use Prim.Native.Nat.{ℕ}
 use mathlib.Core.Bool.{Bool}
 use mathlib.Core.List.{List, []}
@@ -99,10 +99,10 @@ abbrev pub readCustomers : Reading → List Customer
 readCustomers r = readFront (λ s tour. s .customers) r
 
 abbrev pub readDistances : Reading → List ℕ
-readDistances r = readFront (λ s tour. s .distances) r
+readDistances r = readFront (λ s tour. s .legs .distances) r
 
 abbrev pub readTimes : Reading → List ℕ
-readTimes r = readFront (λ s tour. s .times) r
+readTimes r = readFront (λ s tour. s .legs .times) r
 
 abbrev pub readTour : Reading → List ℕ
 readTour r = readFront (λ s tour. tour) r

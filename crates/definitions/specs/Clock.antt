@@ -31,14 +31,15 @@ abbrev pub tick : Sheet → ℕ → ℕ → ℕ → Clock → Clock
 tick s k a c x =
     record {
       before = x .before >>= serve s none k a c;
-      after = sooner (x .after >>= serve s none k a c) (s .rest >>= λ b. x .before >>= serve s (some b) k a c);
+      after = sooner (x .after >>= serve s none k a c) (s .head .rest >>= λ b. x .before >>= serve s (some b) k a c);
     }
 
 unfoldable pub clockFrom : Sheet → ℕ → ℕ → Clock → List ℕ → Clock
 clockFrom s k a x [] = x
 clockFrom s k a x (c ∷ cs) = clockFrom s (suc k) c (tick s k a c x) cs
 
--- A before-label that is home at or before earliest needs no break; otherwise the after-label counts. Without a break on the sheet there is the one label.
+-- A before-label that is home at or before earliest needs no break; otherwise the after-label counts. Without a
+-- break on the sheet there is the one label.
 abbrev pub counts : Option Break → ℕ → Clock → Option Label
 counts none back x = x .before
 counts (some b) back x = cond (holds (x .before) (λ l. excused b (l .time + back))) (x .before) (x .after)
@@ -46,10 +47,11 @@ counts (some b) back x = cond (holds (x .before) (λ l. excused b (l .time + bac
 -- the run's totals by the clock, its place among them; none where the run is illegal by the clock
 unfoldable pub clock : Sheet → List ℕ → Option Totals
 clock s calls = do
-  l ← counts (s .rest) (time s (lastOf 0 calls) 0) (clockFrom s 1 0 (record { before = some start; after = none }) calls)
+  l ← counts (s .head .rest) (time s (lastOf 0 calls) 0) (clockFrom s 1 0 (record { before = some start; after = none }) calls)
   some (home s calls l)
 
--- the clock's place: 0 when no break is needed, and where the run is illegal by the clock
+-- The clock's place: 0 when no break is needed. Where the run is illegal by the clock it is 0 too, which nobody reads: such a run is
+-- legal with no place at all (theorems, `legal-arc`), so no cutting has it, and whoever asks for the place asks for a legal run first.
 abbrev pub placeOr : Option Totals → ℕ
 placeOr none = 0
 placeOr (some t) = t .place
@@ -61,7 +63,7 @@ startOf s r = go (r .place)
     go : ℕ → Option ℕ
     go zero = none
     go (suc k) = do
-      b ← s .rest
+      b ← s .head .rest
       l ← serveAll s 0 1 0 (some start) (take k (r .calls))
       some (breakStart b (l .time + time s (lastOf 0 (take k (r .calls))) (getD (r .calls) k 0)))
 

@@ -1,5 +1,6 @@
--- A cutting divides calls, in order, into runs. The least cost is Prins's split of a tour (2004), a shortest path: the cut points are nodes, a run between two of them is an arc that
--- costs what the run does, and the best cutting of the calls before a cut point is its label. Definitions only.
+-- A cutting divides calls, in order, into runs. The least cost is Prins's split of a tour (2004), a shortest path: the cut
+-- points are nodes, a run between two of them is an arc that costs what the run does, and the best cutting of the calls
+-- before a cut point is its label. Definitions only.
 use Prim.Native.Nat.{ℕ, suc, _+_}
 use mathlib.Core.Bool.{Bool, cond}
 use mathlib.Core.List.{List, [], _∷_, _++_, map, tail}
@@ -26,7 +27,8 @@ joined runs = callsOf (callsIn runs)
 abbrev pub runEnds : List Run → List ℕ
 runEnds runs = endsOf (callsIn runs)
 
--- a cutting is legal when all its runs are, and its cost is the sum of their run costs; no run is the one cutting of no calls, legal, at cost 0
+-- a cutting is legal when all its runs are, and its cost is the sum of their run costs; no run is the
+-- one cutting of no calls, legal, at cost 0
 abbrev pub legalCutting : Sheet → List Run → Bool
 legalCutting s runs = all (legal s) runs
 

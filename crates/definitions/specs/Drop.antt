@@ -27,7 +27,8 @@ pub record Held : Type 0 where
 abbrev pub dropAt : ℕ → Held → Held
 dropAt k h = record { held = without k (h .held); dropped = h .dropped ++ (getD (h .held) k 0 ∷ []) }
 
--- While some beginning of the held calls has no legal cutting, the last call of the shortest such beginning is dropped, and all starts over. There are enough turns.
+-- While some beginning of the held calls has no legal cutting, the last call of the shortest such beginning is
+-- dropped, and all starts over. There are enough turns.
 unfoldable pub dropFrom : (List ℕ → Option Arc) → List ℕ → ℕ → Held → Held
 dropFrom arc tour zero h = h
 dropFrom arc tour (suc turns) h =

@@ -8,7 +8,7 @@ use lib.ListN.{length}
 use lib.Dec.{ltb}
 use Rattle.basics.specs.Options.{_>>=_, valueOr, orElse}
 use Rattle.definitions.specs.Sort.{rising, falling, sort}
-use Rattle.definitions.specs.Run.{fitsBy}
+use Rattle.definitions.specs.Load.{fitsBy}
 use Rattle.definitions.specs.Improver.{Given, total, allowed}
 
 -- the runs without the empty ones
@@ -68,7 +68,7 @@ module _ (G : Given) where
   -- the run's customers by falling demand go to the others
   unfoldable pub emptied : Parted → Option (List (List ℕ))
   emptied p =
-      placedAll (total G (p .run ∷ p .rest) + G .fixed) (sort (falling (G .demand)) (p .run)) (p .rest)
+      placedAll (total G (p .run ∷ p .rest) + G .fixed) (sort (falling (λ (c : ℕ). G .demand c .seats)) (p .run)) (p .rest)
 
   unfoldable pub firstEmptied : List Parted → Option (List (List ℕ))
   firstEmptied [] = none

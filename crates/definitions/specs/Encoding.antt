@@ -20,15 +20,16 @@ windowWords (some w) = word 9 (w .ready) ∷ word 0xA (w .due) ∷ []
 
 abbrev pub customerWords : List Customer → List Word
 customerWords [] = []
-customerWords (c ∷ cs) = word 7 (c .demand) ∷ word 8 (c .service) ∷ windowWords (c .window) ++ optional 0xB (c .penalty) ++ customerWords cs
+customerWords (c ∷ cs) =
+    word 7 (c .demand .seats) ∷ word 8 (c .service) ∷ windowWords (c .window) ++ optional 0xB (c .penalty) ++ customerWords cs
 
 -- all words but the last
 unfoldable pub bodyWords : Sheet → List ℕ → List Word
 bodyWords s tour =
-    word 1 (s .places) ∷ word 2 (s .capacity) ∷ word 3 (s .fixed)
-    ∷ optional 4 (s .maxDistance) ++ optional 5 (s .maxDuration) ++ breakWords (s .rest)
+    word 1 (s .head .places) ∷ word 2 (s .head .capacity .seats) ∷ word 3 (s .head .fixed)
+    ∷ optional 4 (s .head .maxDistance) ++ optional 5 (s .head .maxDuration) ++ breakWords (s .head .rest)
     ++ customerWords (tail (s .customers))
-    ++ map (word 0xC) (s .distances) ++ map (word 0xD) (s .times) ++ map (word 0xE) tour
+    ++ map (word 0xC) (s .legs .distances) ++ map (word 0xD) (s .legs .times) ++ map (word 0xE) tour
 
 -- the last word says how many stand before it
 unfoldable pub encode : Sheet → List ℕ → List Word

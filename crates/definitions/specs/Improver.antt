@@ -5,6 +5,7 @@ use mathlib.Core.List.{List, [], _∷_}
 use Rattle.basics.specs.Tests.{either}
 use Rattle.basics.specs.Options.{present}
 use Rattle.basics.specs.Lists.{any, sum}
+use Rattle.definitions.specs.Load.{Load}
 use Rattle.definitions.specs.Sheet.{Sheet, customer, distance}
 use Rattle.definitions.specs.Run.{legsFrom}
 use Rattle.definitions.specs.Evaluation.{routeFeasible}
@@ -13,8 +14,8 @@ use Rattle.definitions.specs.Evaluation.{routeFeasible}
 pub record Given : Type 0 where
   -- the leg from one place to another; the depot is 0
   pub leg : ℕ → ℕ → ℕ
-  pub demand : ℕ → ℕ
-  pub capacity : ℕ
+  pub demand : ℕ → Load
+  pub capacity : Load
   -- the fixed run cost
   pub fixed : ℕ
   -- whether `route_feasible` is asked of a run at all
@@ -27,9 +28,9 @@ unfoldable pub checksNeeded : Sheet → Bool
 checksNeeded s =
     either
     (any (λ c. present (c .window)) (s .customers)
-    ∷ present (s .maxDistance)
-    ∷ present (s .maxDuration)
-    ∷ present (s .rest)
+    ∷ present (s .head .maxDistance)
+    ∷ present (s .head .maxDuration)
+    ∷ present (s .head .rest)
     ∷ [])
 
 abbrev pub givenOf : Sheet → Given
@@ -37,8 +38,8 @@ givenOf s =
     record {
       leg = distance s;
       demand = λ c. customer s c .demand;
-      capacity = s .capacity;
-      fixed = s .fixed;
+      capacity = s .head .capacity;
+      fixed = s .head .fixed;
       asked = checksNeeded s;
       feasible = routeFeasible s;
     }

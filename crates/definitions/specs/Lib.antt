@@ -1,6 +1,7 @@
 -- What the planner means, in whole numbers, in the order of the scope document: what a reader must believe.
 -- The sheet, and what its numbers may be.
 pub mod Domain
+pub mod Load
 pub mod Sheet
 -- A run: windows, limits, the break at a given call, and by the clock.
 pub mod Window

@@ -12,7 +12,7 @@ within (some limit) n = leb n limit
 
 -- `RouteLimits::allow`
 abbrev pub allow : Sheet → ℕ → ℕ → Bool
-allow s distance duration = within (s .maxDistance) distance && within (s .maxDuration) duration
+allow s distance duration = within (s .head .maxDistance) distance && within (s .head .maxDuration) duration
 
 -- home at or before earliest needs no break
 abbrev pub excused : Break → ℕ → Bool

@@ -22,7 +22,8 @@ withPlaces (r ∷ rs) (p ∷ places) = record { calls = r; place = p } ∷ withP
 
 -- ---- the verdicts
 
--- A fault carries its run from 1, and the value and limit that clash; a window or break fault also the call's place, from 1, and its customer.
+-- A fault carries its run from 1, and the value and limit that clash; a window or break fault also the
+-- call's place, from 1, and its customer.
 pub data Verdict : Type 0 where
   -- the joined calls differ from the planner's served customers, first at this position, from 1
   otherCalls : (position : ℕ) → Verdict
@@ -91,17 +92,19 @@ walkFault s n place k a l (c ∷ cs) =
       | some m ↦ walkFault s n place (suc k) c m cs
     ]
 
--- in what the run comes to: a missing break with a return after earliest, distance, duration
+-- In what the run comes to: a missing break with a return after earliest, distance, duration. Where the break's place is not legal, the
+-- place is 0 on a sheet with a break: one beyond its run, or on a sheet without a break, is refused by 5 before anything is marked.
 abbrev pub totalFault : Sheet → ℕ → Run → Totals → Option Verdict
 totalFault s n r t =
-    orElse (given (not (placed (s .rest) (r .place) (length (r .calls)) (t .duration))) (breakMissing n (t .duration) (breakOr (s .rest) .earliest)))
-    (orElse (given (not (within (s .maxDistance) (t .distance))) (tooFar n (t .distance) (valueOr 0 (s .maxDistance))))
-    (given (not (within (s .maxDuration) (t .duration))) (tooLong n (t .duration) (valueOr 0 (s .maxDuration)))))
+    orElse (given (not (placed (s .head .rest) (r .place) (length (r .calls)) (t .duration)))
+    (breakMissing n (t .duration) (breakOr (s .head .rest) .earliest)))
+    (orElse (given (not (within (s .head .maxDistance) (t .distance))) (tooFar n (t .distance) (valueOr 0 (s .head .maxDistance))))
+    (given (not (within (s .head .maxDuration) (t .duration))) (tooLong n (t .duration) (valueOr 0 (s .head .maxDuration)))))
 
 -- the first fault of run n: load, the calls, the totals
 unfoldable pub runFault : Sheet → ℕ → Run → Option Verdict
 runFault s n r =
-    orElse (given (not (fits s (r .calls))) (overload n (load s (r .calls)) (s .capacity)))
+    orElse (given (not (fits s (r .calls))) (overload n (load s (r .calls) .seats) (s .head .capacity .seats)))
     (orElse (walkFault s n (r .place) 1 0 start (r .calls))
     (ride s r >>= totalFault s n r))
 

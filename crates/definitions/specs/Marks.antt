@@ -18,7 +18,7 @@ use Rattle.definitions.specs.Marker.{Verdict, otherCalls, overload, brea
 
 -- the break place is one of the run's calls, or 0; on a sheet without a break it is 0
 abbrev pub Placeable : Sheet → Run → Type 0
-Placeable s r = r .place ≤ cond (present (s .rest)) (length (r .calls)) 0
+Placeable s r = r .place ≤ cond (present (s .head .rest)) (length (r .calls)) 0
 
 -- and the run is not empty
 pub record Proper (s : Sheet) (r : Run) : Type 0 where
@@ -27,7 +27,8 @@ pub record Proper (s : Sheet) (r : Run) : Type 0 where
 
 -- ---- other calls
 
--- Position p, counted from k, is the first where the lists differ or one has ended: up to it they are the same, and with it they no longer are.
+-- Position p, counted from k, is the first where the lists differ or one has ended: up to it they are
+-- the same, and with it they no longer are.
 pub record Differs (k : ℕ) (xs ys : List ℕ) (p : ℕ) : Type 0 where
   pub before : ℕ
   pub position : k + before ≡ p
@@ -38,8 +39,8 @@ pub record Differs (k : ℕ) (xs ys : List ℕ) (p : ℕ) : Type 0 where
 
 -- the load is over capacity
 pub record Overloaded (s : Sheet) (r : Run) (value limit : ℕ) : Type 0 where
-  pub value-is : load s (r .calls) ≡ value
-  pub limit-is : s .capacity ≡ limit
+  pub value-is : load s (r .calls) .seats ≡ value
+  pub limit-is : s .head .capacity .seats ≡ limit
   pub over : limit < value
 
 -- call number k of the run, at customer c, is reached: the load fits, and the calls before it are served, which leaves a label
@@ -60,7 +61,7 @@ arrival {s} {r} {k} {c} x = x .label .time + time s (lastOf 0 (take (x .before) 
 pub record BreakLate (s : Sheet) (r : Run) (k c value limit : ℕ) : Type 0 where
   pub reached : Reached s r k c
   pub break : Break
-  pub rested : s .rest ≡ some break
+  pub rested : s .head .rest ≡ some break
   pub here : r .place ≡ k
   pub value-is : breakStart break (arrival reached) ≡ value
   pub limit-is : break .latest ≡ limit
@@ -86,7 +87,7 @@ pub record BreakLeftOut (s : Sheet) (r : Run) (value limit : ℕ) : Type 0 where
   pub totals : Totals
   pub at-home : Home s r totals
   pub break : Break
-  pub rested : s .rest ≡ some break
+  pub rested : s .head .rest ≡ some break
   pub nowhere : r .place ≡ 0
   pub value-is : totals .duration ≡ value
   pub limit-is : break .earliest ≡ limit
@@ -96,19 +97,19 @@ pub record BreakLeftOut (s : Sheet) (r : Run) (value limit : ℕ) : Type 0 where
 pub record Far (s : Sheet) (r : Run) (value limit : ℕ) : Type 0 where
   pub totals : Totals
   pub at-home : Home s r totals
-  pub break-placed : placed (s .rest) (r .place) (length (r .calls)) (totals .duration) ≡ true
+  pub break-placed : placed (s .head .rest) (r .place) (length (r .calls)) (totals .duration) ≡ true
   pub value-is : totals .distance ≡ value
-  pub limit-is : s .maxDistance ≡ some limit
+  pub limit-is : s .head .maxDistance ≡ some limit
   pub over : limit < value
 
 -- the distance is within its limit, and the duration over its own
 pub record Long (s : Sheet) (r : Run) (value limit : ℕ) : Type 0 where
   pub totals : Totals
   pub at-home : Home s r totals
-  pub break-placed : placed (s .rest) (r .place) (length (r .calls)) (totals .duration) ≡ true
-  pub near : within (s .maxDistance) (totals .distance) ≡ true
+  pub break-placed : placed (s .head .rest) (r .place) (length (r .calls)) (totals .duration) ≡ true
+  pub near : within (s .head .maxDistance) (totals .distance) ≡ true
   pub value-is : totals .duration ≡ value
-  pub limit-is : s .maxDuration ≡ some limit
+  pub limit-is : s .head .maxDuration ≡ some limit
   pub over : limit < value
 
 -- the verdict is a fault of run number n: what it then says

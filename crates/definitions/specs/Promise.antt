@@ -21,10 +21,12 @@ abbrev pub beginning : List ℕ → ℕ → Held → List ℕ
 beginning tour i h = take i (callsAt tour (h .held))
 
 module _ (Has : List ℕ → Type 0) (tour : List ℕ) where
-  -- `Settles h g`: from h the drops lead to g. A call is dropped exactly when it is the end of the shortest beginning of the calls then held that has no cutting; when no such beginning is left, that is the end.
+  -- `Settles h g`: from h the drops lead to g. A call is dropped exactly when it is the end of the shortest beginning of the calls then
+  -- held that has no cutting; when no such beginning is left, that is the end.
   pub data Settles : Held → Held → Type 0 where
     stop : {h : Held} → ((i : ℕ) → i ≤ length (h .held) → Has (beginning tour i h)) → Settles h h
-    goes : {h g : Held} (k : ℕ) → k < length (h .held) → (Has (beginning tour (suc k) h) → ⊥) → ((i : ℕ) → i ≤ k → Has (beginning tour i h)) → Settles (dropAt k h) g → Settles h g
+    goes : {h g : Held} (k : ℕ) → k < length (h .held) → (Has (beginning tour (suc k) h) → ⊥) → ((i : ℕ) → i ≤ k → Has (beginning tour i h))
+        → Settles (dropAt k h) g → Settles h g
 
 -- ---- every position is served or dropped
 
@@ -46,7 +48,8 @@ ClockRival s runs = (legalCutting s runs ≡ true) × (map (clockRun s) (callsIn
 
 -- ---- ties
 
--- Ties go to the earlier cut point, from the last run back: no rival of the same calls and the same cost has a last run that starts earlier.
+-- Ties go to the earlier cut point, from the last run back: no rival of the same calls and the same
+-- cost has a last run that starts earlier.
 pub data Ties (s : Sheet) (Rival : List Run → Type 0) : List Run → Type 0 where
   no-run : Ties s Rival []
   last-run : {runs : List Run} (r : Run) → Ties s Rival runs

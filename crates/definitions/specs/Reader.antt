@@ -7,9 +7,10 @@ use lib.Dec.{ltb, leb, eqb}
 use Rattle.basics.specs.Options.{valueOr}
 use Rattle.basics.specs.Lists.{any}
 use Rattle.definitions.specs.Domain.{mostPlaces, mostCalls, isPlaces, isDemand, isCapacity, isPenalty, isNumber, isCall}
+use Rattle.definitions.specs.Load.{ofSeats}
 use Rattle.definitions.specs.Sheet.{Window, Break, Customer, Sheet, depot}
 use Rattle.definitions.specs.Words.{Word, word, wordsOf, leftOver}
-use Rattle.definitions.specs.Refusal.{refusal, firstFit}
+use Rattle.definitions.specs.Refusal.{Refusal, refusal, firstFit}
 use Rattle.definitions.specs.Room.{short}
 
 -- ---- which words may stand
@@ -112,15 +113,17 @@ pairFalls s w = (eqb (w .kind) 0xA || (eqb (w .kind) 6 && eqb (s .last .kind) 6 
 abbrev pub among : ℕ → List ℕ → Bool
 among k ks = any (λ (j : ℕ). eqb k j) ks
 
--- what is wrong with the word of index i
-unfoldable pub faultAt : State → ℕ → Word → Option ℕ
-faultAt s i w =
-    firstFit
-    (refusal 11 (not (among (w .kind) (mayStand s)))
+-- what may be wrong with the word of index i, in order
+abbrev pub faults : State → ℕ → Word → List Refusal
+faults s i w =
+    refusal 11 (not (among (w .kind) (mayStand s)))
     ∷ refusal 1 (not (inRange s w))
     ∷ refusal 2 (pairFalls s w)
     ∷ refusal 3 (eqb (w .kind) 0xF && not (eqb (w .value) i))
-    ∷ [])
+    ∷ []
+
+unfoldable pub faultAt : State → ℕ → Word → Option ℕ
+faultAt s i w = firstFit (faults s i w)
 
 -- ---- the leftmost bad word
 
@@ -181,7 +184,7 @@ breakOf (e ∷ l ∷ d ∷ more) = some (record { earliest = e; latest = l; dura
 abbrev pub customerOf : ℕ → List Word → Customer
 customerOf demand ws =
     record {
-      demand = demand;
+      demand = ofSeats demand;
       service = valueOr 0 (firstOf (valuesOf 8 ws));
       window = windowOf (valuesOf 9 ws) (valuesOf 0xA ws);
       penalty = firstOf (valuesOf 0xB ws);
@@ -196,15 +199,17 @@ customersOf (w ∷ ws) = cond (eqb (w .kind) 7) (customerOf (w .value) (own ws) 
 unfoldable pub sheetOf : List Word → Sheet
 sheetOf ws =
     record {
-      places = valueOr 0 (firstOf (valuesOf 1 ws));
-      capacity = valueOr 0 (firstOf (valuesOf 2 ws));
-      fixed = valueOr 0 (firstOf (valuesOf 3 ws));
-      maxDistance = firstOf (valuesOf 4 ws);
-      maxDuration = firstOf (valuesOf 5 ws);
-      rest = breakOf (valuesOf 6 ws);
+      head =
+          record {
+            places = valueOr 0 (firstOf (valuesOf 1 ws));
+            capacity = ofSeats (valueOr 0 (firstOf (valuesOf 2 ws)));
+            fixed = valueOr 0 (firstOf (valuesOf 3 ws));
+            maxDistance = firstOf (valuesOf 4 ws);
+            maxDuration = firstOf (valuesOf 5 ws);
+            rest = breakOf (valuesOf 6 ws);
+          };
       customers = depot ∷ customersOf ws;
-      distances = valuesOf 0xC ws;
-      times = valuesOf 0xD ws;
+      legs = record { distances = valuesOf 0xC ws; times = valuesOf 0xD ws };
     }
 
 -- and the tour

@@ -10,6 +10,7 @@ use Rattle.basics.specs.Tests.{either}
 use Rattle.basics.specs.Options.{holds, present}
 use Rattle.basics.specs.Lists.{isEmpty, any}
 use Rattle.definitions.specs.Domain.{mostCalls, isPlaces, isDemand, isCapacity, isPenalty, isNumber, isCall}
+use Rattle.definitions.specs.Load.{eachOf}
 use Rattle.definitions.specs.Sheet.{WindowOf, BreakOf, CustomerOf, SheetOf, Sheet, records, anySoft}
 use Rattle.definitions.specs.Refusal.{Refusal, refusal, firstFit}
 use Rattle.definitions.specs.Room.{short}
@@ -20,7 +21,7 @@ use Rattle.definitions.specs.Lent.{Lent, whole, Call}
 abbrev pub tooShort : {F : Type 0} → Call → Lent F → Bool
 tooShort k l =
     either
-    (ltb (length (l .sheet .customers)) (l .sheet .places)
+    (ltb (length (l .sheet .customers)) (l .sheet .head .places)
     ∷ short (k .needs (length (l .tour)) (length (l .calls)) (length (l .ends))) (l .rooms)
     ∷ (k .marks && ltb (length (l .breaks)) (length (l .ends)))
     ∷ [])
@@ -29,8 +30,8 @@ tooShort k l =
 
 abbrev pub tablesOdd : {F : Type 0} → SheetOf F → Bool
 tablesOdd s =
-    let full : ℕ = s .places * s .places in
-    not (eqb (length (s .distances)) full) || not (isEmpty (s .times) || eqb (length (s .times)) full)
+    let full : ℕ = s .head .places * s .head .places in
+    not (eqb (length (s .legs .distances)) full) || not (isEmpty (s .legs .times) || eqb (length (s .legs .times)) full)
 
 -- more than 128 calls, or a call out of range
 abbrev pub badCalls : ℕ → List ℕ → Bool
@@ -63,30 +64,43 @@ module _ {F : Type 0} (value : F → Option ℕ) where
   badWindow (some w) = unfit isNumber (w .ready) || unfit isNumber (w .due)
 
   abbrev pub badCustomer : CustomerOf F → Bool
-  badCustomer c = either (not (isDemand (c .demand)) ∷ unfit isNumber (c .service) ∷ badWindow (c .window) ∷ badOptional isPenalty (c .penalty) ∷ [])
+  badCustomer c =
+      either
+      (not (eachOf isDemand (c .demand))
+      ∷ unfit isNumber (c .service)
+      ∷ badWindow (c .window)
+      ∷ badOptional isPenalty (c .penalty)
+      ∷ [])
 
   -- a depot record with demand, service, window or penalty
   abbrev pub badDepot : List (CustomerOf F) → Bool
   badDepot [] = false
-  badDepot (c ∷ cs) = either (not (eqb (c .demand) 0) ∷ unfit (λ (n : ℕ). eqb n 0) (c .service) ∷ present (c .window) ∷ present (c .penalty) ∷ [])
+  badDepot (c ∷ cs) =
+      either
+      (not (eachOf (λ (n : ℕ). eqb n 0) (c .demand))
+      ∷ unfit (λ (n : ℕ). eqb n 0) (c .service)
+      ∷ present (c .window)
+      ∷ present (c .penalty)
+      ∷ [])
 
   unfoldable pub badSheet : SheetOf F → Bool
   badSheet s =
       either
-      (not (isPlaces (s .places))
-      ∷ not (isCapacity (s .capacity))
-      ∷ unfit isNumber (s .fixed)
-      ∷ badOptional isNumber (s .maxDistance)
-      ∷ badOptional isNumber (s .maxDuration)
-      ∷ badBreak (s .rest)
+      (not (isPlaces (s .head .places))
+      ∷ not (eachOf isCapacity (s .head .capacity))
+      ∷ unfit isNumber (s .head .fixed)
+      ∷ badOptional isNumber (s .head .maxDistance)
+      ∷ badOptional isNumber (s .head .maxDuration)
+      ∷ badBreak (s .head .rest)
       ∷ badDepot (records s)
       ∷ any badCustomer (records s)
-      ∷ any (unfit isNumber) (s .distances)
-      ∷ any (unfit isNumber) (s .times)
+      ∷ any (unfit isNumber) (s .legs .distances)
+      ∷ any (unfit isNumber) (s .legs .times)
       ∷ [])
 
   unfoldable pub outOfRange : Lent F → Bool
-  outOfRange l = either (badSheet (l .sheet) ∷ badTour (l .sheet .places) (l .tour) ∷ badRunList (l .sheet .places) (l .calls) ∷ [])
+  outOfRange l =
+      either (badSheet (l .sheet) ∷ badTour (l .sheet .head .places) (l .tour) ∷ badRunList (l .sheet .head .places) (l .calls) ∷ [])
 
   -- ---- 2: ready above due, or earliest above latest
 
@@ -102,7 +116,7 @@ module _ {F : Type 0} (value : F → Option ℕ) where
   breakFalls (some b) = above (b .earliest) (b .latest)
 
   unfoldable pub pairsFall : SheetOf F → Bool
-  pairsFall s = breakFalls (s .rest) || any (λ (c : CustomerOf F). windowFalls (c .window)) (records s)
+  pairsFall s = breakFalls (s .head .rest) || any (λ (c : CustomerOf F). windowFalls (c .window)) (records s)
 
 -- ---- 5: run ends and break places
 
@@ -127,7 +141,7 @@ runsOdd k l =
     ((k .takesEnds && ltb mostCalls (length (l .ends)))
     ∷ (k .takesEnds && endsFall 0 (l .ends) (length (l .calls)))
     ∷ (k .marks && emptyRun 0 (l .ends))
-    ∷ (k .marks && breakBeyond (present (l .sheet .rest)) 0 (l .ends) (l .breaks))
+    ∷ (k .marks && breakBeyond (present (l .sheet .head .rest)) 0 (l .ends) (l .breaks))
     ∷ [])
 
 -- ---- the order
@@ -150,11 +164,11 @@ refusalOf value k l = firstFit (refusals value k l)
 
 -- within the limits of the Domain
 pub record Within (s : Sheet) : Type 0 where
-  pub counted : length (s .customers) ≡ s .places
+  pub counted : length (s .customers) ≡ s .head .places
   pub tables : tablesOdd s ≡ false
   pub ranged : badSheet some s ≡ false
   pub paired : pairsFall some s ≡ false
 
 -- calls of such a sheet, as a tour or a run list has them
 abbrev pub WithinCalls : Sheet → List ℕ → Type 0
-WithinCalls s calls = badCalls (s .places) calls ≡ false
+WithinCalls s calls = badCalls (s .head .places) calls ≡ false

@@ -1,5 +1,5 @@
--- A run leaves the depot, serves some calls in order and returns. It is a route of Solomon's problem (1987): within capacity, each service started in its window, and each start carried
--- forward along the legs to the next arrival; the break is added. Definitions only.
+-- A run leaves the depot, serves some calls in order and returns. It is a route of Solomon's problem (1987): within capacity, each service
+-- started in its window, and each start carried forward along the legs to the next arrival; the break is added. Definitions only.
 use Prim.Native.Nat.{ℕ, zero, suc, _+_, max}
 use mathlib.Core.Bool.{Bool, cond, not, _&&_}
 use mathlib.Core.List.{List, [], _∷_}
@@ -7,7 +7,8 @@ use mathlib.Core.Option.{Option, none, some}
 use lib.ListN.{length}
 use lib.Dec.{ltb, leb, eqb}
 use Rattle.basics.specs.Options.{_>>=_, holds}
-use Rattle.basics.specs.Lists.{isEmpty, sum}
+use Rattle.basics.specs.Lists.{isEmpty}
+use Rattle.definitions.specs.Load.{Load, loadBy, fitsBy}
 use Rattle.definitions.specs.Sheet.{Break, Customer, Sheet, customer, distance, time}
 use Rattle.definitions.specs.Window.{enter}
 use Rattle.definitions.specs.Limits.{allow, excused}
@@ -72,7 +73,7 @@ pub record Run : Type 0 where
 
 -- the break, at the call that has it alone
 abbrev pub breakAt : Sheet → ℕ → ℕ → Option Break
-breakAt s place k = cond (eqb place k) (s .rest) none
+breakAt s place k = cond (eqb place k) (s .head .rest) none
 
 -- the calls from number k on, served from a with the label m
 unfoldable pub serveAll : Sheet → ℕ → ℕ → ℕ → Option Label → List ℕ → Option Label
@@ -122,40 +123,34 @@ ride s r = do
 
 -- ---- legal runs
 
--- the load of calls whose customers have these demands, and whether it is at most capacity
-abbrev pub loadBy : (ℕ → ℕ) → List ℕ → ℕ
-loadBy demand calls = sum demand calls
-
-abbrev pub fitsBy : (ℕ → ℕ) → ℕ → List ℕ → Bool
-fitsBy demand capacity calls = leb (loadBy demand calls) capacity
-
--- those of the sheet
-abbrev pub load : Sheet → List ℕ → ℕ
+-- the load of a sheet's calls, and whether it is at most capacity
+abbrev pub load : Sheet → List ℕ → Load
 load s calls = loadBy (λ c. customer s c .demand) calls
 
 abbrev pub fits : Sheet → List ℕ → Bool
-fits s calls = fitsBy (λ c. customer s c .demand) (s .capacity) calls
+fits s calls = fitsBy (λ c. customer s c .demand) (s .head .capacity) calls
 
 -- its totals are allowed
 abbrev pub allowed : Sheet → Totals → Bool
 allowed s t = allow s (t .distance) (t .duration)
 
--- A place that the break may have in a run of n calls that is home at `duration`: with 0 on a sheet with a break it is home at or before earliest; a break not
--- needed may be taken; on a sheet without one only 0 is legal.
+-- A place that the break may have in a run of n calls that is home at `duration`: with 0 on a sheet with a break it is home at or before
+-- earliest; a break not needed may be taken; on a sheet without one only 0 is legal.
 unfoldable pub placed : Option Break → ℕ → ℕ → ℕ → Bool
 placed none place n duration = eqb place 0
 placed (some b) zero n duration = excused b duration
 placed (some b) (suc k) n duration = leb (suc k) n
 
--- Legal with its break place: it is not empty, its load is at most capacity, nothing fails, its totals are allowed, and the break may be there.
+-- Legal with its break place: it is not empty, its load is at most capacity, nothing fails, its totals
+-- are allowed, and the break may be there.
 unfoldable pub legal : Sheet → Run → Bool
 legal s r =
     not (isEmpty (r .calls)) && fits s (r .calls)
-    && holds (ride s r) (λ t. allowed s t && placed (s .rest) (r .place) (length (r .calls)) (t .duration))
+    && holds (ride s r) (λ t. allowed s t && placed (s .head .rest) (r .place) (length (r .calls)) (t .duration))
 
 -- run cost: fixed cost + distance + lateness pay
 abbrev pub price : Sheet → ℕ → ℕ → ℕ
-price s distance pay = s .fixed + distance + pay
+price s distance pay = s .head .fixed + distance + pay
 
 -- the lateness pay, where nothing fails
 abbrev pub payOf : Option Totals → ℕ

@@ -1,5 +1,5 @@
--- A sheet: places (0 is the depot, the others customers), legs, limits, and, beside this record, a tour of customer numbers. Definitions only.
--- F is how a number is held that may be a float in lent memory: a whole number in all that follows.
+-- A sheet: places (0 is the depot, the others customers), legs, limits, and, beside this record, a tour of customer numbers. Definitions
+-- only. F is how a number is held that may be a float in lent memory: a whole number in all that follows.
 use Prim.Native.Nat.{ℕ, _+_, _*_}
 use mathlib.Core.Bool.{Bool, _&&_}
 use mathlib.Core.List.{List, [], _∷_, map}
@@ -7,6 +7,7 @@ use mathlib.Core.Option.{Option, none, Option·map}
 use lib.ListN.{getD, take}
 use Rattle.basics.specs.Options.{present}
 use Rattle.basics.specs.Lists.{any}
+use Rattle.definitions.specs.Load.{Load, noLoad}
 
 -- ---- the records, over any way to hold a number
 
@@ -23,45 +24,46 @@ pub record BreakOf (F : Type 0) : Type 0 where
 
 -- a customer: the seats asked for, how long the service is, and when it may start; record 0 is the depot's
 pub record CustomerOf (F : Type 0) : Type 0 where
-  pub demand : ℕ
+  pub demand : Load
   pub service : F
   pub window : Option (WindowOf F)
   -- what a unit of lateness costs; without it late is not served
   pub penalty : Option F
 
-pub record SheetOf (F : Type 0) : Type 0 where
+-- A customer by what it asks for, how long it takes, its window and its penalty. Whoever adds a field gives it a value here that changes
+-- nothing; so this is for the depot and for examples, and what carries a record over names every field.
+abbrev pub asking : {F : Type 0} → Load → F → Option (WindowOf F) → Option F → CustomerOf F
+asking demand service window penalty = record { demand = demand; service = service; window = window; penalty = penalty }
+
+-- what a sheet has besides its customers and legs
+pub record HeadOf (F : Type 0) : Type 0 where
   pub places : ℕ
-  pub capacity : ℕ
+  pub capacity : Load
   -- the fixed run cost
   pub fixed : F
   pub maxDistance : Option F
   pub maxDuration : Option F
   pub rest : Option (BreakOf F)
-  -- a record for each place; record 0 is the depot's
-  pub customers : List (CustomerOf F)
+
+pub record LegsOf (F : Type 0) : Type 0 where
   -- by rows, places squared of them
   pub distances : List F
   -- as many, or none at all
   pub times : List F
 
+pub record SheetOf (F : Type 0) : Type 0 where
+  pub head : HeadOf F
+  -- a record for each place; record 0 is the depot's
+  pub customers : List (CustomerOf F)
+  pub legs : LegsOf F
+
 -- the customers that a sheet has, the depot's record first; what is lent beyond them is not read
 abbrev pub records : {F : Type 0} → SheetOf F → List (CustomerOf F)
-records s = take (s .places) (s .customers)
+records s = take (s .head .places) (s .customers)
 
 -- the same sheet with these records alone
 abbrev pub own : {F : Type 0} → SheetOf F → SheetOf F
-own s =
-    record {
-      places = s .places;
-      capacity = s .capacity;
-      fixed = s .fixed;
-      maxDistance = s .maxDistance;
-      maxDuration = s .maxDuration;
-      rest = s .rest;
-      customers = records s;
-      distances = s .distances;
-      times = s .times;
-    }
+own s = record { head = s .head; customers = records s; legs = s .legs }
 
 -- the same records with each number held in another way
 module _ {F G : Type 0} (hold : F → G) where
@@ -72,21 +74,30 @@ module _ {F G : Type 0} (hold : F → G) where
   mapBreak b = record { earliest = hold (b .earliest); latest = hold (b .latest); duration = hold (b .duration) }
 
   abbrev pub mapCustomer : CustomerOf F → CustomerOf G
-  mapCustomer c = record { demand = c .demand; service = hold (c .service); window = Option·map mapWindow (c .window); penalty = Option·map hold (c .penalty) }
+  mapCustomer c =
+      record {
+        demand = c .demand;
+        service = hold (c .service);
+        window = Option·map mapWindow (c .window);
+        penalty = Option·map hold (c .penalty);
+      }
+
+  abbrev pub mapHead : HeadOf F → HeadOf G
+  mapHead h =
+      record {
+        places = h .places;
+        capacity = h .capacity;
+        fixed = hold (h .fixed);
+        maxDistance = Option·map hold (h .maxDistance);
+        maxDuration = Option·map hold (h .maxDuration);
+        rest = Option·map mapBreak (h .rest);
+      }
+
+  abbrev pub mapLegs : LegsOf F → LegsOf G
+  mapLegs l = record { distances = map hold (l .distances); times = map hold (l .times) }
 
   abbrev pub mapSheet : SheetOf F → SheetOf G
-  mapSheet s =
-      record {
-        places = s .places;
-        capacity = s .capacity;
-        fixed = hold (s .fixed);
-        maxDistance = Option·map hold (s .maxDistance);
-        maxDuration = Option·map hold (s .maxDuration);
-        rest = Option·map mapBreak (s .rest);
-        customers = map mapCustomer (s .customers);
-        distances = map hold (s .distances);
-        times = map hold (s .times);
-      }
+  mapSheet s = record { head = mapHead (s .head); customers = map mapCustomer (s .customers); legs = mapLegs (s .legs) }
 
 -- ---- in whole numbers
 
@@ -104,7 +115,7 @@ Sheet = SheetOf ℕ
 
 -- the depot has demand and service 0 and no window
 abbrev pub depot : Customer
-depot = record { demand = 0; service = 0; window = none; penalty = none }
+depot = asking noLoad 0 none none
 
 -- ---- lookups
 
@@ -112,14 +123,14 @@ depot = record { demand = 0; service = 0; window = none; penalty = none }
 abbrev pub customer : Sheet → ℕ → Customer
 customer s c = getD (s .customers) c depot
 
--- The leg from a to b in a table of n rows. On an accepted sheet every lookup of a run lies inside its table (crates/bounds, specs/Inside), so the 0 is never read; on floats a
--- lookup outside its table gives infinity.
+-- The leg from a to b in a table of n rows. On an accepted sheet every lookup of a run lies inside its table (crates/bounds,
+-- proofs/Inside), so the 0 is never read; on floats a lookup outside its table gives infinity.
 abbrev pub leg : List ℕ → ℕ → ℕ → ℕ → ℕ
 leg table n a b = getD table (a * n + b) 0
 
 -- `get`
 abbrev pub distance : Sheet → ℕ → ℕ → ℕ
-distance s a b = leg (s .distances) (s .places) a b
+distance s a b = leg (s .legs .distances) (s .head .places) a b
 
 -- without a time table a time is the distance
 abbrev pub timeTable : {F : Type 0} → List F → List F → List F
@@ -128,7 +139,7 @@ timeTable distances (t ∷ ts) = t ∷ ts
 
 -- `travel_time`
 abbrev pub time : Sheet → ℕ → ℕ → ℕ
-time s a b = leg (timeTable (s .distances) (s .times)) (s .places) a b
+time s a b = leg (timeTable (s .legs .distances) (s .legs .times)) (s .head .places) a b
 
 -- ---- lateness pay
 

@@ -1,5 +1,6 @@
--- two_opt_improve on whole numbers. A reversal's gain is a difference of distances: the two distances are compared as they are, so that
--- nothing falls below 0. The gain that a reversal has to exceed, gain_floor, is at least 0 and less than 1, so a whole gain passes exactly when it is at least 1.
+-- two_opt_improve on whole numbers. A reversal's gain is a difference of distances: the two distances are compared as they
+-- are, so that nothing falls below 0. The gain that a reversal has to exceed, gain_floor, is at least 0 and less than 1, so a
+-- whole gain passes exactly when it is at least 1.
 use Prim.Native.Nat.{ℕ, zero, suc, _+_, _-_}
 use mathlib.Core.Bool.{cond, _&&_}
 use mathlib.Core.List.{List, [], _∷_, _++_, reverse}

@@ -5,10 +5,12 @@ use mathlib.Core.List.{List, [], _∷_, _++_}
 use mathlib.Core.Option.{Option}
 use Rattle.basics.specs.Options.{present, valueOr}
 use Rattle.basics.specs.Lists.{isEmpty}
+use lib.Dec.{leb}
+use Rattle.definitions.specs.Load.{Load, noLoad, plus}
 use Rattle.definitions.specs.Sheet.{Break, Sheet, customer, time}
 use Rattle.definitions.specs.Window.{dueOf, begins, Entry, enter}
 use Rattle.definitions.specs.Limits.{within}
-use Rattle.definitions.specs.Run.{ready, Label, start, placeAfter, breakAt, Totals, home, load, fits}
+use Rattle.definitions.specs.Run.{ready, Label, start, placeAfter, breakAt, Totals, home, load}
 use Rattle.definitions.specs.Clock.{clock, placeOr, startOf}
 
 -- ---- visits and violations
@@ -20,7 +22,7 @@ pub record Visit : Type 0 where
   pub arrival : ℕ
   pub departure : ℕ
   -- with this call's
-  pub load : ℕ
+  pub load : Load
 
 -- a violation with its figures
 pub data Violation : Type 0 where
@@ -68,11 +70,11 @@ visited s here k a c l =
 
 -- the calls from number k on, visited from a with the label l and the load n
 module _ (s : Sheet) (place : ℕ) where
-  unfoldable pub visitsFrom : ℕ → ℕ → Label → ℕ → List ℕ → List Visit
+  unfoldable pub visitsFrom : ℕ → ℕ → Label → Load → List ℕ → List Visit
   visitsFrom k a l n [] = []
   visitsFrom k a l n (c ∷ cs) =
       let m = visited s (breakAt s place k) k a c l in
-      let load = n + customer s c .demand in
+      let load = plus n (customer s c .demand) in
       record { customer = c; arrival = l .time + time s a c; departure = m .time; load = load } ∷ visitsFrom (suc k) c m load cs
 
   unfoldable pub windowsFrom : ℕ → ℕ → Label → List ℕ → List Violation
@@ -93,7 +95,7 @@ pub record Route : Type 0 where
   pub visits : List Visit
   -- distance, duration, lateness, lateness pay and break place
   pub totals : Totals
-  pub load : ℕ
+  pub load : Load
   -- when the break starts, if there is one
   pub start : Option ℕ
   pub violations : List Violation
@@ -103,6 +105,10 @@ abbrev pub unless : Bool → Violation → List Violation
 unless true v = []
 unless false v = v ∷ []
 
+-- each measure in which a load is over what a vehicle holds
+abbrev pub overloads : Load → Load → List Violation
+overloads load capacity = unless (leb (load .seats) (capacity .seats)) (overCapacity (load .seats) (capacity .seats))
+
 -- the break is where the clock puts it; an unplaceable break is left out of the visit times
 unfoldable pub buildRoute : Sheet → List ℕ → Route
 buildRoute s calls =
@@ -111,15 +117,15 @@ buildRoute s calls =
     let windows = windowsFrom s place 1 0 start calls in
     let totals = home s calls (lastLabel s place 1 0 start calls) in
     record {
-      visits = visitsFrom s place 1 0 start 0 calls;
+      visits = visitsFrom s place 1 0 start noLoad calls;
       totals = totals;
       load = load s calls;
       start = startOf s (record { calls = calls; place = place });
       -- windows by visit, break not placeable (only if no window violation), capacity, distance, duration
       violations =
           windows
-          ++ unless (not (present (s .rest) && not (present placed) && isEmpty windows)) breakNotPlaceable
-          ++ unless (fits s calls) (overCapacity (load s calls) (s .capacity))
-          ++ unless (within (s .maxDistance) (totals .distance)) (overDistance (totals .distance) (valueOr 0 (s .maxDistance)))
-          ++ unless (within (s .maxDuration) (totals .duration)) (overDuration (totals .duration) (valueOr 0 (s .maxDuration)));
+          ++ unless (not (present (s .head .rest) && not (present placed) && isEmpty windows)) breakNotPlaceable
+          ++ overloads (load s calls) (s .head .capacity)
+          ++ unless (within (s .head .maxDistance) (totals .distance)) (overDistance (totals .distance) (valueOr 0 (s .head .maxDistance)))
+          ++ unless (within (s .head .maxDuration) (totals .duration)) (overDuration (totals .duration) (valueOr 0 (s .head .maxDuration)));
     }

@@ -1,5 +1,6 @@
--- Customer and window: late, waiting, and entering a window. As in Solomon's vehicle routing problem with time windows (1987): a bus that is there before ready waits, service starts
--- at the later of the two, and a start after due is not allowed; a penalty, which that problem has not, allows it at a price. Definitions only.
+-- Customer and window: late, waiting, and entering a window. As in Solomon's vehicle routing problem with time windows (1987): a bus that
+-- is there before ready waits, service starts at the later of the two, and a start after due is not allowed; a penalty, which that
+-- problem has not, allows it at a price. Definitions only.
 use Prim.Native.Nat.{ℕ, _-_, _*_, max}
 use mathlib.Core.Bool.{Bool, cond}
 use mathlib.Core.Option.{Option, none, some}

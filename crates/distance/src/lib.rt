@@ -1,2 +1,3 @@
 // Legs between places.
+pub mod leg;
 pub mod matrix;

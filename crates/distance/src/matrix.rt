@@ -25,7 +25,8 @@ pub fn lookup(table: &[f64], size: usize, from: usize, to: usize) -> f64
     table[i]
 }
 
-// The same inside the rows and columns, where the index could wrap: the row is tested by a quotient, and the column by a difference.
+// The same inside the rows and columns, where the index could wrap: the row is tested by a quotient, and the column
+// by a difference.
 fn lookup_wide(table: &[f64], size: usize, from: usize, to: usize) -> f64
     requires { ⌜ from < size ⌝ }
     requires { ⌜ to < size ⌝ }
@@ -71,7 +72,8 @@ impl<'a, 'b> DistanceMatrix<'a, 'b> {
     }
 
     pub fn travel_time(self, from: usize, to: usize) -> f64
-        ensures { λ r. ⌜ r ≡ lookupF (timeTable (now (self .entry .distances)) (now (self .entry .times))) (self .entry .size) from to ⌝ }
+        ensures { λ r. let times = timeTable (now (self .entry .distances)) (now (self .entry .times)) in
+            ⌜ r ≡ lookupF times (self .entry .size) from to ⌝ }
     {
         lookup_time(self.distances, self.times, self.size, from, to)
     }

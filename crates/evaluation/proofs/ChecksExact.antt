@@ -27,5 +27,5 @@ or-none false = refl
 pub checks-exact : (s : Sheet) (t : Tables) → Image s t → checksNeededF (t .customers) (t .size) (flLimits s) ≡ checksNeeded s
 unfolding checksNeededF checksNeeded
 checks-exact s t I =
-    rw (I .size-is, I .records-are, windows-exact (s .customers), present-map _ (s .maxDistance), present-map _ (s .maxDuration), present-map _ (s .rest))
-    (ap (λ (b : Bool). any (λ c. present (c .window)) (s .customers) || (present (s .maxDistance) || (present (s .maxDuration) || b))) (or-none (present (s .rest))))
+    rw (I .size-is, I .records-are, windows-exact (s .customers), present-map _ (s .head .maxDistance), present-map _ (s .head .maxDuration), present-map _ (s .head .rest))
+    (ap (λ (b : Bool). any (λ c. present (c .window)) (s .customers) || (present (s .head .maxDistance) || (present (s .head .maxDuration) || b))) (or-none (present (s .head .rest))))

@@ -17,9 +17,12 @@ use Rattle.definitions.specs.Sheet.{Break, CustomerOf, Sheet, depot, customer, 
 use Rattle.definitions.specs.Run as Whole
 use Rattle.definitions.specs.Run.{serve, lastOf, distanceFrom}
 use Rattle.definitions.specs.Clock.{Clock, tick, clockFrom, clock}
-use Rattle.bounds.specs.Inside.{timesOf, SmallBreak, Sized, Place, depot-inside, last-inside, distance-inside, time-inside, record-inside, time-small, customer-small}
-use Rattle.bounds.specs.Bounds.{Early, EarlyClock, begun, start-early, serve-early, clock-early, labels-most, label-fits, LabelFits, distance-most}
-use Rattle.whole.specs.Whole.{fl, limit, fl-add}
+use Rattle.bounds.specs.Sized.{timesOf, SmallBreak, Sized, Place}
+use Rattle.bounds.proofs.Inside.{depot-inside, last-inside, distance-inside, time-inside, record-inside, time-small, customer-small}
+use Rattle.bounds.specs.Bounds.{Early, EarlyClock, begun, LabelFits}
+use Rattle.bounds.proofs.BoundLaws.{start-early, serve-early, clock-early, labels-most, label-fits, distance-most}
+use Rattle.whole.specs.Whole.{fl, limit}
+use Rattle.whole.proofs.WholeLaws.{fl-add}
 use Rattle.distance.proofs.Exact.{lookup-exact, times-exact}
 use Rattle.models.specs.Image.{flBreak, flCustomer}
 use Rattle.clock.specs.declared.schedule.Label.{Label}
@@ -38,12 +41,12 @@ use Rattle.evaluation.proofs.Reading.{getD-of}
 -- ---- what is looked up for a call
 
 -- records beyond the places are not read
-module _ (s : Sheet) (S : Sized s) (customers : List (CustomerOf Float)) (hold : take (s .places) customers ≡ map flCustomer (s .customers)) (c : ℕ) (h : Place s c) where
+module _ (s : Sheet) (S : Sized s) (customers : List (CustomerOf Float)) (hold : take (s .head .places) customers ≡ map flCustomer (s .customers)) (c : ℕ) (h : Place s c) where
   looked-up : getD customers (recordIndex c) blank ≡ flCustomer (customer s c)
   looked-up =
       let few : c < 64 = omega (arith, S .few-places) in
       rw (lt-ltb c 64 few)
-      (sym (getD-take (s .places) customers c blank h) ∙ (ap (λ l. getD l c blank) hold ∙ sym (getD-of flCustomer (s .customers) c depot blank (record-inside s S c h))))
+      (sym (getD-take (s .head .places) customers c blank h) ∙ (ap (λ l. getD l c blank) hold ∙ sym (getD-of flCustomer (s .customers) c depot blank (record-inside s S c h))))
 
   pub demand-exact : demandF customers c ≡ customer s c .demand
   unfolding demandF
@@ -55,11 +58,11 @@ module _ (s : Sheet) (S : Sized s) (t : Tables) (I : Image s t) where
   record-exact c h = looked-up s S (t .customers) (I .records-are) c h
 
   pub distance-exact : (a b : ℕ) → Place s a → Place s b → distanceF t a b ≡ fl (distance s a b)
-  distance-exact a b p q = rw (I .distances-are, I .size-is) (lookup-exact (s .distances) (s .places) a b p q (distance-inside s S a b p q))
+  distance-exact a b p q = rw (I .distances-are, I .size-is) (lookup-exact (s .legs .distances) (s .head .places) a b p q (distance-inside s S a b p q))
 
   pub time-exact : (a b : ℕ) → Place s a → Place s b → timeF t a b ≡ fl (time s a b)
   time-exact a b p q =
-      rw (I .distances-are, I .times-are, I .size-is, times-exact (s .distances) (s .times)) (lookup-exact (timesOf s) (s .places) a b p q (time-inside s S a b p q))
+      rw (I .distances-are, I .times-are, I .size-is, times-exact (s .legs .distances) (s .legs .times)) (lookup-exact (timesOf s) (s .head .places) a b p q (time-inside s S a b p q))
 
   -- all legs, on top of what is gone already
   pub distance-from-exact : (far a : ℕ) (calls : List ℕ) → Place s a → All (Place s) calls → far + distanceFrom s a calls ≤ limit
@@ -89,7 +92,7 @@ module _ (s : Sheet) (S : Sized s) (t : Tables) (I : Image s t) where
 
   -- ---- the clock
 
-  module _ (b : Break) (rest-is : s .rest ≡ some b) where
+  module _ (b : Break) (rest-is : s .head .rest ≡ some b) where
     break-small : SmallBreak b
     break-small = subst (Holds SmallBreak) rest-is (S .rest-small)
 
@@ -103,8 +106,14 @@ module _ (s : Sheet) (S : Sized s) (t : Tables) (I : Image s t) where
     tick-exact k few j a c p q x E =
         let carried = x .after >>= serve s none j a c in
         let broken = x .before >>= serve s (some b) j a c in
-        rw (carry-exact k few none tt j a c p q (x .before) (E .before-early), carry-exact k few none tt j a c p q (x .after) (E .after-early), carry-exact k few (some b) break-small j a c p q (x .before) (E .before-early))
-        (rw (earlier-exact carried broken (fit (suc k) few carried (carried-early k few none tt j a c (x .after) (E .after-early))) (fit (suc k) few broken (carried-early k few (some b) break-small j a c (x .before) (E .before-early))), rest-is))
+        let carried-fits = fit (suc k) few carried (carried-early k few none tt j a c (x .after) (E .after-early)) in
+        let broken-fits = fit (suc k) few broken (carried-early k few (some b) break-small j a c (x .before) (E .before-early)) in
+        rw (
+          carry-exact k few none tt j a c p q (x .before) (E .before-early),
+          carry-exact k few none tt j a c p q (x .after) (E .after-early),
+          carry-exact k few (some b) break-small j a c p q (x .before) (E .before-early),
+        )
+        (rw (earlier-exact carried broken carried-fits broken-fits, rest-is))
 
     tick-early : (k : ℕ) → k < mostCalls → (j a c : ℕ) (x : Clock) → EarlyClock k x → EarlyClock (suc k) (tick s j a c x)
     unfolding clockFrom
@@ -121,7 +130,7 @@ module _ (s : Sheet) (S : Sized s) (t : Tables) (I : Image s t) where
         ∙ ap (λ (n : ℕ). flClock b (lastOf c cs) n (clockFrom s (suc j) c (tick s j a c x) cs)) (omega arith))
 
   -- the totals of a run of these calls
-  pub schedule-exact : (b : Break) → s .rest ≡ some b → (calls : List ℕ) → length calls ≤ mostCalls → All (Place s) calls
+  pub schedule-exact : (b : Break) → s .head .rest ≡ some b → (calls : List ℕ) → length calls ≤ mostCalls → All (Place s) calls
       → scheduleF t (flBreak b) calls ≡ Option·map flTotals (clock s calls)
   unfolding endF clock
   schedule-exact b rest-is calls few i =

@@ -10,7 +10,7 @@ use lib.Seq.{drop-cons, take-all}
 use lib.Dec.{leb}
 use lib.Ieee.{Float}
 use borrow.Author.Tests.{leb-true, leb-false}
-use Rattle.basics.specs.Tests.{by-test}
+use Rattle.basics.proofs.TestLaws.{by-test}
 use Rattle.basics.specs.Options.{_>>=_}
 use Rattle.definitions.specs.Sheet.{BreakOf, CustomerOf}
 use Rattle.evaluation.specs.declared.way.Way.{Way}

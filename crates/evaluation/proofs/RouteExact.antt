@@ -9,7 +9,7 @@ use lib.ListN.{length, getD, take, length-take}
 use borrow.Author.Tests.{ne-eqb}
 use lib.Ieee as Ieee
 use lib.Ieee.{Float, binary64}
-use Rattle.basics.specs.Tests.{by-test}
+use Rattle.basics.proofs.TestLaws.{by-test}
 use Rattle.basics.specs.Options.{_>>=_, Holds, given, present}
 use Rattle.basics.specs.Lists.{All}
 use Rattle.definitions.specs.Domain.{mostCalls}
@@ -19,12 +19,16 @@ use Rattle.definitions.specs.Run.{start, serveAt, serve, breakStart, breakAt, s
 use Rattle.definitions.specs.Clock.{clockFrom, counts, clock, startOf}
 use Rattle.definitions.specs.Evaluation.{Evaluation, routeEval, routeFeasible, effectiveCost}
 use Rattle.definitions.specs.Refusals.{Within, WithinCalls}
-use Rattle.bounds.specs.Inside.{SmallBreak, Sized, sized, Place, few-calls, calls-inside, depot-inside, last-inside, call-inside, all-take, time-small}
-use Rattle.bounds.specs.Inside as Inside
-use Rattle.bounds.specs.Bounds.{Early, begun, start-early, serve-all-most, distance-most, clock-most, TotalsFit, totals-fit}
+use Rattle.bounds.specs.Sized.{SmallBreak, Sized, Place}
+use Rattle.bounds.proofs.Inside.{sized, few-calls, calls-inside, depot-inside, last-inside, call-inside, time-small}
+use Rattle.basics.proofs.ListLaws.{all-take}
+use Rattle.bounds.specs.Sized as Inside
+use Rattle.bounds.specs.Bounds.{Early, begun, TotalsFit}
+use Rattle.bounds.proofs.BoundLaws.{start-early, serve-all-most, distance-most, clock-most, totals-fit}
 use Rattle.theorems.proofs.Legality.{plain}
-use Rattle.whole.specs.Whole.{fl, fl-add}
-use Rattle.whole.specs.Larger.{larger-fl}
+use Rattle.whole.specs.Whole.{fl}
+use Rattle.whole.proofs.WholeLaws.{fl-add}
+use Rattle.whole.proofs.LargerLaws.{larger-fl}
 use Rattle.models.specs.Image.{flBreak}
 use Rattle.models.specs.Limits.{allowF}
 use Rattle.models.proofs.Exact.{Small, allow-exact}
@@ -80,14 +84,21 @@ module _ (s : Sheet) (S : Sized s) (t : Tables) (I : Image s t) where
   unfolding throughF wayOnF legsF serveAll
   way-exact k j a pos far l [] h p i E = refl
   way-exact k j a pos far l (c ∷ cs) h p i E =
-      ap (λ (o : Option Label). (o >>= λ m. some (record { distance = Ieee.add binary64 far (distanceF t a c); label = m; prev = c })) >>= λ v. wayF t v cs) (carry-exact s S t I k (omega arith) none tt 0 a c p (i .0) (some l) E)
-      ∙ (go (serve s none 0 a c l) (carried-early s S t I k (omega arith) none tt 0 a c (some l) E) (λ m F. way-exact (suc k) (suc j) c (omega arith) (Ieee.add binary64 far (distanceF t a c)) m cs (omega arith) (i .0) (i .1) F)
-      ∙ ap (λ (o : Option Whole.Label). behind (Ieee.add binary64 far (distanceF t a c)) c cs (serveAll s 0 (suc j) c o cs)) (unnumbered j a c pos (some l)))
+      ap (λ (o : Option Label). (o >>= λ m. some (after m)) >>= λ v. wayF t v cs) (carry-exact s S t I k (omega arith) none tt 0 a c p (i .0) (some l) E)
+      ∙ (go (serve s none 0 a c l) (carried-early s S t I k (omega arith) none tt 0 a c (some l) E)
+      (λ m F. way-exact (suc k) (suc j) c (omega arith) farther m cs (omega arith) (i .0) (i .1) F)
+      ∙ ap (λ (o : Option Whole.Label). behind farther c cs (serveAll s 0 (suc j) c o cs)) (unnumbered j a c pos (some l)))
     where
+      farther : Float
+      farther = Ieee.add binary64 far (distanceF t a c)
+
+      -- the way with this call
+      after : Label → Way
+      after m = record { distance = farther; label = m; prev = c }
+
       go : (o : Option Whole.Label) → Holds (Early (suc k)) o
-          → ((m : Whole.Label) → Early (suc k) m → wayF t (record { distance = Ieee.add binary64 far (distanceF t a c); label = flLabel m; prev = c }) cs ≡ behind (Ieee.add binary64 far (distanceF t a c)) c cs (serveAll s 0 (suc j) c (some m) cs))
-          → ((Option·map flLabel o >>= λ m. some (record { distance = Ieee.add binary64 far (distanceF t a c); label = m; prev = c })) >>= λ v. wayF t v cs)
-          ≡ behind (Ieee.add binary64 far (distanceF t a c)) c cs (serveAll s 0 (suc j) c o cs)
+          → ((m : Whole.Label) → Early (suc k) m → wayF t (after (flLabel m)) cs ≡ behind farther c cs (serveAll s 0 (suc j) c (some m) cs))
+          → ((Option·map flLabel o >>= λ m. some (after m)) >>= λ v. wayF t v cs) ≡ behind farther c cs (serveAll s 0 (suc j) c o cs)
       go none F on = rw (nowhere (suc j) c cs)
       go (some m) F on = on m F
 
@@ -100,18 +111,19 @@ module _ (s : Sheet) (S : Sized s) (t : Tables) (I : Image s t) where
     last-early l e = subst (Holds (Early (length calls))) e (serve-all-most s S 0 calls few)
 
     -- what follows the way through the calls goes on from that label
-    pub driven : {C : Type 0} (g : Way → Option C) → (wayF t startWay calls >>= g) ≡ (Option·map flLabel last >>= λ m. g (record { distance = legsF t (fl 0) 0 calls; label = m; prev = lastOf 0 calls }))
+    pub driven : {C : Type 0} (g : Way → Option C)
+        → (wayF t startWay calls >>= g) ≡ (Option·map flLabel last >>= λ m. g (record { distance = legsF t (fl 0) 0 calls; label = m; prev = lastOf 0 calls }))
     driven g = ap (λ (o : Option Way). o >>= g) (way-exact 0 1 0 (omega arith) (fl 0) start calls (omega arith) (depot-inside s S) i start-early) ∙ joined (Option·map flLabel last) _ g
 
   module _ (calls : List ℕ) (few : length calls ≤ mostCalls) (i : All (Place s) calls) where
     -- with no break on the sheet the clock has the one label
-    pub plain-clock : s .rest ≡ none → clock s calls ≡ (last calls few i >>= λ l. some (home s calls l))
+    pub plain-clock : s .head .rest ≡ none → clock s calls ≡ (last calls few i >>= λ l. some (home s calls l))
     unfolding clock
     plain-clock rest-is =
         ap (λ (o : Option Break). counts o (time s (lastOf 0 calls) 0) (clockFrom s 1 0 begun calls) >>= λ l. some (home s calls l)) rest-is
         ∙ ap (λ (o : Option Whole.Label). o >>= λ l. some (home s calls l)) (plain s calls)
 
-    pub plain-exact : s .rest ≡ none → plainF t startWay calls ≡ Option·map flTotals (clock s calls)
+    pub plain-exact : s .head .rest ≡ none → plainF t startWay calls ≡ Option·map flTotals (clock s calls)
     unfolding plainF
     plain-exact rest-is =
         let far = distanceFrom s 0 calls in
@@ -123,15 +135,16 @@ module _ (s : Sheet) (S : Sized s) (t : Tables) (I : Image s t) where
           zero-add far,
           plain-clock rest-is,
         )
-        (through (last calls few i) flLabel _ flTotals (λ l. some (ended far back l)) (λ l e. home-exact (length calls) few far back (time-small s S (lastOf 0 calls) 0) l (last-early calls few i l e)))
+        (through (last calls few i) flLabel _ flTotals (λ l. some (ended far back l))
+        (λ l e. home-exact (length calls) few far back (time-small s S (lastOf 0 calls) 0) l (last-early calls few i l e)))
 
     -- ---- with a break or without
 
-    pub totals-exact : totalsF t (Option·map flBreak (s .rest)) calls ≡ Option·map flTotals (clock s calls)
+    pub totals-exact : totalsF t (Option·map flBreak (s .head .rest)) calls ≡ Option·map flTotals (clock s calls)
     unfolding totalsF
-    totals-exact = go (s .rest) refl
+    totals-exact = go (s .head .rest) refl
       where
-        go : (o : Option Break) → s .rest ≡ o → totalsF t (Option·map flBreak o) calls ≡ Option·map flTotals (clock s calls)
+        go : (o : Option Break) → s .head .rest ≡ o → totalsF t (Option·map flBreak o) calls ≡ Option·map flTotals (clock s calls)
         go none e = plain-exact e
         go (some b) e = schedule-exact s S t I b e calls few i
 
@@ -146,7 +159,9 @@ module _ (s : Sheet) (S : Sized s) (t : Tables) (I : Image s t) where
         → given (allowF (flLimits s .maxDistance) (flLimits s .maxDuration) (fl (u .distance)) (fl (u .duration))) (flTotals u) ≡ Option·map flTotals (given (allowed s u) u)
     allowed-one u e =
         let F = totals-fit-here u e in
-        rw (allow-exact (s .maxDistance) (s .maxDuration) (u .distance) (u .duration) (small-limit (s .maxDistance) (S .far-small)) (small-limit (s .maxDuration) (S .long-small)) (F .distance-fits) (F .duration-fits))
+        let far = small-limit (s .head .maxDistance) (S .far-small) in
+        let long = small-limit (s .head .maxDuration) (S .long-small) in
+        rw (allow-exact (s .head .maxDistance) (s .head .maxDuration) (u .distance) (u .duration) far long (F .distance-fits) (F .duration-fits))
         (by-test (allowed s u) (λ y. rw y) (λ n. rw n))
 
     pub allowed-exact : allowedF t (flLimits s) calls ≡ Option·map flTotals kept
@@ -170,16 +185,17 @@ module _ (s : Sheet) (S : Sized s) (t : Tables) (I : Image s t) where
         ∙ rw (time-exact s S t I from to (last-inside s 0 done (depot-inside s S) within) (call-inside s S calls k i))
         (through (last done less within) flLabel _ fl (λ l. some (breakStart b (l .time + time s from to)))
         (λ l e. let E = last-early done less within l e in
-        rw (fl-add (l .time) (time s from to) (omega arith) (omega (arith, time-small s S from to)), larger-fl (l .time + time s from to) (b .earliest) (omega (arith, time-small s S from to)) (omega arith))))
+        let short = time-small s S from to in
+        rw (fl-add (l .time) (time s from to) (omega arith) (omega arith), larger-fl (l .time + time s from to) (b .earliest) (omega arith) (omega arith))))
 
-    pub start-exact : (place : ℕ) → startF t (Option·map flBreak (s .rest)) place calls ≡ Option·map fl (startOf s (record { calls = calls; place = place }))
+    pub start-exact : (place : ℕ) → startF t (Option·map flBreak (s .head .rest)) place calls ≡ Option·map fl (startOf s (record { calls = calls; place = place }))
     unfolding startF startOf
-    start-exact zero = unplaced (s .rest)
+    start-exact zero = unplaced (s .head .rest)
       where
         unplaced : (o : Option Break) → startF t (Option·map flBreak o) zero calls ≡ none
         unplaced none = refl
         unplaced (some b) = refl
-    start-exact (suc k) = go (s .rest) (S .rest-small)
+    start-exact (suc k) = go (s .head .rest) (S .rest-small)
       where
         go : (o : Option Break) → Holds SmallBreak o
             → startF t (Option·map flBreak o) (suc k) calls
@@ -189,19 +205,19 @@ module _ (s : Sheet) (S : Sized s) (t : Tables) (I : Image s t) where
 
     -- ---- the evaluations
 
-    pub eval-exact : evalF t (flLimits s) calls ≡ Option·map flEvaluation (routeEval s calls)
+    pub sized-eval-exact : evalF t (flLimits s) calls ≡ Option·map flEvaluation (routeEval s calls)
     unfolding evalF routeEval
-    eval-exact = rw allowed-exact (go (clock s calls))
+    sized-eval-exact = rw allowed-exact (go (clock s calls))
       where
         go : (o : Option Totals)
-            → (Option·map flTotals (o >>= λ u. given (allowed s u) u) >>= λ u. some (record { totals = u; start = startF t (Option·map flBreak (s .rest)) (u .place) calls }))
+            → (Option·map flTotals (o >>= λ u. given (allowed s u) u) >>= λ u. some (record { totals = u; start = startF t (Option·map flBreak (s .head .rest)) (u .place) calls }))
             ≡ Option·map flEvaluation (o >>= λ u. given (allowed s u) (evaluated s calls u))
         go none = refl
         go (some u) = by-test (allowed s u) (λ y. rw (y, start-exact (u .place))) (λ n. rw n)
 
-    pub feasible-exact : feasibleF t (flLimits s) calls ≡ routeFeasible s calls
+    pub sized-feasible-exact : feasibleF t (flLimits s) calls ≡ routeFeasible s calls
     unfolding feasibleF routeFeasible routeEval
-    feasible-exact = rw allowed-exact (go (clock s calls))
+    sized-feasible-exact = rw allowed-exact (go (clock s calls))
       where
         go : (o : Option Totals)
             → present (Option·map flTotals (o >>= λ u. given (allowed s u) u))
@@ -209,9 +225,9 @@ module _ (s : Sheet) (S : Sized s) (t : Tables) (I : Image s t) where
         go none = refl
         go (some u) = by-test (allowed s u) (λ y. rw y) (λ n. rw n)
 
-    pub cost-exact : costF t (flLimits s) calls ≡ flCost (effectiveCost s calls)
+    pub sized-cost-exact : costF t (flLimits s) calls ≡ flCost (effectiveCost s calls)
     unfolding costF effectiveCost routeEval
-    cost-exact = rw allowed-exact (go (clock s calls) refl)
+    sized-cost-exact = rw allowed-exact (go (clock s calls) refl)
       where
         go : (o : Option Totals) → clock s calls ≡ o
             → pricedF (Option·map flTotals (o >>= λ u. given (allowed s u) u))
@@ -224,11 +240,11 @@ module _ (s : Sheet) (S : Sized s) (t : Tables) (I : Image s t) where
 -- ---- by the limits of the Domain
 
 module _ (s : Sheet) (W : Within s) (t : Tables) (I : Image s t) (calls : List ℕ) (C : WithinCalls s calls) where
-  pub eval-whole : evalF t (flLimits s) calls ≡ Option·map flEvaluation (routeEval s calls)
-  eval-whole = eval-exact s (sized s W) t I calls (few-calls s calls C) (calls-inside s calls C)
+  pub eval-exact : evalF t (flLimits s) calls ≡ Option·map flEvaluation (routeEval s calls)
+  eval-exact = sized-eval-exact s (sized s W) t I calls (few-calls s calls C) (calls-inside s calls C)
 
-  pub feasible-whole : feasibleF t (flLimits s) calls ≡ routeFeasible s calls
-  feasible-whole = feasible-exact s (sized s W) t I calls (few-calls s calls C) (calls-inside s calls C)
+  pub feasible-exact : feasibleF t (flLimits s) calls ≡ routeFeasible s calls
+  feasible-exact = sized-feasible-exact s (sized s W) t I calls (few-calls s calls C) (calls-inside s calls C)
 
-  pub cost-whole : costF t (flLimits s) calls ≡ flCost (effectiveCost s calls)
-  cost-whole = cost-exact s (sized s W) t I calls (few-calls s calls C) (calls-inside s calls C)
+  pub cost-exact : costF t (flLimits s) calls ≡ flCost (effectiveCost s calls)
+  cost-exact = sized-cost-exact s (sized s W) t I calls (few-calls s calls C) (calls-inside s calls C)

@@ -22,14 +22,25 @@ flCost none = inf false
 flCost (some n) = fl n
 
 abbrev pub flLimits : Sheet → LimitsF
-flLimits s = record { maxDistance = Option·map fl (s .maxDistance); maxDuration = Option·map fl (s .maxDuration); rest = Option·map flBreak (s .rest) }
+flLimits s =
+    record {
+      maxDistance = Option·map fl (s .head .maxDistance);
+      maxDuration = Option·map fl (s .head .maxDuration);
+      rest = Option·map flBreak (s .head .rest);
+    }
 
 abbrev pub flTables : Sheet → Tables
-flTables s = record { customers = map flCustomer (s .customers); distances = map fl (s .distances); times = map fl (s .times); size = s .places }
+flTables s =
+    record {
+      customers = map flCustomer (s .customers);
+      distances = map fl (s .legs .distances);
+      times = map fl (s .legs .times);
+      size = s .head .places;
+    }
 
 -- the tables hold the sheet; what is lent beyond its places may be anything
 pub record Image (s : Sheet) (t : Tables) : Type 0 where
-  pub size-is : t .size ≡ s .places
-  pub distances-are : t .distances ≡ map fl (s .distances)
-  pub times-are : t .times ≡ map fl (s .times)
-  pub records-are : take (s .places) (t .customers) ≡ map flCustomer (s .customers)
+  pub size-is : t .size ≡ s .head .places
+  pub distances-are : t .distances ≡ map fl (s .legs .distances)
+  pub times-are : t .times ≡ map fl (s .legs .times)
+  pub records-are : take (s .head .places) (t .customers) ≡ map flCustomer (s .customers)

@@ -56,7 +56,14 @@ pub record EvaluationF : Type 0 where
 abbrev pub evaluationOf : RouteEval → EvaluationF
 evaluationOf e =
     record {
-      totals = record { distance = e .distance; duration = e .duration; lateness = e .lateness; cost = e .«lateness_cost»; place = e .place };
+      totals =
+          record {
+            distance = e .distance;
+            duration = e .duration;
+            lateness = e .lateness;
+            cost = e .«lateness_cost»;
+            place = e .place;
+          };
       start = startOf (e .start);
     }
 

@@ -1,13 +1,14 @@
 -- What is looked up for a call: its record, what it asks for, the distance and the travel time. Definitions only.
 use Prim.Native.Nat.{ℕ, zero, suc}
 use mathlib.Core.Bool.{cond}
-use mathlib.Core.List.{List, [], _∷_, map}
+use mathlib.Core.Path.{_≡_}
+use mathlib.Core.List.{List, [], _∷_}
 use mathlib.Core.Option.{none}
 use lib.Dec.{ltb}
 use lib.Ieee as Ieee
 use lib.Ieee.{Float, binary64}
 use lib.ListN.{getD}
-use Rattle.basics.specs.Lists.{sum}
+use Rattle.definitions.specs.Load.{Load, noLoad, loadBy}
 use Rattle.definitions.specs.Sheet.{CustomerOf, timeTable}
 use Rattle.whole.specs.Whole.{fl}
 use Rattle.distance.specs.Lookup.{lookupF}
@@ -19,26 +20,30 @@ recordIndex c = cond (ltb c 64) c 0
 
 -- what stands where there is no record
 abbrev pub blank : CustomerOf Float
-blank = record { demand = 0; service = fl 0; window = none; penalty = none }
+blank = record { demand = noLoad; service = fl 0; window = none; penalty = none }
 
 unfoldable pub recordF : Tables → ℕ → CustomerOf Float
 recordF t c = getD (t .customers) (recordIndex c) blank
 
 -- what a call asks for
-unfoldable pub demandF : List (CustomerOf Float) → ℕ → ℕ
+unfoldable pub demandF : List (CustomerOf Float) → ℕ → Load
 demandF customers c = getD customers (recordIndex c) blank .demand
 
--- what each record asks for
-abbrev pub demandsOf : List (CustomerOf Float) → List ℕ
-demandsOf customers = map (λ (x : CustomerOf Float). x .demand) customers
+-- what record k asks for, from a list of numbers
+abbrev pub askedAt : List ℕ → ℕ → Load
+askedAt demands k = record { seats = getD demands k 0 }
 
--- what a call asks for, from that list
-abbrev pub askedF : List ℕ → ℕ → ℕ
-askedF demands c = getD demands (recordIndex c) 0
+-- what a call asks for
+abbrev pub askedF : List ℕ → ℕ → Load
+askedF demands c = askedAt demands (recordIndex c)
+
+-- the list holds what each record asks for
+abbrev pub Asks : List (CustomerOf Float) → List ℕ → Type 0
+Asks customers demands = (c : ℕ) → askedF demands c ≡ demandF customers c
 
 -- and what calls ask for in all
-unfoldable pub loadF : List ℕ → List ℕ → ℕ
-loadF demands calls = sum (askedF demands) calls
+unfoldable pub loadF : List ℕ → List ℕ → Load
+loadF demands calls = loadBy (askedF demands) calls
 
 -- the place before call number k of a run, from 0: the call before it, or the depot
 unfoldable pub placeBefore : List ℕ → ℕ → ℕ

@@ -55,7 +55,8 @@ pub fn is_limited(limits: RouteLimits) -> bool
     has_rest(rest)
 }
 
-// Whether `route_feasible` has to be asked at all: without a window among the first n customers, a limit and a break every run is feasible.
+// Whether `route_feasible` has to be asked at all: without a window among the first n customers, a limit and a break
+// every run is feasible.
 pub fn route_checks_needed(customers: [Customer; 64], n: usize, limits: RouteLimits) -> bool
     ensures { λ r. ⌜ r ≡ checksNeededF (map customerOf customers) n (limitsOf limits) ⌝ }
 {

@@ -1,46 +1,52 @@
 // What records and calls ask for, one by one and in all.
 ghost use mathlib.Core.Path.{_≡_};
 ghost use mathlib.Core.List.{map};
-ghost use Prim.Native.Nat.{_*_, _<_, _≤_};
+ghost use Prim.Native.Nat.{_≤_};
 ghost use lib.ListN.{length};
+ghost use Rattle.models.specs.Load.{spaceOf, loadOf, UpTo};
 ghost use Rattle.models.specs.Records.{customerOf};
-ghost use Rattle.evaluation.specs.Tables.{demandsOf, askedF, loadF};
+ghost use Rattle.evaluation.specs.Tables.{askedF, loadF, Asks};
 use crate::schedule::record_index;
 use models::customer::Customer;
-use models::load::wide;
+use models::load::Load;
+use models::load::Space;
+use models::load::seats;
 
-// What each record asks for.
-pub fn demands_of(customers: [Customer; 64]) -> [u32; 64]
-    ensures { λ r. ⌜ (length r ≡ 64) × (r ≡ demandsOf (map customerOf customers)) ⌝ }
+// What each record asks for, as numbers: these can be lent, where records would be copied. Whoever adds a measure makes
+// the list longer, and adds a part of the next two functions.
+pub type Demands = [u32; 64];
+
+pub fn demands_of(customers: [Customer; 64]) -> Demands
+    ensures { λ r. ⌜ (length r ≡ 64) × Asks (map customerOf customers) r ⌝ }
 {
     let mut demands = [0u32; 64];
     let mut i = 0;
     while i < 64 {
         let customer = customers[i];
-        demands[i] = customer.demand;
+        demands[i] = customer.demand.seats;
         i += 1;
     }
     demands
 }
 
 // What a call asks for, from that list.
-pub fn demand_at(demands: &[u32; 64], cid: usize) -> u64
-    ensures { λ r. ⌜ (r ≡ askedF (now (demands .entry)) cid) × (r < 4294967296) ⌝ }
+pub fn demand_at(demands: &Demands, cid: usize) -> Space
+    ensures { λ r. ⌜ spaceOf r ≡ askedF (now (demands .entry)) cid ⌝ }
 {
     let index = record_index(cid);
-    wide(demands[index])
+    seats(demands[index])
 }
 
 // What the calls ask for in all.
-pub fn load_of(calls: &[usize], demands: &[u32; 64]) -> u64
+pub fn load_of(calls: &[usize], demands: &Demands) -> Load
     requires { ⌜ length (now calls) ≤ 128 ⌝ }
-    ensures { λ r. ⌜ (r ≡ loadF (now (demands .entry)) (now (calls .entry))) × (r ≤ 128 * 4294967296) ⌝ }
+    ensures { λ r. ⌜ (loadOf r ≡ loadF (now (demands .entry)) (now (calls .entry))) × UpTo 128 (loadOf r) ⌝ }
 {
-    let mut load: u64 = 0;
+    let mut load = Load::none();
     let mut i = 0;
     while i < calls.len() {
         let cid = calls[i];
-        load += demand_at(demands, cid);
+        load = load.plus(demand_at(demands, cid));
         i += 1;
     }
     load

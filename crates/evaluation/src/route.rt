@@ -1,4 +1,5 @@
-// The evaluations of a run (evaluation/mod.rs): with a break by its clock, and without one by the plain way through its calls. None of them looks at load.
+// The evaluations of a run (evaluation/mod.rs): with a break by its clock, and without one by the plain way through its
+// calls. None of them looks at load.
 ghost use mathlib.Core.Path.{_≡_};
 ghost use lib.ListN.{getD};
 ghost use Rattle.models.specs.Records.{breakOf, restOf};
@@ -13,7 +14,7 @@ use crate::way::plain_from;
 use crate::way::way_through;
 use clock::schedule::Finished;
 use clock::schedule::break_start_at;
-use distance::matrix::travel_time;
+use distance::leg::leg_between;
 use models::count::fewer;
 use models::customer::Customer;
 use models::limits::RouteLimits;
@@ -58,7 +59,9 @@ pub fn totals(
     size: usize,
     rest: Rest,
 ) -> Finished
-    ensures { λ r. ⌜ finishedOf r ≡ totalsF (lent customers (now (distances .entry)) (now (times .entry)) size) (restOf rest) (now (route .entry)) ⌝ }
+    ensures { λ r.
+        let tables = lent customers (now (distances .entry)) (now (times .entry)) size in
+        ⌜ finishedOf r ≡ totalsF tables (restOf rest) (now (route .entry)) ⌝ }
 {
     match rest {
         Rest::Unbroken => plain_from(Way::start(), route, customers, distances, times, size),
@@ -75,7 +78,9 @@ pub fn allowed(
     size: usize,
     limits: RouteLimits,
 ) -> Finished
-    ensures { λ r. ⌜ finishedOf r ≡ allowedF (lent customers (now (distances .entry)) (now (times .entry)) size) (limitsOf limits) (now (route .entry)) ⌝ }
+    ensures { λ r.
+        let tables = lent customers (now (distances .entry)) (now (times .entry)) size in
+        ⌜ finishedOf r ≡ allowedF tables (limitsOf limits) (now (route .entry)) ⌝ }
 {
     let rest = limits.rest;
     let Finished::Home(s) = totals(route, customers, distances, times, size, rest) else {
@@ -97,7 +102,9 @@ pub fn route_feasible(
     size: usize,
     limits: RouteLimits,
 ) -> bool
-    ensures { λ r. ⌜ r ≡ feasibleF (lent customers (now (distances .entry)) (now (times .entry)) size) (limitsOf limits) (now (route .entry)) ⌝ }
+    ensures { λ r.
+        let tables = lent customers (now (distances .entry)) (now (times .entry)) size in
+        ⌜ r ≡ feasibleF tables (limitsOf limits) (now (route .entry)) ⌝ }
 {
     match allowed(route, customers, distances, times, size, limits) {
         Finished::Impossible => false,
@@ -114,7 +121,9 @@ pub fn effective_cost(
     size: usize,
     limits: RouteLimits,
 ) -> f64
-    ensures { λ r. ⌜ r ≡ costF (lent customers (now (distances .entry)) (now (times .entry)) size) (limitsOf limits) (now (route .entry)) ⌝ }
+    ensures { λ r.
+        let tables = lent customers (now (distances .entry)) (now (times .entry)) size in
+        ⌜ r ≡ costF tables (limitsOf limits) (now (route .entry)) ⌝ }
 {
     match allowed(route, customers, distances, times, size, limits) {
         Finished::Impossible => infinity(),
@@ -146,7 +155,9 @@ pub fn break_start(
     rest: VehicleBreak,
     k: usize,
 ) -> Start
-    ensures { λ r. ⌜ startOf r ≡ breakStartAtF (lent customers (now (distances .entry)) (now (times .entry)) size) (breakOf rest) k (now (route .entry)) ⌝ }
+    ensures { λ r.
+        let tables = lent customers (now (distances .entry)) (now (times .entry)) size in
+        ⌜ startOf r ≡ breakStartAtF tables (breakOf rest) k (now (route .entry)) ⌝ }
 {
     let n = fewer(k, route.len());
     let begun = &route[..n];
@@ -156,8 +167,8 @@ pub fn break_start(
     let label = d.label;
     let prev = d.prev;
     let cid = call_at(route, k);
-    let arrival = label.time + travel_time(distances, times, size, prev, cid);
-    Start::At(break_start_at(rest, arrival))
+    let leg = leg_between(distances, times, size, prev, cid);
+    Start::At(break_start_at(rest, label.time + leg.time))
 }
 
 // When the break of that place starts; a place of 0 is none.
@@ -170,7 +181,9 @@ pub fn start_of(
     rest: Rest,
     place: usize,
 ) -> Start
-    ensures { λ r. ⌜ startOf r ≡ startF (lent customers (now (distances .entry)) (now (times .entry)) size) (restOf rest) place (now (route .entry)) ⌝ }
+    ensures { λ r.
+        let tables = lent customers (now (distances .entry)) (now (times .entry)) size in
+        ⌜ startOf r ≡ startF tables (restOf rest) place (now (route .entry)) ⌝ }
 {
     let Rest::Break(b) = rest else {
         return Start::Unbroken;
@@ -190,7 +203,9 @@ pub fn break_of(
     size: usize,
     rest: Rest,
 ) -> Taken
-    ensures { λ r. ⌜ takenOf r ≡ breakF (lent customers (now (distances .entry)) (now (times .entry)) size) (restOf rest) (now (run .entry)) ⌝ }
+    ensures { λ r.
+        let tables = lent customers (now (distances .entry)) (now (times .entry)) size in
+        ⌜ takenOf r ≡ breakF tables (restOf rest) (now (run .entry)) ⌝ }
 {
     let Finished::Home(home) = totals(run, customers, distances, times, size, rest) else {
         return Taken {
@@ -212,7 +227,9 @@ pub fn route_eval(
     size: usize,
     limits: RouteLimits,
 ) -> Evaluated
-    ensures { λ r. ⌜ evaluatedOf r ≡ evalF (lent customers (now (distances .entry)) (now (times .entry)) size) (limitsOf limits) (now (route .entry)) ⌝ }
+    ensures { λ r.
+        let tables = lent customers (now (distances .entry)) (now (times .entry)) size in
+        ⌜ evaluatedOf r ≡ evalF tables (limitsOf limits) (now (route .entry)) ⌝ }
 {
     let Finished::Home(s) = allowed(route, customers, distances, times, size, limits) else {
         return Evaluated::NotAllowed;

@@ -11,8 +11,7 @@ ghost use Rattle.evaluation.specs.Tables.{recordIndex};
 ghost use Rattle.evaluation.specs.Schedule.{endF, scheduleF};
 use clock::schedule::BreakClock;
 use clock::schedule::Finished;
-use distance::matrix::get;
-use distance::matrix::travel_time;
+use distance::leg::leg_between;
 use models::customer::Customer;
 use models::vehicle::VehicleBreak;
 
@@ -51,7 +50,9 @@ pub fn clock_from(
     size: usize,
 ) -> Finished
     requires { ⌜ from .clock .index + length (now calls) < 0xFFFF_FFFF_FFFF_FFFF ⌝ }
-    ensures { λ r. ⌜ finishedOf r ≡ endF (lent customers (now (distances .entry)) (now (times .entry)) size) (clockOf (from .clock)) (from .distance) (now (calls .entry)) ⌝ }
+    ensures { λ r.
+        let tables = lent customers (now (distances .entry)) (now (times .entry)) size in
+        ⌜ finishedOf r ≡ endF tables (clockOf (from .clock)) (from .distance) (now (calls .entry)) ⌝ }
 {
     let mut clock = from.clock;
     let mut distance = from.distance;
@@ -59,21 +60,18 @@ pub fn clock_from(
     while i < calls.len() {
         let cid = calls[i];
         let prev = clock.prev;
-        distance = distance + get(distances, size, prev, cid);
+        let leg = leg_between(distances, times, size, prev, cid);
+        distance = distance + leg.distance;
         let index = record_index(cid);
-        clock = clock.push(
-            cid,
-            customers[index],
-            travel_time(distances, times, size, prev, cid),
-        );
+        clock = clock.push(cid, customers[index], leg.time);
         if !clock.alive() {
             return Finished::Impossible;
         }
         i += 1;
     }
     let last = clock.prev;
-    distance = distance + get(distances, size, last, 0);
-    clock.finish(distance, travel_time(distances, times, size, last, 0))
+    let back = leg_between(distances, times, size, last, 0);
+    clock.finish(distance + back.distance, back.time)
 }
 
 // The clock of a whole run with this break.
@@ -85,7 +83,9 @@ pub fn schedule(
     size: usize,
     rest: VehicleBreak,
 ) -> Finished
-    ensures { λ r. ⌜ finishedOf r ≡ scheduleF (lent customers (now (distances .entry)) (now (times .entry)) size) (breakOf rest) (now (route .entry)) ⌝ }
+    ensures { λ r.
+        let tables = lent customers (now (distances .entry)) (now (times .entry)) size in
+        ⌜ finishedOf r ≡ scheduleF tables (breakOf rest) (now (route .entry)) ⌝ }
 {
     clock_from(Timed::start(rest), route, customers, distances, times, size)
 }

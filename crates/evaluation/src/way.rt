@@ -1,18 +1,15 @@
 // The way of a run with no break, from anywhere on: a call more, the calls that are left, and home.
 ghost use mathlib.Core.Path.{_≡_};
-ghost use Rattle.distance.specs.Lookup.{lookupF};
 ghost use Rattle.models.specs.Records.{customerOf};
 ghost use Rattle.clock.specs.Records.{finishedOf};
 ghost use Rattle.evaluation.specs.Records.{drivenOf, lent};
-ghost use Rattle.evaluation.specs.Tables.{recordF};
-ghost use Rattle.evaluation.specs.Way.{startWay, wayOnF, throughF, wayF, plainF};
+ghost use Rattle.evaluation.specs.Way.{startWay, wayOnF, wayF, plainF};
 use crate::schedule::record_index;
 use clock::schedule::Finished;
 use clock::schedule::Label;
 use clock::schedule::Reached;
 use clock::schedule::serve;
-use distance::matrix::get;
-use distance::matrix::travel_time;
+use distance::leg::leg_between;
 use models::customer::Customer;
 use models::vehicle::Rest;
 
@@ -57,35 +54,7 @@ impl Way {
     }
 }
 
-// The way on through these calls, by a table of travel times.
-pub fn drive_on(
-    from: Way,
-    calls: &[usize],
-    customers: [Customer; 64],
-    distances: &[f64],
-    table: &[f64],
-    size: usize,
-) -> Driven
-    ensures { λ r. ⌜ drivenOf r ≡ throughF (lookupF (now (distances .entry)) size) (lookupF (now (table .entry)) size) (recordF (lent customers (now (distances .entry)) (now (table .entry)) size)) from (now (calls .entry)) ⌝ }
-{
-    let mut way = from;
-    let mut i = 0;
-    while i < calls.len() {
-        let cid = calls[i];
-        let prev = way.prev;
-        let leg = get(distances, size, prev, cid);
-        let travel = get(table, size, prev, cid);
-        let index = record_index(cid);
-        let Driven::To(w) = way.on(cid, customers[index], leg, travel) else {
-            return Driven::Failed;
-        };
-        way = w;
-        i += 1;
-    }
-    Driven::To(way)
-}
-
-// The same by the travel times; without a time table they are the distances. Which table it is is asked once, and not at each leg.
+// The way on through these calls.
 pub fn way_through(
     from: Way,
     calls: &[usize],
@@ -94,13 +63,24 @@ pub fn way_through(
     times: &[f64],
     size: usize,
 ) -> Driven
-    ensures { λ r. ⌜ drivenOf r ≡ wayF (lent customers (now (distances .entry)) (now (times .entry)) size) from (now (calls .entry)) ⌝ }
+    ensures { λ r.
+        let tables = lent customers (now (distances .entry)) (now (times .entry)) size in
+        ⌜ drivenOf r ≡ wayF tables from (now (calls .entry)) ⌝ }
 {
-    if times.len() == 0 {
-        drive_on(from, calls, customers, distances, distances, size)
-    } else {
-        drive_on(from, calls, customers, distances, times, size)
+    let mut way = from;
+    let mut i = 0;
+    while i < calls.len() {
+        let cid = calls[i];
+        let prev = way.prev;
+        let leg = leg_between(distances, times, size, prev, cid);
+        let index = record_index(cid);
+        let Driven::To(w) = way.on(cid, customers[index], leg.distance, leg.time) else {
+            return Driven::Failed;
+        };
+        way = w;
+        i += 1;
     }
+    Driven::To(way)
 }
 
 // The totals of a run that these calls end.
@@ -112,13 +92,15 @@ pub fn plain_from(
     times: &[f64],
     size: usize,
 ) -> Finished
-    ensures { λ r. ⌜ finishedOf r ≡ plainF (lent customers (now (distances .entry)) (now (times .entry)) size) from (now (calls .entry)) ⌝ }
+    ensures { λ r.
+        let tables = lent customers (now (distances .entry)) (now (times .entry)) size in
+        ⌜ finishedOf r ≡ plainF tables from (now (calls .entry)) ⌝ }
 {
     let Driven::To(d) = way_through(from, calls, customers, distances, times, size) else {
         return Finished::Impossible;
     };
     let label = d.label;
     let prev = d.prev;
-    let distance = d.distance + get(distances, size, prev, 0);
-    Finished::Home(label.home(distance, travel_time(distances, times, size, prev, 0)))
+    let back = leg_between(distances, times, size, prev, 0);
+    Finished::Home(label.home(d.distance + back.distance, back.time))
 }

@@ -1,32 +1,42 @@
--- The answer of an exported call, case by case. Assumes nothing.
+-- What an exported call keeps, in each case of its answer. Assumes nothing.
 use Prim.Native.Nat.{ℕ}
-use mathlib.Core.Path.{_≡_, refl, ap}
+use mathlib.Core.Path.{_≡_, refl, sym, ap, subst, _∙_}
 use mathlib.Core.Bool.{Bool, true, false}
 use mathlib.Core.List.{List}
 use Rattle.definitions.specs.Sheet.{Sheet}
-use Rattle.definitions.specs.Reader.{sheet, refusedAt, read}
-use Rattle.definitions.specs.Room.{short}
-use Rattle.sheet.specs.Summary as Summary
-use Rattle.sheet.specs.Summary.{summaryOf}
-use Rattle.plan_listing.proofs.Reading.{refused-is}
-use Rattle.exports.specs.Answer.{refused, gives, onReading, answer}
+use Rattle.definitions.specs.Reader.{sheet, read}
+use Rattle.definitions.specs.Answers as Call
+use Rattle.sheet_read.specs.Summary as Summary
+use Rattle.sheet_read.specs.Summary.{summaryOf}
+use Rattle.sheet_loaded.proofs.Reading.{refused-is}
+use Rattle.exports.specs.Answer.{Answer, refusedAt, refused, gives, Outputs, outputs, Kept, byCall, onReading, unlessShort}
 
--- t is whether a lent list was found too short
-module _ {A : Type 0} (needs rooms : List ℕ) (result : Sheet → List ℕ → A) (bytes : List ℕ) (t : Bool) (told : t ≡ short needs rooms) where
-  pub short-refused : t ≡ true → answer needs rooms result bytes ≡ refused 13 0
-  short-refused h = rw (← told, h) refl
+module _ {A L : Type 0} (Written : A → (old new : L) → Type 0) (old : Outputs L) where
+  -- an answer that is known to be another keeps what that keeps
+  pub kept-as : {answered same : Answer A} {r : ℕ} {new : Outputs L} → answered ≡ same → Kept Written same old r new → Kept Written answered old r new
+  kept-as {r = r} {new = new} e K = subst (λ (x : Answer A). Kept Written x old r new) (sym e) K
 
-  module _ (h : t ≡ false) where
-    pub read-refused : (number word : ℕ) → read bytes ≡ refusedAt number word → answer needs rooms result bytes ≡ refused number word
-    read-refused number word e = rw (← told, h, e) refl
+  -- ---- where a lent list may be too short; t is whether one was found so
 
-    pub read-given : (s : Sheet) (tour : List ℕ) → read bytes ≡ sheet s tour → answer needs rooms result bytes ≡ gives (result s tour)
-    read-given s tour e = rw (← told, h, e) refl
+  module _ (answered : Answer A) (short : Bool) (t : Bool) (told : t ≡ short) where
+    pub kept-short : t ≡ true → Kept Written (unlessShort short answered) old 13 (outputs 0 (old .room))
+    kept-short h = kept-as (ap (λ (x : Bool). unlessShort x answered) (sym told ∙ h)) (record { result = refl; word = refl; untouched = refl; written = tt })
 
--- the answer of a call on the sheet that bytes are
-module _ (bytes : List ℕ) {A : Type 0} (result : Sheet → List ℕ → A) where
-  pub unread : (number word : ℕ) → Summary.refused number word ≡ summaryOf (read bytes) → onReading result (read bytes) ≡ refused number word
-  unread number word e = ap (onReading result) (refused-is bytes number word e)
+    pub kept-roomy : t ≡ false → {r : ℕ} {new : Outputs L} → Kept Written answered old r new → Kept Written (unlessShort short answered) old r new
+    kept-roomy h K = kept-as (ap (λ (x : Bool). unlessShort x answered) (sym told ∙ h)) K
 
-  pub was-read : (s : Sheet) (tour : List ℕ) → read bytes ≡ sheet s tour → onReading result (read bytes) ≡ gives (result s tour)
-  was-read s tour e = ap (onReading result) e
+  -- ---- a call on the sheet that bytes are
+
+  module _ (bytes : List ℕ) (call : Sheet → List ℕ → Call.Answer A) where
+    -- the reader refuses the bytes
+    pub kept-unread : (number word : ℕ) → Summary.refused number word ≡ summaryOf (read bytes) → Kept Written (onReading call (read bytes)) old number (outputs word (old .room))
+    kept-unread number word e = kept-as (ap (onReading call) (refused-is bytes number word e)) (record { result = refl; word = refl; untouched = refl; written = tt })
+
+    module _ (s : Sheet) (tour : List ℕ) (e : read bytes ≡ sheet s tour) (new : L) where
+      -- the call is refused
+      pub kept-refused : (number : ℕ) → call s tour ≡ Call.refused number → new ≡ old .room → Kept Written (onReading call (read bytes)) old number (outputs (old .word) new)
+      kept-refused number h same = kept-as (ap (onReading call) e ∙ ap byCall h) (record { result = refl; word = refl; untouched = same; written = tt })
+
+      -- or gives its result
+      pub kept-given : (x : A) → call s tour ≡ Call.gives x → Written x (old .room) new → Kept Written (onReading call (read bytes)) old 0 (outputs (old .word) new)
+      kept-given x h w = kept-as (ap (onReading call) e ∙ ap byCall h) (record { result = refl; word = refl; untouched = tt; written = w })

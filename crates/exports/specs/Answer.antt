@@ -1,45 +1,72 @@
--- What an exported call answers over the bytes and the room that it is lent: refused by a number at a word, or its result. Definitions only.
+-- What an exported call answers over the bytes and the lists that it is lent, and what every such call keeps. Definitions only.
 use Prim.Native.Nat.{ℕ}
+use mathlib.Core.Path.{_≡_}
 use mathlib.Core.Bool.{Bool, true, false}
-use mathlib.Core.List.{List, []}
+use mathlib.Core.List.{List}
 use Rattle.definitions.specs.Sheet.{Sheet}
-use Rattle.definitions.specs.Reader.{Reading, sheet, refusedAt, read}
-use Rattle.definitions.specs.Room.{short}
+use Rattle.definitions.specs.Reader as Reader
+use Rattle.definitions.specs.Answers as Call
 
+-- refused at a word, as the reader refuses the bytes; refused by the call; or its result
 pub data Answer (A : Type 0) : Type 0 where
   -- number, and word index from 0
-  refused : (number word : ℕ) → Answer A
+  refusedAt : (number word : ℕ) → Answer A
+  refused : (number : ℕ) → Answer A
   gives : A → Answer A
 
--- what the call returns: 0, or the refusal's number
+-- ---- what a call does with its answer
+
+-- it returns 0, or the number of the refusal
 abbrev pub numberOf : {A : Type 0} → Answer A → ℕ
-numberOf (refused number word) = number
+numberOf (refusedAt number word) = number
+numberOf (refused number) = number
 numberOf (gives result) = 0
 
--- the word of a refusal is written, and stays as it was where there is none
-abbrev pub wordOf : {A : Type 0} → Answer A → ℕ → ℕ
-wordOf (refused number word) old = word
+-- it writes the word of a refusal, which stays as it was where there is none
+abbrev pub wordOf : {A : Type 0} → Answer A → (old : ℕ) → ℕ
+wordOf (refusedAt number word) old = word
+wordOf (refused number) old = old
 wordOf (gives result) old = old
 
--- what is written at the front of a lent list: nothing where the call is refused
-abbrev pub front : {A B : Type 0} → (A → List B) → Answer A → List B
-front list (refused number word) = []
-front list (gives result) = list result
+abbrev pub IfRefused : {A : Type 0} → Answer A → Type 0 → Type 0
+IfRefused (refusedAt number word) P = P
+IfRefused (refused number) P = P
+IfRefused (gives result) P = Unit {0}
 
--- what is set from the result, and stays as it was where the call is refused
-abbrev pub setTo : {A B : Type 0} → (A → B) → Answer A → B → B
-setTo value (refused number word) old = old
-setTo value (gives result) old = value result
+abbrev pub IfGiven : {A : Type 0} → Answer A → (A → Type 0) → Type 0
+IfGiven (refusedAt number word) P = Unit {0}
+IfGiven (refused number) P = Unit {0}
+IfGiven (gives result) P = P result
 
--- the result on the sheet that was read and its tour
-abbrev pub onReading : {A : Type 0} → (Sheet → List ℕ → A) → Reading → Answer A
-onReading result (sheet s tour) = gives (result s tour)
-onReading result (refusedAt number word) = refused number word
+-- ---- the contract that the calls share
 
+-- what a call is lent to write, as it is before or after the call: the word of a refusal, and room for the result
+pub record Outputs (L : Type 0) : Type 0 where
+  pub word : ℕ
+  pub room : L
+
+abbrev pub outputs : {L : Type 0} → ℕ → L → Outputs L
+outputs word room = record { word = word; room = room }
+
+-- the number r that is returned, and the outputs as they are left; Written says how a result stands in them
+pub record Kept {A L : Type 0} (Written : A → (old new : L) → Type 0) (answered : Answer A) (old : Outputs L) (r : ℕ) (new : Outputs L)
+    : Type 0 where
+  pub result : r ≡ numberOf answered
+  pub word : new .word ≡ wordOf answered (old .word)
+  pub untouched : IfRefused answered (new .room ≡ old .room)
+  pub written : IfGiven answered (λ x. Written x (old .room) (new .room))
+
+-- ---- the answer on the sheet that bytes are
+
+abbrev pub byCall : {A : Type 0} → Call.Answer A → Answer A
+byCall (Call.refused number) = refused number
+byCall (Call.gives result) = gives result
+
+abbrev pub onReading : {A : Type 0} → (Sheet → List ℕ → Call.Answer A) → Reader.Reading → Answer A
+onReading call (Reader.sheet s tour) = byCall (call s tour)
+onReading call (Reader.refusedAt number word) = refusedAt number word
+
+-- 13 at word 0 before all else, where a lent list is too short
 abbrev pub unlessShort : {A : Type 0} → Bool → Answer A → Answer A
-unlessShort true x = refused 13 0
-unlessShort false x = x
-
--- 13 at word 0 first, where a lent list is too short; then as the reader refuses the bytes
-abbrev pub answer : {A : Type 0} → (needs rooms : List ℕ) → (Sheet → List ℕ → A) → (bytes : List ℕ) → Answer A
-answer needs rooms result bytes = unlessShort (short needs rooms) (onReading result (read bytes))
+unlessShort true answered = refusedAt 13 0
+unlessShort false answered = answered

@@ -1,7 +1,6 @@
--- What the contracts of the exported calls cite.
+-- What the contracts of the exported calls cite: what they share.
 pub mod Answer
+-- What each call answers and keeps.
 pub mod Plan
--- Calls on the sheet that bytes are.
-pub mod Called
 pub mod Mark
 pub mod Improve

@@ -1,12 +1,31 @@
--- The complete answer of the mark call, over the bytes and the lists that it is lent, in whole numbers. Definitions only.
+-- The contract of the mark call, over the bytes and the lists that it is lent. Definitions only.
 use Prim.Native.Nat.{ℕ}
-use mathlib.Core.List.{List}
-use Rattle.definitions.specs.Marker.{Verdict}
+use mathlib.Core.Path.{_≡_}
+use mathlib.Core.List.{List, map}
+use lib.Ieee.{Float}
+use Rattle.whole.specs.Whole.{fl}
+use Rattle.definitions.specs.Marker.{Verdict, verdictNumber, verdictValues}
 use Rattle.definitions.specs.Reader.{read}
-use Rattle.sheet_mark.specs.Mark.{markedOn}
-use Rattle.exports.specs.Answer.{onReading}
-use Rattle.exports.specs.Called.{Called}
+use Rattle.definitions.specs.Room.{written}
+use Rattle.bytes_mark.specs.Mark.{GivenRuns, markedOn}
+use Rattle.exports.specs.Answer.{Answer, Outputs, outputs, Kept, onReading}
 
--- the runs given with their break places, marked against the plan of the sheet's tour
-unfoldable pub markAnswer : (bytes calls ends places : List ℕ) → Called Verdict
-markAnswer bytes calls ends places = onReading (λ s tour. markedOn s tour calls ends places) (read bytes)
+-- a verdict by its number and values
+pub record MarkFigures : Type 0 where
+  pub verdict : ℕ
+  pub values : List Float
+
+abbrev pub markOutputs : (word verdict : ℕ) (values : List Float) → Outputs MarkFigures
+markOutputs word verdict values = outputs word record { verdict = verdict; values = values }
+
+-- the complete answer: the runs given, marked against the plan of the sheet that the bytes are
+unfoldable pub markAnswer : (bytes : List ℕ) → GivenRuns → Answer Verdict
+markAnswer bytes given = onReading (λ s tour. markedOn s tour given) (read bytes)
+
+-- a verdict's number, and its values at the front
+pub record MarkWritten (v : Verdict) (old new : MarkFigures) : Type 0 where
+  pub verdict : new .verdict ≡ verdictNumber v
+  pub values : new .values ≡ written (map fl (verdictValues v)) (old .values)
+
+abbrev pub MarkKept : (bytes : List ℕ) (given : GivenRuns) (old : Outputs MarkFigures) (r : ℕ) (new : Outputs MarkFigures) → Type 0
+MarkKept bytes given old r new = Kept MarkWritten (markAnswer bytes given) old r new

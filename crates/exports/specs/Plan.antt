@@ -1,15 +1,51 @@
--- The complete answer of the plan call, over the bytes and the lengths of the lent lists, in whole numbers. Definitions only.
+-- The contract of the plan call, over the bytes and the lists that it is lent. Definitions only.
 use Prim.Native.Nat.{ℕ}
-use mathlib.Core.List.{List, [], _∷_}
+use mathlib.Core.Path.{_≡_}
+use mathlib.Core.List.{List, [], _∷_, map}
 use lib.Ieee.{Float}
 use lib.ListN.{length}
-use Rattle.sheet_plan.specs.Plan.{Plan, plan}
-use Rattle.exports.specs.Answer.{Answer, answer}
+use Rattle.whole.specs.Whole.{fl}
+use Rattle.definitions.specs.Reader.{read}
+use Rattle.definitions.specs.Room.{short, written}
+use Rattle.definitions.specs.Answers as Call
+use Rattle.sheet_plan.specs.Plan.{Plan, plan, countsOf, totalsOf, PlanLists, planLists}
+use Rattle.exports.specs.Answer.{Answer, Outputs, outputs, Kept, onReading, unlessShort}
 
--- each list has room for the longest tour: served customers, run ends, break places, break starts, dropped positions
+-- the plan's lists; how many calls are served, runs made and calls dropped; cost and distance
+pub record PlanRoom : Type 0 where
+  pub lists : PlanLists
+  pub counts : List ℕ
+  pub totals : List Float
+
+abbrev pub planOutputs : (word : ℕ) (served ends breaks : List ℕ) (starts : List Float) (dropped counts : List ℕ) (totals : List Float)
+    → Outputs PlanRoom
+planOutputs word served ends breaks starts dropped counts totals =
+    outputs word record { lists = planLists served ends breaks starts dropped; counts = counts; totals = totals }
+
+-- ---- the complete answer
+
+-- each list has room for the longest tour
 abbrev pub planNeeds : List ℕ
 planNeeds = 128 ∷ 128 ∷ 128 ∷ 128 ∷ 128 ∷ []
 
-module _ (bytes served ends places : List ℕ) (starts : List Float) (dropped : List ℕ) where
-  abbrev pub planAnswer : Answer Plan
-  planAnswer = answer planNeeds (length served ∷ length ends ∷ length places ∷ length starts ∷ length dropped ∷ []) plan bytes
+abbrev pub roomsOf : PlanLists → List ℕ
+roomsOf l = length (l .cut .served) ∷ length (l .cut .ends) ∷ length (l .places) ∷ length (l .starts) ∷ length (l .cut .dropped) ∷ []
+
+-- the plan of the sheet that the bytes are
+abbrev pub planAnswer : (bytes : List ℕ) → PlanRoom → Answer Plan
+planAnswer bytes lent = unlessShort (short planNeeds (roomsOf (lent .lists))) (onReading (λ s tour. Call.gives (plan s tour)) (read bytes))
+
+-- ---- the contract
+
+-- a plan at the front of the lists, with its counts and totals
+pub record PlanWritten (p : Plan) (old new : PlanRoom) : Type 0 where
+  pub served : new .lists .cut .served ≡ written (p .cut .served) (old .lists .cut .served)
+  pub ends : new .lists .cut .ends ≡ written (p .cut .ends) (old .lists .cut .ends)
+  pub breaks : new .lists .places ≡ written (p .cut .places) (old .lists .places)
+  pub starts : new .lists .starts ≡ written (map fl (p .starts)) (old .lists .starts)
+  pub dropped : new .lists .cut .dropped ≡ written (p .cut .dropped) (old .lists .cut .dropped)
+  pub counts : new .counts ≡ countsOf p
+  pub totals : new .totals ≡ totalsOf p
+
+abbrev pub PlanKept : (bytes : List ℕ) (old : Outputs PlanRoom) (r : ℕ) (new : Outputs PlanRoom) → Type 0
+PlanKept bytes old r new = Kept PlanWritten (planAnswer bytes (old .room)) old r new

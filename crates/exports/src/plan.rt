@@ -1,28 +1,27 @@
 // The plan call.
 ghost use mathlib.Core.Path.{_≡_};
-ghost use mathlib.Core.List.{[], _∷_, map};
-ghost use Rattle.whole.specs.Whole.{fl};
-ghost use Rattle.definitions.specs.Room.{short, written};
-ghost use Rattle.sheet_plan.specs.Plan.{countsOf, totalsOf};
-ghost use Rattle.exports.specs.Answer.{numberOf, wordOf, front, setTo};
-ghost use Rattle.exports.specs.Plan.{planNeeds, planAnswer};
-use lists::lengths;
-use sheet::read::Reading;
-use sheet::read::read;
+ghost use mathlib.Core.List.{[], _∷_};
+ghost use Rattle.definitions.specs.Room.{short};
+ghost use Rattle.exports.specs.Plan.{planNeeds, planOutputs, PlanKept};
+use refuse_lists::lengths;
 use sheet_plan::plan::plan_sheet;
+use sheet_read::read::Reading;
+use sheet_read::read::read;
 
 // Whether a lent list is too short for some plan.
-fn too_short(served: usize, ends: usize, places: usize, starts: usize, dropped: usize) -> bool
-    ensures { λ r. ⌜ r ≡ short planNeeds (served ∷ ends ∷ places ∷ starts ∷ dropped ∷ []) ⌝ }
+fn too_short(served: usize, ends: usize, breaks: usize, starts: usize, dropped: usize) -> bool
+    ensures { λ r. ⌜ r ≡ short planNeeds (served ∷ ends ∷ breaks ∷ starts ∷ dropped ∷ []) ⌝ }
 {
     let needs = [128, 128, 128, 128, 128];
-    let rooms = [served, ends, places, starts, dropped];
+    let rooms = [served, ends, breaks, starts, dropped];
     lengths::short(&needs, &rooms)
 }
 
-// The plan of the sheet that the bytes are. At the front of the lists, each of which needs room for 128, stand the customers served, the run ends, the number
-// of the call, from 1, at which each run takes its break, or 0, when that break starts, or 0.0, and the positions of the dropped calls. `counts` has how many
-// calls are served, runs made and calls dropped, `totals` cost and distance. The answer is 0, or the number of a refusal: then its word alone is written.
+// The plan of the sheet that the bytes are. At the front of the lists, each of which needs room for 128, stand the
+// customers served, the run ends, the number of the call, from 1, at which each run takes its break, or 0, when that
+// break starts, or 0.0, and the positions of the dropped calls. `counts` has how many calls are served, runs made and
+// calls dropped, `totals` cost and distance. The answer is 0, or the number of a refusal: then its word alone is
+// written.
 #[no_mangle]
 pub extern "C" fn lizsomdur_plan(
     sheet: &[u8],
@@ -35,15 +34,14 @@ pub extern "C" fn lizsomdur_plan(
     totals: &mut [f64; 2],
     word: &mut usize,
 ) -> u32
-    ensures result { λ r. ⌜ r ≡ numberOf (planAnswer (now (sheet .entry)) (now (served .entry)) (now («run_ends» .entry)) (now («break_places» .entry)) (now («break_starts» .entry)) (now (dropped .entry))) ⌝ }
-    ensures word { λ _. ⌜ now (word .exit) ≡ wordOf (planAnswer (now (sheet .entry)) (now (served .entry)) (now («run_ends» .entry)) (now («break_places» .entry)) (now («break_starts» .entry)) (now (dropped .entry))) (now (word .entry)) ⌝ }
-    ensures served { λ _. ⌜ now (served .exit) ≡ written (front (λ p. p .cut .served) (planAnswer (now (sheet .entry)) (now (served .entry)) (now («run_ends» .entry)) (now («break_places» .entry)) (now («break_starts» .entry)) (now (dropped .entry)))) (now (served .entry)) ⌝ }
-    ensures ends { λ _. ⌜ now («run_ends» .exit) ≡ written (front (λ p. p .cut .ends) (planAnswer (now (sheet .entry)) (now (served .entry)) (now («run_ends» .entry)) (now («break_places» .entry)) (now («break_starts» .entry)) (now (dropped .entry)))) (now («run_ends» .entry)) ⌝ }
-    ensures places { λ _. ⌜ now («break_places» .exit) ≡ written (front (λ p. p .cut .places) (planAnswer (now (sheet .entry)) (now (served .entry)) (now («run_ends» .entry)) (now («break_places» .entry)) (now («break_starts» .entry)) (now (dropped .entry)))) (now («break_places» .entry)) ⌝ }
-    ensures starts { λ _. ⌜ now («break_starts» .exit) ≡ written (map fl (front (λ p. p .starts) (planAnswer (now (sheet .entry)) (now (served .entry)) (now («run_ends» .entry)) (now («break_places» .entry)) (now («break_starts» .entry)) (now (dropped .entry))))) (now («break_starts» .entry)) ⌝ }
-    ensures dropped { λ _. ⌜ now (dropped .exit) ≡ written (front (λ p. p .cut .dropped) (planAnswer (now (sheet .entry)) (now (served .entry)) (now («run_ends» .entry)) (now («break_places» .entry)) (now («break_starts» .entry)) (now (dropped .entry)))) (now (dropped .entry)) ⌝ }
-    ensures counts { λ _. ⌜ now (counts .exit) ≡ setTo countsOf (planAnswer (now (sheet .entry)) (now (served .entry)) (now («run_ends» .entry)) (now («break_places» .entry)) (now («break_starts» .entry)) (now (dropped .entry))) (now (counts .entry)) ⌝ }
-    ensures totals { λ _. ⌜ now (totals .exit) ≡ setTo totalsOf (planAnswer (now (sheet .entry)) (now (served .entry)) (now («run_ends» .entry)) (now («break_places» .entry)) (now («break_starts» .entry)) (now (dropped .entry))) (now (totals .entry)) ⌝ }
+    ensures { λ r.
+        let old = planOutputs (now (word .entry)) (now (served .entry)) (now («run_ends» .entry))
+        (now («break_places» .entry)) (now («break_starts» .entry)) (now (dropped .entry))
+        (now (counts .entry)) (now (totals .entry)) in
+        let new = planOutputs (now (word .exit)) (now (served .exit)) (now («run_ends» .exit))
+        (now («break_places» .exit)) (now («break_starts» .exit)) (now (dropped .exit))
+        (now (counts .exit)) (now (totals .exit)) in
+        ⌜ PlanKept (now (sheet .entry)) old r new ⌝ }
 {
     if too_short(
         served.len(),
@@ -60,9 +58,10 @@ pub extern "C" fn lizsomdur_plan(
             *word = at;
             number
         }
-        Reading::Sheet(_) => {
+        Reading::Sheet(found) => {
             let cut = plan_sheet(
                 sheet,
+                found,
                 &mut *served,
                 &mut *run_ends,
                 &mut *break_places,

@@ -1,4 +1,5 @@
--- What a walk by hand cites of a declared struct and of an array of n of it: their rows, their machine values and their laws. Both own only facts. And the steps by which a record of an array in a local is read or written:
+-- What a walk by hand cites of a declared struct and of an array of n of it: their rows, their machine values and their laws. Both own only
+-- facts. And the steps by which a record of an array in a local is read or written:
 --     record-out       the array's cell becomes the cell of record i, what that record owns, and the others
 --     array-again      all records, side by side, become the array's cell again (after denote.Index's `elem-back` or `elem-put`)
 -- Assumes `Given`.
@@ -51,7 +52,8 @@ module _ (T : Declared) (L : Laws T) (n : ℕ) where
 module _ (T : Declared) (L : Laws T) (P : Plains (fields T)) (n : ℕ) {M : Type 1} {𝓤 : URA M} {H : Heap 𝓤} {A : Atoms 𝓤} {K : Type 0} {W : Given 𝓤 H A} {Γ : List (Item 𝓤)} {G : Goal 𝓤 H} where
   pub record-out : K → (xs : List (T .D)) (u : Val) (l i : ℕ) (d : T .D) → Is (Rs T L n) xs (u ∷ []) → i < length xs
       → (Is (row T) (getD xs i d) (LL.vals T L (getD xs i d))
-      → Seq K W (‵ (cellAt fullShare (row T .mir) (LL.vals T L (getD xs i d)) l (place (mem (row T) .size) 0 i)) ∷ ‵ (row T .own (getD xs i d) (LL.vals T L (getD xs i d))) ∷ ‵ (others (shares (row T)) fullShare xs i l 0) ∷ Γ) G)
+      → Seq K W (‵ (cellAt fullShare (row T .mir) (LL.vals T L (getD xs i d)) l (place (mem (row T) .size) 0 i))
+      ∷ ‵ (row T .own (getD xs i d) (LL.vals T L (getD xs i d))) ∷ ‵ (others (shares (row T)) fullShare xs i l 0) ∷ Γ) G)
       → Seq K W (‵ (fat fullShare (tyAll T L n) l 0 u) ∷ Γ) G
   unfolding partOf
   record-out t xs u l i d is within k =
@@ -61,13 +63,16 @@ module _ (T : Declared) (L : Laws T) (P : Plains (fields T)) (n : ℕ) {M : Type
       use1 W (‵ (arr-parts (shares (row T)) n .part fullShare xs l 0)) (array-apart 𝓤 H A W (row T) fullShare tt n xs l 0) $ fsplit t $ drop t $
       elem-out t (row T) (Is (row T)) (shows 𝓤 H A (row T)) (LL.vals T L) (LL.tells T L) fullShare xs i d l 0 within k
 
-  pub array-again : K → (xs : List (T .D)) (l : ℕ) → length xs ≡ n → ((u : Val) → Is (Rs T L n) xs (u ∷ []) → Seq K W (‵ (fat fullShare (tyAll T L n) l 0 u) ∷ Γ) G) → Seq K W (‵ (side (row T) fullShare xs l 0) ∷ Γ) G
+  pub array-again : K → (xs : List (T .D)) (l : ℕ) → length xs ≡ n
+      → ((u : Val) → Is (Rs T L n) xs (u ∷ []) → Seq K W (‵ (fat fullShare (tyAll T L n) l 0 u) ∷ Γ) G)
+      → Seq K W (‵ (side (row T) fullShare xs l 0) ∷ Γ) G
   unfolding partOf
   array-again t xs l e k =
       feqI t ℕ (length xs) n e $ fjoin t $ use1 W (‵ (partAt (Rs T L n) fullShare xs l 0)) (array-whole 𝓤 H A W (row T) fullShare n xs l 0) $
       fpick t (λ vs. fsplit t $ move t (1 ∷ []) $ peeks t (Rs T L n) (Is (Rs T L n)) (shows 𝓤 H A (Rs T L n)) xs vs (λ is. drop t $
       rewrite t 0 (λ (ws : List Val). ‵ (cellAt fullShare (Rs T L n .mir) ws l 0)) (is .1 .0 .0) refl $
-      use1 W (‵ (fat fullShare (tyAll T L n) l 0 (arrayVal (is .0)))) (W .laws .raw-at fullShare (tyAll T L n) l 0 (arrayVal (is .0))) $ k (arrayVal (is .0)) (subst (Is (Rs T L n) xs) (is .1 .0 .0) is)))
+      use1 W (‵ (fat fullShare (tyAll T L n) l 0 (arrayVal (is .0)))) (W .laws .raw-at fullShare (tyAll T L n) l 0 (arrayVal (is .0))) $
+      k (arrayVal (is .0)) (subst (Is (Rs T L n) xs) (is .1 .0 .0) is)))
 
 -- the place of a record of s bytes that is there fits a usize
 pub place-fits : (i n s : ℕ) → i < n → n * s < 2 ^ 63 → i * s < 2 ^ 64

@@ -1,4 +1,5 @@
--- The two calls with which a public call begins, each as one step of its walk: `count` and `gathered` on its `&[Customer]`. What the call has of its parameters stands at the head of the context as one item, its tokens beside what they own, and
+-- The two calls with which a public call begins, each as one step of its walk: `count` and `gathered` on its `&[Customer]`. What the call
+-- has of its parameters stands at the head of the context as one item, its tokens beside what they own, and
 -- stands there again afterwards, so no position of a local changes.
 --     counts       the number of the records is had, at a machine value u
 --     gathers      the records padded to 64 are had, at a machine value u
@@ -75,17 +76,22 @@ module _ {M : Type 1} (𝓤 : URA M) (H : Heap 𝓤) (A : Atoms 𝓤) (κ : Lft)
       -- [Ts; Os; the list's token; true]
       move ! (2 ∷ 0 ∷ []) $ join ! $ join ! $ keep ! (0 ∷ []) $ done !
 
-module _ {M : Type 1} {𝓤 : URA M} {H : Heap 𝓤} {A : Atoms 𝓤} {K : Type 0} {W : Given 𝓤 H A} {Γ : List (Item 𝓤)} {E : Env 𝓤 H} {C : Calls 𝓤 H} {Λ : Loops 𝓤 H} {p : Post 𝓤 H} {xs : List Operand} {d : Place} {rest : Body} where
-  pub counts : K → FmC 𝓤 H (W .laws) C → (mem : Memory → SProp 𝓤) (run : Routine → Fun 𝓤) → Known 𝓤 H A mem run C → (κ : Lft) (q : Share) (s : RefT (List Customer)) (Ts Os : Item 𝓤) → Keeps 𝓤 H A κ q s Ts Os
+module _ {M : Type 1} {𝓤 : URA M} {H : Heap 𝓤} {A : Atoms 𝓤} {K : Type 0} {W : Given 𝓤 H A} {Γ : List (Item 𝓤)} {E : Env 𝓤 H} {C : Calls 𝓤 H}
+    {Λ : Loops 𝓤 H} {p : Post 𝓤 H} {xs : List Operand} {d : Place} {rest : Body} where
+  pub counts : K → FmC 𝓤 H (W .laws) C → (mem : Memory → SProp 𝓤) (run : Routine → Fun 𝓤) → Known 𝓤 H A mem run C
+      → (κ : Lft) (q : Share) (s : RefT (List Customer)) (Ts Os : Item 𝓤) → Keeps 𝓤 H A κ q s Ts Os
       → Opds K W (Had 𝓤 H A κ q s Ts Os ∷ Γ) E xs (ref s ∷ [])
-      → ((u : Val) → Is usize (length (s .now)) (u ∷ []) → Seq K W (Had 𝓤 H A κ q s Ts Os ∷ Γ) (lands C Λ E d u rest p)) → Seq K W (Had 𝓤 H A κ q s Ts Os ∷ Γ) (runs C Λ E (seq (call #lending·count xs d) rest) p)
+      → ((u : Val) → Is usize (length (s .now)) (u ∷ []) → Seq K W (Had 𝓤 H A κ q s Ts Os ∷ Γ) (lands C Λ E d u rest p))
+      → Seq K W (Had 𝓤 H A κ q s Ts Os ∷ Γ) (runs C Λ E (seq (call #lending·count xs d) rest) p)
   counts t fm mem run known κ q s Ts Os keeps os k =
       calls-kept t fm count′.ended (count′.clauses 𝓤 H A mem run) (known .0) (κ, tt) (q, tt) tt (s, tt) (ref s ∷ [], tt) tt (asked-none 𝓤) (λ r. r ≡ length (s .now)) (λ r e. id⊢ 𝓤 _)
       (Had 𝓤 H A κ q s Ts Os) (Ts ⊛ Os) (out 𝓤 H A κ q s Ts Os W keeps) (back 𝓤 H A κ q s Ts Os W) os (λ u r e is. k u (subst (λ (n : ℕ). Is usize n (u ∷ [])) e is))
 
-  pub gathers : K → FmC 𝓤 H (W .laws) C → (mem : Memory → SProp 𝓤) (run : Routine → Fun 𝓤) → Known 𝓤 H A mem run C → (κ : Lft) (q : Share) (s : RefT (List Customer)) (Ts Os : Item 𝓤) → Keeps 𝓤 H A κ q s Ts Os
+  pub gathers : K → FmC 𝓤 H (W .laws) C → (mem : Memory → SProp 𝓤) (run : Routine → Fun 𝓤) → Known 𝓤 H A mem run C
+      → (κ : Lft) (q : Share) (s : RefT (List Customer)) (Ts Os : Item 𝓤) → Keeps 𝓤 H A κ q s Ts Os
       → Opds K W (Had 𝓤 H A κ q s Ts Os ∷ Γ) E xs (ref s ∷ [])
-      → ((u : Val) → Is Rs (padded 64 (s .now)) (u ∷ []) → Seq K W (Had 𝓤 H A κ q s Ts Os ∷ Γ) (lands C Λ E d u rest p)) → Seq K W (Had 𝓤 H A κ q s Ts Os ∷ Γ) (runs C Λ E (seq (call #lending·gathered xs d) rest) p)
+      → ((u : Val) → Is Rs (padded 64 (s .now)) (u ∷ []) → Seq K W (Had 𝓤 H A κ q s Ts Os ∷ Γ) (lands C Λ E d u rest p))
+      → Seq K W (Had 𝓤 H A κ q s Ts Os ∷ Γ) (runs C Λ E (seq (call #lending·gathered xs d) rest) p)
   gathers t fm mem run known κ q s Ts Os keeps os k =
       calls-kept t fm gathered′.ended (gathered′.clauses 𝓤 H A mem run) (known .1) (κ, tt) (q, tt) tt (s, tt) (ref s ∷ [], tt) tt (asked-none 𝓤) (λ r. r ≡ padded 64 (s .now)) (λ r e. id⊢ 𝓤 _)
       (Had 𝓤 H A κ q s Ts Os) (Ts ⊛ Os) (out 𝓤 H A κ q s Ts Os W keeps) (back 𝓤 H A κ q s Ts Os W) os (λ u r e is. k u (subst (λ (l : List Customer). Is Rs l (u ∷ [])) e is))
@@ -109,4 +115,5 @@ module _ {M : Type 1} {𝓤 : URA M} {H : Heap 𝓤} {A : Atoms 𝓤} {K : Type 
   hands-over t κ q s Ts First Rest xs n ua un is-all is-n = step (λ k.
       split t $ split t $ move t (2 ∷ []) $ fsplit t $ move t (1 ∷ []) $ fsplit t $ drop t $
       -- [what the others own; what the first owns; the list's token; Ts]
-      owned t usize (Is usize) (uint-makes 𝓤 H A W w64) n (un ∷ []) is-n $ fjoin t $ owned t Rs (Is Rs) (rows.all-makes 𝓤 H A W) xs (ua ∷ []) is-all $ fjoin t $ move t (1 ∷ 0 ∷ []) $ fjoin t $ move t (2 ∷ 0 ∷ 1 ∷ []) $ k)
+      owned t usize (Is usize) (uint-makes 𝓤 H A W w64) n (un ∷ []) is-n $ fjoin t $ owned t Rs (Is Rs) (rows.all-makes 𝓤 H A W) xs (ua ∷ []) is-all $
+      fjoin t $ move t (1 ∷ 0 ∷ []) $ fjoin t $ move t (2 ∷ 0 ∷ 1 ∷ []) $ k)

@@ -47,7 +47,9 @@ pub fn gathered(customers: &[Customer]) -> [Customer; 64]
 
 // The first n records written at the front, as far as there is room; the rest stays.
 pub fn scattered(records: [Customer; 64], n: usize, customers: &mut [Customer])
-    ensures { λ _. ⌜ now (customers .exit) ≡ written (take (min n (length (now (customers .entry)))) records) (now (customers .entry)) ⌝ }
+    ensures { λ _.
+        let old = now (customers .entry) in
+        ⌜ now (customers .exit) ≡ written (take (min n (length old)) records) old ⌝ }
 {
     let m = fitting(n, 64, customers.len());
     let mut i = 0;

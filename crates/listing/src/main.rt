@@ -1,5 +1,5 @@
 // The listing program: reads the words of a sheet on standard input, and prints its plan or its refusal.
-use plan_listing::text::text;
+use listing_text::text::text;
 
 // One byte more than the longest sheet that is accepted is enough to answer for any input.
 fn main() {

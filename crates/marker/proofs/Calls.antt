@@ -11,7 +11,7 @@ use lib.Dec.{leb}
 use lib.Ieee as Ieee
 use lib.Ieee.{Float, binary64}
 use borrow.Author.Tests.{leb-true, leb-false, eq-eqb, ne-eqb}
-use Rattle.basics.specs.Tests.{by-test}
+use Rattle.basics.proofs.TestLaws.{by-test}
 use Rattle.definitions.specs.Sheet.{BreakOf, CustomerOf}
 use Rattle.definitions.specs.Marker.{differ}
 use Rattle.clock.specs.declared.schedule.Label.{Label}

@@ -7,7 +7,8 @@ use Rattle.basics.specs.Lists.{All}
 use Rattle.definitions.specs.Domain.{mostCalls}
 use Rattle.definitions.specs.Sheet.{Sheet}
 use Rattle.definitions.specs.RunList.{runsFrom}
-use Rattle.bounds.specs.Inside.{Place, all-take, all-drop}
+use Rattle.bounds.specs.Sized.{Place}
+use Rattle.basics.proofs.ListLaws.{all-take, all-drop}
 
 -- the calls are few, and each is a place of the sheet
 abbrev pub Inside : Sheet → List ℕ → Type 0

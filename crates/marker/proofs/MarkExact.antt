@@ -9,7 +9,7 @@ use mathlib.Core.Option.{Option, none, some}
 use lib.ListN.{length}
 use lib.Dec.{ltb}
 use borrow.Author.Tests.{ltb-true}
-use Rattle.basics.specs.Tests.{by-test}
+use Rattle.basics.proofs.TestLaws.{by-test}
 use Rattle.basics.specs.Options.{valueOr}
 use Rattle.basics.specs.Lists.{All}
 use Rattle.definitions.specs.Domain.{mostCalls}
@@ -22,9 +22,11 @@ use Rattle.definitions.specs.Refusals.{endsFall, emptyRun, Within, WithinCalls}
 use Rattle.definitions.specs.Marker as Whole
 use Rattle.definitions.specs.Marker.{withPlaces, otherCalls, differ, runFault, firstFault, against, markAgainst}
 use Rattle.theorems.proofs.RunListLaws.{RiseTo, calls-back}
-use Rattle.bounds.specs.Inside.{Sized, sized, few-calls, calls-inside}
-use Rattle.bounds.specs.CostBounds.{cost-fits, cutting-cost-most}
-use Rattle.whole.specs.Whole.{fl, limit, fl-sub, fl-lt, fl-sum}
+use Rattle.bounds.specs.Sized.{Sized}
+use Rattle.bounds.proofs.Inside.{sized, few-calls, calls-inside}
+use Rattle.bounds.proofs.CostBoundLaws.{cost-fits, cutting-cost-most}
+use Rattle.whole.specs.Whole.{fl, limit}
+use Rattle.whole.proofs.WholeLaws.{fl-sub, fl-lt, fl-sum}
 use Rattle.marker.specs.declared.verdict.Verdict.the-variants.{OtherCalls}
 use Rattle.marker.specs.RunMark.{Ground, runMarkF}
 use Rattle.marker.specs.Marks.{runsMarkF, againstF, verdictF, markF}
@@ -70,29 +72,29 @@ module _ (planner cost : ℕ) (p : planner ≤ limit) (q : cost ≤ limit) where
 -- ---- the mark
 
 module _ (s : Sheet) (W : Within s) (G : Ground) (I : Image s G) (plan : Result) (paid : plan .cost ≤ limit)
-    (calls : List ℕ) (C : WithinCalls s calls) (ends : List ℕ) (rise : endsFall 0 ends (length calls) ≡ false) (filled : emptyRun 0 ends ≡ false) (places : List ℕ) where
+    (calls : List ℕ) (C : WithinCalls s calls) (ends : List ℕ) (rise : endsFall 0 ends (length calls) ≡ false) (filled : emptyRun 0 ends ≡ false) (breaks : List ℕ) where
   abbrev runs : List Run
-  runs = withPlaces (runsOf calls ends) places
+  runs = withPlaces (runsOf calls ends) breaks
 
   rising : RiseTo 0 ends (0 + length calls)
   rising = rw (zero-add (length calls)) (rises 0 ends (length calls) rise)
 
   joined-back : joined runs ≡ calls
-  joined-back = ap callsOf (with-calls (runsOf calls ends) places) ∙ calls-back 0 calls ends rising
+  joined-back = ap callsOf (with-calls (runsOf calls ends) breaks) ∙ calls-back 0 calls ends rising
 
   cost-in-limit : cuttingCost s runs ≤ limit
   cost-in-limit =
       let few : length (joined runs) ≤ mostCalls = omega (arith, ap length joined-back, few-calls s calls C) in
       cost-fits (length (joined runs)) (cuttingCost s runs) few
-      (cutting-cost-most s (sized s W) runs (with-all Filled (runsOf calls ends) places (runs-filled 0 calls ends rising filled)) few)
+      (cutting-cost-most s (sized s W) runs (with-all Filled (runsOf calls ends) breaks (runs-filled 0 calls ends rising filled)) few)
 
   marked : runsMarkF G 1 (fl 0) runs ≡ flMarked (firstFault s 1 runs) (cuttingCost s runs)
   marked =
-      runs-exact s (sized s W) G I 1 0 runs (with-all (Inside s) (runsOf calls ends) places (runs-inside s 0 calls ends (few-calls s calls C, calls-inside s calls C))) (omega (arith, cost-in-limit))
+      runs-exact s (sized s W) G I 1 0 runs (with-all (Inside s) (runsOf calls ends) breaks (runs-inside s 0 calls ends (few-calls s calls C, calls-inside s calls C))) (omega (arith, cost-in-limit))
       ∙ ap (flMarked (firstFault s 1 runs)) (zero-add (cuttingCost s runs))
 
   -- by the limits of the Domain, and what refusal 5 leaves of run ends
-  pub mark-exact : markF G (plan .served) (fl (plan .cost)) calls ends places ≡ flVerdict (markAgainst s plan runs)
+  pub mark-exact : markF G (plan .served) (fl (plan .cost)) calls ends breaks ≡ flVerdict (markAgainst s plan runs)
   unfolding markF markAgainst
   mark-exact = rw (joined-back, markAgainst) (go (differ 1 calls (plan .served)))
     where

@@ -2,36 +2,39 @@
 use Prim.Native.Nat.{ℕ, zero, suc, _+_, _≤_}
 use native.Mathlib.Omega.{arith}
 use native.Mathlib.Nat.{zero-add}
-use mathlib.Core.Path.{_≡_, refl, ap₂, _∙_}
+use mathlib.Core.Path.{_≡_, refl, ap, ap₂, _∙_}
 use mathlib.Core.List.{List, [], _∷_}
 use mathlib.Core.Option.{Option, none, some, Option·map}
 use lib.ListN.{length}
-use Rattle.basics.specs.Tests.{by-test}
+use Rattle.basics.proofs.TestLaws.{by-test}
 use Rattle.basics.specs.Options.{_>>=_, Holds, orElse}
 use Rattle.basics.specs.Lists.{All}
 use Rattle.definitions.specs.Domain.{mostCalls}
+use Rattle.definitions.specs.Load.{loadBy, plus}
 use Rattle.definitions.specs.Sheet.{Break, Sheet, time}
 use Rattle.definitions.specs.Limits.{within}
 use Rattle.definitions.specs.Run as Whole
 use Rattle.definitions.specs.Run.{Run, start, serveAll, lastOf, distanceFrom, Totals, home, ride, load, fits, placed, price, runCost}
 use Rattle.definitions.specs.Marker.{walkFault, totalFault, runFault}
-use Rattle.bounds.specs.Inside as Inside
-use Rattle.bounds.specs.Inside.{SmallBreak, Sized, Place, depot-inside}
-use Rattle.bounds.specs.Bounds.{start-early, distance-most, ride-most, SmallTotals, TotalsFit, totals-fit}
-use Rattle.bounds.specs.CostBounds.{price-room}
-use Rattle.whole.specs.Whole.{fl, limit, fl-le, fl-sum}
+use Rattle.bounds.specs.Sized as Inside
+use Rattle.bounds.specs.Sized.{SmallBreak, Sized, Place}
+use Rattle.bounds.proofs.Inside.{depot-inside}
+use Rattle.bounds.proofs.BoundLaws.{start-early, distance-most, ride-most, totals-fit}
+use Rattle.bounds.specs.Bounds.{SmallTotals, TotalsFit}
+use Rattle.bounds.proofs.CostBoundLaws.{price-room}
+use Rattle.whole.specs.Whole.{fl, limit}
+use Rattle.whole.proofs.WholeLaws.{fl-le, fl-sum}
 use Rattle.models.specs.Image.{flBreak}
 use Rattle.models.proofs.Exact.{Small, limit-exact, within-exact}
 use Rattle.clock.specs.Serving.{startLabel}
 use Rattle.clock.specs.Image.{flTotals}
-use Rattle.evaluation.specs.Tables.{demandsOf, loadF}
+use Rattle.evaluation.specs.Tables.{demandF}
 use Rattle.evaluation.specs.Image.{flLimits}
-use Rattle.evaluation.proofs.Demands.{asked}
 use Rattle.evaluation.proofs.ClockExact.{demand-exact}
 use Rattle.marker.specs.declared.walk.Walked.{Walked}
 use Rattle.marker.specs.declared.run.Marked.{Marked}
 use Rattle.marker.specs.Walking.{walkF}
-use Rattle.marker.specs.RunMark.{Ground, placedF, totalsMarkF, walkMarkF, runMarkF}
+use Rattle.marker.specs.RunMark.{Ground, placedF, totalsMarkF, walkMarkF, loadMarkF, runMarkF}
 use Rattle.marker.specs.Image.{flMarked, Image}
 use Rattle.marker.proofs.WalkExact.{break-or-exact, Walks, stops, arrives, walk-exact}
 
@@ -42,10 +45,9 @@ runOf calls place = record { calls = calls; place = place }
 -- ---- load
 
 module _ (s : Sheet) (S : Sized s) (G : Ground) (I : Image s G) where
-  load-exact : (calls : List ℕ) → All (Place s) calls → loadF (demandsOf (G .tables .customers)) calls ≡ load s calls
-  unfolding loadF
+  load-exact : (calls : List ℕ) → All (Place s) calls → loadBy (demandF (G .tables .customers)) calls ≡ load s calls
   load-exact [] i = refl
-  load-exact (c ∷ cs) i = ap₂ _+_ (asked (G .tables .customers) c ∙ demand-exact s S (G .tables .customers) (I .tables-hold .records-are) c (i .0)) (load-exact cs (i .1))
+  load-exact (c ∷ cs) i = ap₂ plus (demand-exact s S (G .tables .customers) (I .tables-hold .records-are) c (i .0)) (load-exact cs (i .1))
 
 -- ---- totals
 
@@ -63,25 +65,25 @@ module _ (s : Sheet) (S : Sized s) (n place : ℕ) (calls : List ℕ) (few : len
   fit : TotalsFit u
   fit = totals-fit (length calls) few u T
 
-  room : s .fixed + u .distance + u .pay ≤ limit
+  room : s .head .fixed + u .distance + u .pay ≤ limit
   room = omega (arith, price-room s S 0 (length calls) 0 (u .distance) (u .pay) (omega arith) few (omega arith) (T .distance-most) (T .pay-most))
 
-  totals-mark-exact : totalsMarkF (flLimits s) (fl (s .fixed)) n place (length calls) (flTotals u) ≡ flMarked (totalFault s n (runOf calls place) u) (price s (u .distance) (u .pay))
+  totals-mark-exact : totalsMarkF (flLimits s) (fl (s .head .fixed)) n place (length calls) (flTotals u) ≡ flMarked (totalFault s n (runOf calls place) u) (price s (u .distance) (u .pay))
   unfolding totalsMarkF
   totals-mark-exact =
       rw (
-        placed-exact (s .rest) (S .rest-small) place (length calls) (u .duration) (fit .duration-fits),
-        within-exact (s .maxDistance) (u .distance) (small-limit (s .maxDistance) (S .far-small)) (fit .distance-fits),
-        within-exact (s .maxDuration) (u .duration) (small-limit (s .maxDuration) (S .long-small)) (fit .duration-fits),
-        fl-sum (s .fixed) (u .distance) (omega (arith, room)),
-        fl-sum (s .fixed + u .distance) (u .pay) room,
-        limit-exact (s .maxDistance),
-        limit-exact (s .maxDuration),
-        break-or-exact (s .rest),
+        placed-exact (s .head .rest) (S .rest-small) place (length calls) (u .duration) (fit .duration-fits),
+        within-exact (s .head .maxDistance) (u .distance) (small-limit (s .head .maxDistance) (S .far-small)) (fit .distance-fits),
+        within-exact (s .head .maxDuration) (u .duration) (small-limit (s .head .maxDuration) (S .long-small)) (fit .duration-fits),
+        fl-sum (s .head .fixed) (u .distance) (omega (arith, room)),
+        fl-sum (s .head .fixed + u .distance) (u .pay) room,
+        limit-exact (s .head .maxDistance),
+        limit-exact (s .head .maxDuration),
+        break-or-exact (s .head .rest),
       )
-      (by-test (placed (s .rest) place (length calls) (u .duration))
-      (λ y. by-test (within (s .maxDistance) (u .distance))
-      (λ z. by-test (within (s .maxDuration) (u .duration)) (λ w. rw (y, z, w)) (λ w. rw (y, z, w)))
+      (by-test (placed (s .head .rest) place (length calls) (u .duration))
+      (λ y. by-test (within (s .head .maxDistance) (u .distance))
+      (λ z. by-test (within (s .head .maxDuration) (u .duration)) (λ w. rw (y, z, w)) (λ w. rw (y, z, w)))
       (λ z. rw (y, z)))
       (λ y. rw y))
 
@@ -101,14 +103,14 @@ module _ (s : Sheet) (S : Sized s) (G : Ground) (I : Image s G) (n place : ℕ) 
       flMarked (orElse (walkFault s n place 1 0 start calls) (ride s (runOf calls place) >>= totalFault s n (runOf calls place))) (runCost s (runOf calls place))
 
   walked-exact : (w : Walked) → Walks (walkFault s n place 1 0 start calls) last (0 + distanceFrom s 0 calls) (time s (lastOf 0 calls) 0) w
-      → walkMarkF (flLimits s) (fl (s .fixed)) n place (length calls) w ≡ marked
+      → walkMarkF (flLimits s) (fl (s .head .fixed)) n place (length calls) w ≡ marked
   unfolding runCost
   walked-exact w (stops v p q) = rw (q, p)
   walked-exact w (arrives l p e q) =
       rw (q, p, rode l e, zero-add (distanceFrom s 0 calls))
       (totals-mark-exact s S n place calls few (home s calls l) (ride-most s S (runOf calls place) few (home s calls l) (rode l e)))
 
-  walk-mark-exact : walkMarkF (flLimits s) (fl (s .fixed)) n place (length calls) (walkF (G .tables) (flLimits s .rest) n place 1 (fl 0) 0 startLabel calls) ≡ marked
+  walk-mark-exact : walkMarkF (flLimits s) (fl (s .head .fixed)) n place (length calls) (walkF (G .tables) (flLimits s .rest) n place 1 (fl 0) 0 startLabel calls) ≡ marked
   walk-mark-exact =
       walked-exact _
       (walk-exact s S (G .tables) (I .tables-hold) n place 0 1 0 0 start calls (omega arith) (depot-inside s S) inside start-early (omega (arith, distance-most s S 0 calls)))
@@ -116,4 +118,5 @@ module _ (s : Sheet) (S : Sized s) (G : Ground) (I : Image s G) (n place : ℕ) 
   pub run-exact : runMarkF G n calls place ≡ flMarked (runFault s n (runOf calls place)) (runCost s (runOf calls place))
   unfolding runMarkF runFault
   run-exact =
-      rw (load-exact s S G I calls inside, I .capacity-holds, I .limits-hold, I .fixed-holds) (by-test (fits s calls) (λ y. rw y walk-mark-exact) (λ y. rw y))
+      ap (loadMarkF G n calls place) (load-exact s S G I calls inside)
+      ∙ rw (I .capacity-holds, I .limits-hold, I .fixed-holds) (by-test (fits s calls) (λ y. rw y walk-mark-exact) (λ y. rw y))

@@ -24,21 +24,21 @@ use Rattle.theorems.proofs.GivenRuns.{rises}
 
 -- the runs from number k on, from 0, where p calls stand before them
 abbrev left : List ℕ → List ℕ → List ℕ → ℕ → ℕ → List Run
-left calls ends places p k = withPlaces (runsFrom p (drop p calls) (drop k ends)) (drop k places)
+left calls ends breaks p k = withPlaces (runsFrom p (drop p calls) (drop k ends)) (drop k breaks)
 
 -- before run k: the ends rise on from p to the number of calls, and the runs that are left are marked, on top of the cost so far, as all are
-pub record Left (G : Ground) (calls ends places : List ℕ) (total : Float) (p k : ℕ) : Type 0 where
+pub record Left (G : Ground) (calls ends breaks : List ℕ) (total : Float) (p k : ℕ) : Type 0 where
   pub few : k ≤ length ends
   pub rising : RiseTo p (drop k ends) (length calls)
-  pub marked : runsMarkF G (k + 1) total (left calls ends places p k) ≡ runsMarkF G 1 (fl 0) (withPlaces (runsOf calls ends) places)
+  pub marked : runsMarkF G (k + 1) total (left calls ends breaks p k) ≡ runsMarkF G 1 (fl 0) (withPlaces (runsOf calls ends) breaks)
 
-pub set-out : (G : Ground) (calls ends places : List ℕ) (total : Float) → fl 0 ≡ total → endsFall 0 ends (length calls) ≡ false → Left G calls ends places total 0 0
-set-out G calls ends places total e h = record { few = omega arith; rising = rises 0 ends (length calls) h; marked = rw e }
+pub set-out : (G : Ground) (calls ends breaks : List ℕ) (total : Float) → fl 0 ≡ total → endsFall 0 ends (length calls) ≡ false → Left G calls ends breaks total 0 0
+set-out G calls ends breaks total e h = record { few = omega arith; rising = rises 0 ends (length calls) h; marked = rw e }
 
-module _ {G : Ground} {calls ends places : List ℕ} {total : Float} {p k : ℕ} (L : Left G calls ends places total p k) where
-  pub ended : length ends ≤ k → Costs total ≡ runsMarkF G 1 (fl 0) (withPlaces (runsOf calls ends) places)
+module _ {G : Ground} {calls ends breaks : List ℕ} {total : Float} {p k : ℕ} (L : Left G calls ends breaks total p k) where
+  pub ended : length ends ≤ k → Costs total ≡ runsMarkF G 1 (fl 0) (withPlaces (runsOf calls ends) breaks)
   unfolding runsFrom runsMarkF
-  ended h = ap (λ (l : List ℕ). runsMarkF G (k + 1) total (withPlaces (runsFrom p (drop p calls) l) (drop k places))) (sym (drop-of-length-le ends h)) ∙ L .marked
+  ended h = ap (λ (l : List ℕ). runsMarkF G (k + 1) total (withPlaces (runsFrom p (drop p calls) l) (drop k breaks))) (sym (drop-of-length-le ends h)) ∙ L .marked
 
   module _ (h : k < length ends) where
     next-rises : (p ≤ getD ends k 0) × RiseTo (getD ends k 0) (drop (k + 1) ends) (length calls)
@@ -48,26 +48,26 @@ module _ {G : Ground} {calls ends places : List ℕ} {total : Float} {p k : ℕ}
     pub next-inside : (p ≤ getD ends k 0) × (getD ends k 0 ≤ length calls)
     next-inside = (next-rises .0, rise-le (getD ends k 0) (drop (k + 1) ends) (length calls) (next-rises .1))
 
-    module _ (short : length ends ≤ length places) (m : Marked) (e : m ≡ runMarkF G (k + 1) (take (getD ends k 0 - p) (drop p calls)) (getD places k 0)) where
+    module _ (short : length ends ≤ length breaks) (m : Marked) (e : m ≡ runMarkF G (k + 1) (take (getD ends k 0 - p) (drop p calls)) (getD breaks k 0)) where
       -- it costs so much
-      pub onward : (cost : Float) → m ≡ Costs cost → Left G calls ends places (Ieee.add binary64 total cost) (getD ends k 0) (k + 1)
+      pub onward : (cost : Float) → m ≡ Costs cost → Left G calls ends breaks (Ieee.add binary64 total cost) (getD ends k 0) (k + 1)
       unfolding runsFrom runsMarkF
       onward cost c =
-          let g : k < length places = omega arith in
+          let g : k < length breaks = omega arith in
           let z : p + (getD ends k 0 - p) ≡ getD ends k 0 = omega (arith, next-rises .0) in
           record {
             few = omega arith;
             rising = next-rises .1;
             marked =
                 sym
-                (rw (drop-cons ends k 0, drop-cons places k 0, sym e ∙ c, runsMarkF)
+                (rw (drop-cons ends k 0, drop-cons breaks k 0, sym e ∙ c, runsMarkF)
                 (rw (drop-drop (getD ends k 0 - p) p calls, z, add-one (k + 1), add-one k)))
                 ∙ L .marked;
           }
 
       -- it has a fault
-      pub stopped : (v : Verdict) → m ≡ Faulty v → m ≡ runsMarkF G 1 (fl 0) (withPlaces (runsOf calls ends) places)
+      pub stopped : (v : Verdict) → m ≡ Faulty v → m ≡ runsMarkF G 1 (fl 0) (withPlaces (runsOf calls ends) breaks)
       unfolding runsFrom runsMarkF
       stopped v f =
-          let g : k < length places = omega arith in
-          f ∙ (sym (rw (drop-cons ends k 0, drop-cons places k 0, sym e ∙ f, runsMarkF)) ∙ L .marked)
+          let g : k < length breaks = omega arith in
+          f ∙ (sym (rw (drop-cons ends k 0, drop-cons breaks k 0, sym e ∙ f, runsMarkF)) ∙ L .marked)

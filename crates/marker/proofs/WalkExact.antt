@@ -9,8 +9,9 @@ use lib.Dec.{eqb}
 use lib.ListN.{length}
 use lib.Ieee as Ieee
 use lib.Ieee.{binary64}
-use Rattle.basics.specs.Tests.{by-test}
-use Rattle.basics.specs.Options.{Holds, same}
+use Rattle.basics.proofs.TestLaws.{by-test}
+use Rattle.basics.specs.Options.{Holds}
+use Rattle.basics.proofs.OptionLaws.{same}
 use Rattle.basics.specs.Lists.{All}
 use Rattle.definitions.specs.Domain.{mostCalls}
 use Rattle.definitions.specs.Sheet.{Break, Sheet, customer, distance, time}
@@ -18,10 +19,13 @@ use Rattle.definitions.specs.Run as Whole
 use Rattle.definitions.specs.Run.{breakStart, ready, serve, breakAt, serveAll, lastOf, distanceFrom}
 use Rattle.definitions.specs.Window.{dueOf}
 use Rattle.definitions.specs.Marker.{Verdict, breakTooLate, windowMissed, breakOr, callFault, walkFault}
-use Rattle.bounds.specs.Inside.{SmallBreak, Sized, Place, depot-inside, time-small, customer-small, break-small}
-use Rattle.bounds.specs.Bounds.{Early, arriveBy, serve-early}
-use Rattle.whole.specs.Whole.{fl, limit, fl-add}
-use Rattle.whole.specs.Larger.{larger-fl}
+use Rattle.bounds.specs.Sized.{SmallBreak, Sized, Place}
+use Rattle.bounds.proofs.Inside.{depot-inside, time-small, customer-small, break-small}
+use Rattle.bounds.specs.Bounds.{Early, arriveBy}
+use Rattle.bounds.proofs.BoundLaws.{serve-early}
+use Rattle.whole.specs.Whole.{fl, limit}
+use Rattle.whole.proofs.WholeLaws.{fl-add}
+use Rattle.whole.proofs.LargerLaws.{larger-fl}
 use Rattle.models.specs.Image.{flWindow, flBreak, flCustomer}
 use Rattle.models.specs.Window.{dueF}
 use Rattle.models.proofs.Exact.{due-exact}
@@ -41,7 +45,7 @@ use Rattle.marker.specs.Image.{flVerdict}
 
 -- ---- the figures of a call
 
-break-at-exact : (s : Sheet) (place k : ℕ) → breakAtF (Option·map flBreak (s .rest)) place k ≡ Option·map flBreak (breakAt s place k)
+break-at-exact : (s : Sheet) (place k : ℕ) → breakAtF (Option·map flBreak (s .head .rest)) place k ≡ Option·map flBreak (breakAt s place k)
 break-at-exact s place k = by-test (eqb place k) (λ t. rw t) (λ f. rw f)
 
 pub break-or-exact : (o : Option Break) → breakOrF (Option·map flBreak o) ≡ flBreak (breakOr o)
@@ -96,13 +100,14 @@ module _ (s : Sheet) (S : Sized s) (t : Tables) (I : Image s t) where
   pub walk-exact : (n place j k far a : ℕ) (l : Whole.Label) (calls : List ℕ) → j + length calls ≤ mostCalls → Place s a → All (Place s) calls → Early j l
       → far + distanceFrom s a calls ≤ limit
       → Walks (walkFault s n place k a l calls) (serveAll s place k a (some l) calls) (far + distanceFrom s a calls) (time s (lastOf a calls) 0)
-      (walkF t (Option·map flBreak (s .rest)) n place k (fl far) a (flLabel l) calls)
+      (walkF t (Option·map flBreak (s .head .rest)) n place k (fl far) a (flLabel l) calls)
   unfolding walkF walkFault serveAll
   walk-exact n place j k far a l [] h p i E f =
       arrives l refl refl
       (rw (distance-exact s S t I a 0 p (depot-inside s S), fl-add far (distance s a 0) (omega arith) (omega arith), time-exact s S t I a 0 p (depot-inside s S))
       (ap Home (same (home-exact j (omega arith) (far + distance s a 0) (time s a 0) (time-small s S a 0) l E))))
-  walk-exact n place j k far a l (c ∷ cs) h p i E f = go (serve s here k a c l) refl (λ m M. walk-exact n place (suc j) (suc k) (far + distance s a c) c m cs (omega arith) (i .0) (i .1) M (omega arith))
+  walk-exact n place j k far a l (c ∷ cs) h p i E f =
+      go (serve s here k a c l) refl (λ m M. walk-exact n place (suc j) (suc k) (far + distance s a c) c m cs (omega arith) (i .0) (i .1) M (omega arith))
     where
       here : Option Break
       here = breakAt s place k
@@ -113,15 +118,15 @@ module _ (s : Sheet) (S : Sized s) (t : Tables) (I : Image s t) where
       few : j < mostCalls
       few = omega arith
 
-      served : serveF (recordF t c) (breakAtF (Option·map flBreak (s .rest)) place k) k (timeF t a c) (flLabel l) ≡ Option·map flLabel (serve s here k a c l)
+      served : serveF (recordF t c) (breakAtF (Option·map flBreak (s .head .rest)) place k) k (timeF t a c) (flLabel l) ≡ Option·map flLabel (serve s here k a c l)
       served = rw (break-at-exact s place k) (carry-exact s S t I j few here H k a c p (i .0) (some l) E)
 
       go : (o : Option Whole.Label) → serve s here k a c l ≡ o
           → ((m : Whole.Label) → Early (suc j) m
           → Walks (walkFault s n place (suc k) c m cs) (serveAll s place (suc k) c (some m) cs) (far + distance s a c + distanceFrom s c cs) (time s (lastOf c cs) 0)
-          (walkF t (Option·map flBreak (s .rest)) n place (suc k) (fl (far + distance s a c)) c (flLabel m) cs))
+          (walkF t (Option·map flBreak (s .head .rest)) n place (suc k) (fl (far + distance s a c)) c (flLabel m) cs))
           → Walks (walkFault s n place k a l (c ∷ cs)) (serveAll s place k a (some l) (c ∷ cs)) (far + distanceFrom s a (c ∷ cs)) (time s (lastOf a (c ∷ cs)) 0)
-          (walkF t (Option·map flBreak (s .rest)) n place k (fl far) a (flLabel l) (c ∷ cs))
+          (walkF t (Option·map flBreak (s .head .rest)) n place k (fl far) a (flLabel l) (c ∷ cs))
       go none e ih =
           stops (callFault s n here k a c l) (rw (e, walkFault))
           (rw (served ∙ ap (Option·map flLabel) e, walkF) (ap Stopped (rw (break-at-exact s place k) (call-fault-exact j few here H n k a c p (i .0) l E))))

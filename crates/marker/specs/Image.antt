@@ -34,6 +34,6 @@ flMarked none cost = Costs (fl cost)
 -- what is lent holds the sheet
 pub record Image (s : Sheet) (G : Ground) : Type 0 where
   pub tables-hold : Tables.Image s (G .tables)
-  pub capacity-holds : G .capacity ≡ s .capacity
-  pub fixed-holds : G .fixed ≡ fl (s .fixed)
+  pub capacity-holds : G .capacity ≡ s .head .capacity
+  pub fixed-holds : G .fixed ≡ fl (s .head .fixed)
   pub limits-hold : G .limits ≡ flLimits s

@@ -42,9 +42,9 @@ verdictF planner (Faulty v) = v
 verdictF planner (Costs cost) = againstF planner cost
 
 -- the mark of a run list with break places, against the customers that the planner serves and its cost
-unfoldable pub markF : Ground → List ℕ → Float → (calls ends places : List ℕ) → Verdict
-markF G served planner calls ends places =
+unfoldable pub markF : Ground → List ℕ → Float → (calls ends breaks : List ℕ) → Verdict
+markF G served planner calls ends breaks =
     elim (differ 1 calls served) [
       | some position ↦ OtherCalls position
-      | none ↦ verdictF planner (runsMarkF G 1 (fl 0) (withPlaces (runsOf calls ends) places))
+      | none ↦ verdictF planner (runsMarkF G 1 (fl 0) (withPlaces (runsOf calls ends) breaks))
     ]

@@ -7,17 +7,18 @@ use lib.Dec.{leb, eqb}
 use lib.ListN.{length}
 use lib.Ieee as Ieee
 use lib.Ieee.{Float, binary64}
+use Rattle.definitions.specs.Load.{Load, carried, loadBy}
 use Rattle.definitions.specs.Sheet.{BreakOf}
 use Rattle.whole.specs.Whole.{fl}
 use Rattle.models.specs.declared.customer.Customer.{Customer}
 use Rattle.models.specs.declared.head.Head.{Head}
 use Rattle.models.specs.Limits.{limitF, withinF}
-use Rattle.models.specs.Load.{fitsLoad}
+use Rattle.models.specs.Load.{spaceOf}
 use Rattle.clock.specs.declared.schedule.Scheduled.{Scheduled}
 use Rattle.clock.specs.Serving.{startLabel}
 use Rattle.clock.specs.Clock.{excusedF}
 use Rattle.evaluation.specs.Records.{Tables, LimitsF, lent, limitsOf}
-use Rattle.evaluation.specs.Tables.{demandsOf, loadF}
+use Rattle.evaluation.specs.Tables.{demandF}
 use Rattle.marker.specs.declared.verdict.Verdict.the-variants.{Overload, BreakMissing, TooFar, TooLong}
 use Rattle.marker.specs.declared.walk.Walked.{Walked}
 use Rattle.marker.specs.declared.walk.Walked.the-variants.{Stopped, Home}
@@ -28,7 +29,7 @@ use Rattle.marker.specs.Walking.{breakOrF, walkF}
 -- what runs are marked on
 pub record Ground : Type 0 where
   pub tables : Tables
-  pub capacity : ℕ
+  pub capacity : Load
   -- the cost added for every run
   pub fixed : Float
   pub limits : LimitsF
@@ -37,7 +38,7 @@ abbrev pub groundOf : List Customer → List Float → List Float → Head → G
 groundOf customers distances times head =
     record {
       tables = lent customers distances times (head .places);
-      capacity = head .capacity;
+      capacity = spaceOf (head .capacity);
       fixed = head .«fixed_cost»;
       limits = limitsOf (head .limits);
     }
@@ -64,10 +65,12 @@ abbrev pub walkMarkF : LimitsF → Float → (n place calls : ℕ) → Walked �
 walkMarkF limits fixed n place calls (Stopped v) = Faulty v
 walkMarkF limits fixed n place calls (Home t) = totalsMarkF limits fixed n place calls t
 
--- run n: load, the calls, the totals
-unfoldable pub runMarkF : Ground → ℕ → List ℕ → ℕ → Marked
-runMarkF G n calls place =
-    let load = loadF (demandsOf (G .tables .customers)) calls in
-    cond (fitsLoad load (G .capacity))
+-- run n with this load: the load, the calls, the totals
+abbrev pub loadMarkF : Ground → ℕ → List ℕ → ℕ → Load → Marked
+loadMarkF G n calls place load =
+    cond (carried load (G .capacity))
     (walkMarkF (G .limits) (G .fixed) n place (length calls) (walkF (G .tables) (G .limits .rest) n place 1 (fl 0) 0 startLabel calls))
-    (Faulty (Overload n load (G .capacity)))
+    (Faulty (Overload n (load .seats) (G .capacity .seats)))
+
+unfoldable pub runMarkF : Ground → ℕ → List ℕ → ℕ → Marked
+runMarkF G n calls place = loadMarkF G n calls place (loadBy (demandF (G .tables .customers)) calls)

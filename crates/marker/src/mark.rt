@@ -1,4 +1,5 @@
-// The mark of a cutting: its calls against those that the planner serves, its runs one by one, and its cost against the planner's.
+// The mark of a cutting: its calls against those that the planner serves, its runs one by one, and its cost against the
+// planner's.
 ghost use mathlib.Core.Path.{_≡_};
 ghost use mathlib.Core.Bool.{false};
 ghost use mathlib.Core.List.{map};
@@ -9,12 +10,13 @@ ghost use Rattle.definitions.specs.Marker.{differ, withPlaces};
 ghost use Rattle.definitions.specs.RunList.{runsOf};
 ghost use Rattle.definitions.specs.Refusals.{endsFall};
 ghost use Rattle.models.specs.Records.{customerOf};
-ghost use Rattle.evaluation.specs.Tables.{demandsOf};
+ghost use Rattle.evaluation.specs.Tables.{Asks};
 ghost use Rattle.marker.specs.RunMark.{groundOf};
 ghost use Rattle.marker.specs.Marks.{differenceOf, againstF, runsMarkF, markF};
 use crate::run::Marked;
 use crate::run::mark_run;
 use crate::verdict::Verdict;
+use evaluation::load::Demands;
 use evaluation::load::demands_of;
 use models::count::fewer;
 use models::customer::Customer;
@@ -45,27 +47,31 @@ pub fn differ(calls: &[usize], served: &[usize]) -> Difference
     }
 }
 
-// The first fault of the runs, or the sum of their costs. The places beyond the runs are not read.
+// The first fault of the runs, each with its break place, or the sum of their costs. Breaks beyond the runs are unread.
 pub fn mark_runs(
     calls: &[usize],
     ends: &[usize],
-    places: &[usize],
+    breaks: &[usize],
     customers: [Customer; 64],
-    demands: &[u32; 64],
+    demands: &Demands,
     distances: &[f64],
     times: &[f64],
     head: Head,
 ) -> Marked
-    requires { ⌜ (length (now calls) ≤ 128) × (length (now ends) ≤ length (now places)) × (now demands ≡ demandsOf (map customerOf customers)) ⌝ }
+    requires { ⌜ (length (now calls) ≤ 128) × (length (now ends) ≤ length (now breaks)) ⌝ }
+    requires { ⌜ Asks (map customerOf customers) (now demands) ⌝ }
     requires { ⌜ endsFall 0 (now ends) (length (now calls)) ≡ false ⌝ }
-    ensures { λ r. ⌜ r ≡ runsMarkF (groundOf customers (now (distances .entry)) (now (times .entry)) head) 1 (fl 0) (withPlaces (runsOf (now (calls .entry)) (now (ends .entry))) (now (places .entry))) ⌝ }
+    ensures { λ r.
+        let ground = groundOf customers (now (distances .entry)) (now (times .entry)) head in
+        let runs = runsOf (now (calls .entry)) (now (ends .entry)) in
+        ⌜ r ≡ runsMarkF ground 1 (fl 0) (withPlaces runs (now (breaks .entry))) ⌝ }
 {
     let mut total = 0.0;
     let mut p = 0;
     let mut k = 0;
     while k < ends.len() {
         let e = ends[k];
-        let place = places[k];
+        let place = breaks[k];
         k += 1;
         let marked = mark_run(
             k,
@@ -105,15 +111,17 @@ pub fn mark(
     cost: f64,
     calls: &[usize],
     ends: &[usize],
-    places: &[usize],
+    breaks: &[usize],
     customers: [Customer; 64],
     distances: &[f64],
     times: &[f64],
     head: Head,
 ) -> Verdict
-    requires { ⌜ (length (now calls) ≤ 128) × (length (now ends) ≤ length (now places)) ⌝ }
+    requires { ⌜ (length (now calls) ≤ 128) × (length (now ends) ≤ length (now breaks)) ⌝ }
     requires { ⌜ endsFall 0 (now ends) (length (now calls)) ≡ false ⌝ }
-    ensures { λ r. ⌜ r ≡ markF (groundOf customers (now (distances .entry)) (now (times .entry)) head) (now (served .entry)) cost (now (calls .entry)) (now (ends .entry)) (now (places .entry)) ⌝ }
+    ensures { λ r.
+        let ground = groundOf customers (now (distances .entry)) (now (times .entry)) head in
+        ⌜ r ≡ markF ground (now (served .entry)) cost (now (calls .entry)) (now (ends .entry)) (now (breaks .entry)) ⌝ }
 {
     if let Difference::At(position) = differ(calls, served) {
         return Verdict::OtherCalls { position };
@@ -122,7 +130,7 @@ pub fn mark(
     match mark_runs(
         calls,
         ends,
-        places,
+        breaks,
         customers,
         &demands,
         distances,

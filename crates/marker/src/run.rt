@@ -5,7 +5,7 @@ ghost use Prim.Native.Nat.{_≤_};
 ghost use lib.ListN.{length};
 ghost use Rattle.models.specs.Records.{customerOf, restOf};
 ghost use Rattle.evaluation.specs.Records.{limitsOf};
-ghost use Rattle.evaluation.specs.Tables.{demandsOf};
+ghost use Rattle.evaluation.specs.Tables.{Asks};
 ghost use Rattle.marker.specs.RunMark.{groundOf, placedF, totalsMarkF, runMarkF};
 use crate::verdict::Verdict;
 use crate::walk::Walked;
@@ -13,12 +13,12 @@ use crate::walk::break_or;
 use crate::walk::walk;
 use clock::schedule::Scheduled;
 use clock::schedule::excused;
+use evaluation::load::Demands;
 use evaluation::load::load_of;
 use models::customer::Customer;
 use models::head::Head;
 use models::limits::RouteLimits;
 use models::limits::limit_or_zero;
-use models::load::fits;
 use models::vehicle::Rest;
 
 // The first fault, or what is marked costs so much.
@@ -81,28 +81,30 @@ pub fn mark_totals(
     Marked::Costs(fixed + distance + totals.cost)
 }
 
-// The first fault of run number `run` with its break place, or its cost. The demands are those of the customers.
+// The first fault of run number `run` with its break place, or its cost. The demands are what the customers ask for.
 pub fn mark_run(
     run: usize,
     calls: &[usize],
     place: usize,
     customers: [Customer; 64],
-    demands: &[u32; 64],
+    demands: &Demands,
     distances: &[f64],
     times: &[f64],
     head: Head,
 ) -> Marked
     requires { ⌜ length (now calls) ≤ 128 ⌝ }
-    requires { ⌜ now demands ≡ demandsOf (map customerOf customers) ⌝ }
-    ensures { λ r. ⌜ r ≡ runMarkF (groundOf customers (now (distances .entry)) (now (times .entry)) head) run (now (calls .entry)) place ⌝ }
+    requires { ⌜ Asks (map customerOf customers) (now demands) ⌝ }
+    ensures { λ r.
+        let ground = groundOf customers (now (distances .entry)) (now (times .entry)) head in
+        ⌜ r ≡ runMarkF ground run (now (calls .entry)) place ⌝ }
 {
     let load = load_of(calls, demands);
     let capacity = head.capacity;
-    if !fits(load, capacity) {
+    if !load.fits(capacity) {
         return Marked::Faulty(Verdict::Overload {
             run,
-            load,
-            capacity,
+            load: load.seats,
+            capacity: capacity.seats,
         });
     }
     let limits = head.limits;

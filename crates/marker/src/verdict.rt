@@ -1,6 +1,7 @@
 // What the marker says of a cutting.
 
-// A fault carries its run, from 1, and the value and limit that clash; a window or break fault also the call's place in the run, from 1, and its customer.
+// A fault carries its run, from 1, and the value and limit that clash; a window or break fault also the call's place in
+// the run, from 1, and its customer.
 pub enum Verdict {
     // The joined calls differ from the planner's served customers, first at this position, from 1.
     OtherCalls {

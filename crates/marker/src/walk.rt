@@ -13,8 +13,7 @@ use clock::schedule::Scheduled;
 use clock::schedule::break_start_at;
 use clock::schedule::ready_at;
 use clock::schedule::serve;
-use distance::matrix::get;
-use distance::matrix::travel_time;
+use distance::leg::leg_between;
 use evaluation::schedule::record_index;
 use models::customer::Customer;
 use models::customer::due_or_zero;
@@ -94,7 +93,9 @@ pub fn walk(
     size: usize,
     rest: Rest,
 ) -> Walked
-    ensures { λ r. ⌜ r ≡ walkF (lent customers (now (distances .entry)) (now (times .entry)) size) (restOf rest) run place 1 (fl 0) 0 startLabel (now (calls .entry)) ⌝ }
+    ensures { λ r.
+        let tables = lent customers (now (distances .entry)) (now (times .entry)) size in
+        ⌜ r ≡ walkF tables (restOf rest) run place 1 (fl 0) 0 startLabel (now (calls .entry)) ⌝ }
 {
     let mut distance = 0.0;
     let mut label = Label::start();
@@ -102,8 +103,9 @@ pub fn walk(
     let mut i = 0;
     while i < calls.len() {
         let cid = calls[i];
-        distance = distance + get(distances, size, prev, cid);
-        let travel = travel_time(distances, times, size, prev, cid);
+        let leg = leg_between(distances, times, size, prev, cid);
+        distance = distance + leg.distance;
+        let travel = leg.time;
         let index = record_index(cid);
         let customer = customers[index];
         i += 1;
@@ -114,6 +116,6 @@ pub fn walk(
         label = l;
         prev = cid;
     }
-    let far = distance + get(distances, size, prev, 0);
-    Walked::Home(label.home(far, travel_time(distances, times, size, prev, 0)))
+    let back = leg_between(distances, times, size, prev, 0);
+    Walked::Home(label.home(distance + back.distance, back.time))
 }

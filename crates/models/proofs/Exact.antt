@@ -9,13 +9,14 @@ use lib.Dec.{ltb}
 use borrow.Author.Tests.{ltb-true, ltb-false}
 use lib.Ieee as Ieee
 use lib.Ieee.{binary64}
-use Rattle.basics.specs.Tests.{by-test}
+use Rattle.basics.proofs.TestLaws.{by-test}
 use Rattle.basics.specs.Options.{Holds, valueOr}
 use Rattle.definitions.specs.Sheet.{Window}
 use Rattle.definitions.specs.Window.{dueOf, late, waiting, lateness}
 use Rattle.definitions.specs.Limits.{within}
-use Rattle.whole.specs.Whole.{fl, limit, fl-sub, fl-lt, fl-le}
-use Rattle.whole.specs.Difference.{fl-diff, diff-lt-fl}
+use Rattle.whole.specs.Whole.{fl, limit}
+use Rattle.whole.proofs.WholeLaws.{fl-sub, fl-lt, fl-le}
+use Rattle.whole.proofs.DifferenceLaws.{fl-diff, diff-lt-fl}
 use Rattle.models.specs.Window.{lateF, waitingF, latenessF, dueF}
 use Rattle.models.specs.Limits.{limitF, withinF, allowF}
 use Rattle.models.specs.Image.{flWindow}

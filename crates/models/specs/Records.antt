@@ -4,6 +4,7 @@ use mathlib.Core.Option.{Option, none, some}
 use lib.IntN.{pos}
 use lib.Ieee.{Float, fin}
 use Rattle.definitions.specs.Sheet.{WindowOf, BreakOf, CustomerOf}
+use Rattle.models.specs.Load.{seatSpace, spaceOf}
 use Rattle.models.specs.declared.customer.TimeWindow.{TimeWindow}
 use Rattle.models.specs.declared.customer.Opening.{Opening}
 use Rattle.models.specs.declared.customer.Opening.the-variants.{Always, Window}
@@ -30,7 +31,7 @@ penaltyOf (Soft p) = some p
 abbrev pub customerOf : Customer → CustomerOf Float
 customerOf c =
     record {
-      demand = c .demand;
+      demand = spaceOf (c .demand);
       service = c .«service_duration»;
       window = openingOf (c .«time_window»);
       penalty = penaltyOf (c .«lateness_penalty»);
@@ -38,7 +39,7 @@ customerOf c =
 
 -- the depot's record: no demand, no service time, no window, no penalty
 abbrev pub depotRecord : Customer
-depotRecord = record { demand = 0; «service_duration» = fin false 0 (pos 0); «time_window» = Always; «lateness_penalty» = Hard }
+depotRecord = record { demand = seatSpace 0; «service_duration» = fin false 0 (pos 0); «time_window» = Always; «lateness_penalty» = Hard }
 
 abbrev pub breakOf : VehicleBreak → BreakOf Float
 breakOf b = record { earliest = b .earliest; latest = b .latest; duration = b .duration }

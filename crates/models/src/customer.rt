@@ -4,6 +4,8 @@ ghost use lib.ListN.{replicate};
 ghost use Rattle.basics.specs.Options.{present};
 ghost use Rattle.models.specs.Records.{windowOf, openingOf, customerOf, depotRecord};
 ghost use Rattle.models.specs.Window.{lateF, waitingF, latenessF, dueF};
+use crate::load::Space;
+use crate::load::seats;
 use whole::larger;
 
 pub struct TimeWindow {
@@ -24,7 +26,7 @@ pub enum Penalty {
 }
 
 pub struct Customer {
-    pub demand: u32,
+    pub demand: Space,
     pub service_duration: f64,
     pub time_window: Opening,
     pub lateness_penalty: Penalty,
@@ -35,7 +37,7 @@ pub fn depot() -> Customer
     ensures { λ r. ⌜ r ≡ depotRecord ⌝ }
 {
     Customer {
-        demand: 0,
+        demand: seats(0),
         service_duration: 0.0,
         time_window: Opening::Always,
         lateness_penalty: Penalty::Hard,

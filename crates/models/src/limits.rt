@@ -41,7 +41,10 @@ impl Limit {
 impl RouteLimits {
     // Distance and duration each at most their limit, if given.
     pub fn allow(self, distance: f64, duration: f64) -> bool
-        ensures { λ r. ⌜ r ≡ allowF (limitOf (self .«max_distance»)) (limitOf (self .«max_duration»)) distance duration ⌝ }
+        ensures { λ r.
+            let far = limitOf (self .«max_distance») in
+            let long = limitOf (self .«max_duration») in
+            ⌜ r ≡ allowF far long distance duration ⌝ }
     {
         let max_distance = self.max_distance;
         let max_duration = self.max_duration;

@@ -12,16 +12,24 @@ use denote.Enum.Laws as EL
 use Rattle.models.specs.declared.head.Head.{Head}
 use Rattle.models.proofs.head.Head as T
 use Rattle.models.proofs.head.Head.Laws as T′
-use Rattle.checked_runs.proofs.evaluating.Feasible as Ft
-use Rattle.checked_runs.proofs.evaluating.Feasible.Laws as Ft′
-use Rattle.checked_runs.proofs.evaluating.Cost as Ct
-use Rattle.checked_runs.proofs.evaluating.Cost.Laws as Ct′
-use Rattle.checked_runs.proofs.evaluating.Evaluation as Et
-use Rattle.checked_runs.proofs.evaluating.Evaluation.Laws as Et′
-use Rattle.checked_cuts.proofs.cutting.Cut as Kt
-use Rattle.checked_cuts.proofs.cutting.Cut.Laws as Kt′
-use Rattle.checked_sheets.proofs.reading.Read as Rt
-use Rattle.checked_sheets.proofs.reading.Read.Laws as Rt′
+use Rattle.call_runs.proofs.evaluating.Feasible as Ft
+use Rattle.call_runs.proofs.evaluating.Feasible.Laws as Ft′
+use Rattle.call_runs.proofs.evaluating.Cost as Ct
+use Rattle.call_runs.proofs.evaluating.Cost.Laws as Ct′
+use Rattle.call_runs.proofs.evaluating.Evaluation as Et
+use Rattle.call_runs.proofs.evaluating.Evaluation.Laws as Et′
+use Rattle.call_cuts.proofs.cutting.Cut as Kt
+use Rattle.call_cuts.proofs.cutting.Cut.Laws as Kt′
+use Rattle.call_cuts.proofs.marking.Marking as Mt
+use Rattle.call_cuts.proofs.marking.Marking.Laws as Mt′
+use Rattle.call_improvers.proofs.reversing.Reversed as Vt
+use Rattle.call_improvers.proofs.reversing.Reversed.Laws as Vt′
+use Rattle.call_improvers.proofs.eliminating.Elimination as Lt
+use Rattle.call_improvers.proofs.eliminating.Elimination.Laws as Lt′
+use Rattle.call_reader.proofs.reading.Read as Rt
+use Rattle.call_reader.proofs.reading.Read.Laws as Rt′
+
+-- ---- the rows of the head and of each answer
 
 abbrev pub Hd : RattleType
 Hd = T.the-row
@@ -37,6 +45,15 @@ Ed = Et.the-row
 
 abbrev pub Kd : RattleType
 Kd = Kt.the-row
+
+abbrev pub Md : RattleType
+Md = Mt.the-row
+
+abbrev pub Vd : RattleType
+Vd = Vt.the-row
+
+abbrev pub Ld : RattleType
+Ld = Lt.the-row
 
 abbrev pub Rd : RattleType
 Rd = Rt.the-row
@@ -70,6 +87,15 @@ module _ {M : Type 1} (𝓤 : URA M) (H : Heap 𝓤) (A : Atoms 𝓤) (W : Given
 
   pub cut-lawful : Lawful 𝓤 H A Kd
   cut-lawful = EL.lawful Kt.the-type Kt′.the-laws 𝓤 H A W tt
+
+  pub mark-lawful : Lawful 𝓤 H A Md
+  mark-lawful = EL.lawful Mt.the-type Mt′.the-laws 𝓤 H A W tt
+
+  pub reversed-lawful : Lawful 𝓤 H A Vd
+  reversed-lawful = EL.lawful Vt.the-type Vt′.the-laws 𝓤 H A W tt
+
+  pub elimination-lawful : Lawful 𝓤 H A Ld
+  elimination-lawful = EL.lawful Lt.the-type Lt′.the-laws 𝓤 H A W tt
 
   pub read-lawful : Lawful 𝓤 H A Rd
   read-lawful = EL.lawful Rt.the-type Rt′.the-laws 𝓤 H A W tt

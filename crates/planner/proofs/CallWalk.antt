@@ -1,4 +1,5 @@
--- The walk of a public call, by hand, for any core and any lent lists: `count` and `gathered` read the records, each `&mut` list is borrowed again, and the core is called on the array. All that is known of the three is that each meets its contract.
+-- The walk of a public call, by hand, for any core and any lent lists: `count` and `gathered` read the records, each `&mut` list is
+-- borrowed again, and the core is called on the array. All that is known of the three is that each meets its contract.
 -- What the parameters own is given to the core for good (`hands-over`).
 -- Assumes `Given`.
 use mathlib.Core.Path.{_≡_, refl, ap, _∙_}
@@ -100,7 +101,8 @@ module _ (res : Ty) (code : Code) (vals : List Val) (b : ℕ) (bs : Blocks (code
 
 module _ {M : Type 1} (𝓤 : URA M) (H : Heap 𝓤) (A : Atoms 𝓤) (W : Given 𝓤 H A) (mem : Memory → SProp 𝓤) (run : Routine → Fun 𝓤) (f : Name) (T₁ : Ended) (c : Clauses 𝓤 T₁)
     -- the customers, and the core's lifetimes and arguments
-    (κ : Lft) (q : Share) (s : RefT (List Customer)) (κs : Lfts (T₁ .signature .lifetimes)) (qs : Shares (T₁ .signature .lifetimes)) (bounds : AllOutlive (T₁ .signature .lifetimes) (T₁ .signature .outlives) κs)
+    (κ : Lft) (q : Share) (s : RefT (List Customer)) (κs : Lfts (T₁ .signature .lifetimes)) (qs : Shares (T₁ .signature .lifetimes))
+    (bounds : AllOutlive (T₁ .signature .lifetimes) (T₁ .signature .outlives) κs)
     (a : Args (T₁ .signature) κs) (vss : Val → Val → Vals (T₁ .signature) κs) where
   abbrev all : List Customer
   all = padded 64 (s .now)
@@ -122,9 +124,11 @@ module _ {M : Type 1} (𝓤 : URA M) (H : Heap 𝓤) (A : Atoms 𝓤) (W : Given
     pub heard : (r : Res (T₁ .signature) κs) (e : AtExit T₁ κs) → ent 𝓤 (c κs a .ensures ghost r e) (fact 𝓤 (Said r e))
     pub given : (un ua : Val) → ent 𝓤 (sem 𝓤 H A (fsep First (fsep (Rs .own all (ua ∷ [])) (fsep (usize .own n (un ∷ [])) Rest)))) (sem 𝓤 H A (owns (typesAt (T₁ .signature .params) κs) a (vss un ua)))
     pub typed : (r : Res (T₁ .signature) κs) (u : Val) → Is (typeAt (T₁ .signature .result) κs) r (u ∷ []) → T (hasTy res u) × WT u
-    pub exits : (r : Res (T₁ .signature) κs) (u : Val) (ws : Lasts T₁ κs a) → Said r (atExit T₁ κs a ws) → ent 𝓤 (⋆ 𝓤 H A (‵ (typeAt (T₁ .signature .result) κs .own r (u ∷ [])) ∷ Ts ∷ ‵ (lasts T₁ κs a ws) ∷ ‵ (flft κ q) ∷ [])) (Post u)
+    pub exits : (r : Res (T₁ .signature) κs) (u : Val) (ws : Lasts T₁ κs a) → Said r (atExit T₁ κs a ws)
+        → ent 𝓤 (⋆ 𝓤 H A (‵ (typeAt (T₁ .signature .result) κs .own r (u ∷ [])) ∷ Ts ∷ ‵ (lasts T₁ κs a ws) ∷ ‵ (flft κ q) ∷ [])) (Post u)
 
-  module _ (First Rest : Fml) (res : Ty) (code : Code) (vals : List Val) (takes : (bs : Blocks (code .locals)) → Takes (unsetOf (code .locals) bs) vals) (holds-all : (b : ℕ) (bs : Blocks (code .locals)) → Holds res code vals b bs (ref s) operands) (Post : Val → SProp 𝓤) (around : Around First Rest res Post)
+  module _ (First Rest : Fml) (res : Ty) (code : Code) (vals : List Val) (takes : (bs : Blocks (code .locals)) → Takes (unsetOf (code .locals) bs) vals)
+      (holds-all : (b : ℕ) (bs : Blocks (code .locals)) → Holds res code vals b bs (ref s) operands) (Post : Val → SProp 𝓤) (around : Around First Rest res Post)
       (C : Calls 𝓤 H) (Λ : Loops 𝓤 H) (fm : FmC 𝓤 H (W .laws) C) (known : lent.Known 𝓤 H A mem run C) (core-known : Triple 𝓤 (C f) (Met 𝓤 H A T₁ c)) where
     pub walk : (lifetimes params : ℕ) → ent 𝓤 (⋆ 𝓤 H A ((‵ (flft κ q) ⊛ Ts) ∷ Second 𝓤 H A W κ s First Rest ∷ [])) (WpFn 𝓤 H C Λ (function lifetimes params res code f) vals Post)
     walk lifetimes params =
@@ -132,15 +136,18 @@ module _ {M : Type 1} (𝓤 : URA M) (H : Heap 𝓤) (A : Atoms 𝓤) (W : Given
         opens ! (local res valueLocal ∷ code .locals) (λ bs.
         let h = holds-all (bs .0) (bs .1) in
         let σ = begun res code vals (bs .0) (bs .1) in
-        let env : envAt 𝓤 H A σ ≡ envAt 𝓤 H A (unset res (bs .0) ∷ unsetOf (code .locals) (bs .1)) = ap (λ (E : Env 𝓤 H). (res, bs .0) ∷ E) (same-passed 𝓤 H A (unsetOf (code .locals) (bs .1)) vals (takes (bs .1))) in
+        let env : envAt 𝓤 H A σ ≡ envAt 𝓤 H A (unset res (bs .0) ∷ unsetOf (code .locals) (bs .1)) = ap (λ (E : Env 𝓤 H). (res, bs .0) ∷ E)
+        (same-passed 𝓤 H A (unsetOf (code .locals) (bs .1)) vals (takes (bs .1))) in
         passed-in ! (unset res (bs .0)) (unsetOf (code .locals) (bs .1)) vals (takes (bs .1)) $
         -- [the locals; the tokens; what the parameters own]
         move ! (1 ∷ 2 ∷ []) $ join ! $
-        counts ! fm mem run known κ q s Ts (Second 𝓤 H A W κ s First Rest) (keeps-second 𝓤 H A W κ q s Ts First Rest) (args ! 1 σ (2 ∷ []) refl env (ap (λ (o : Option Val). o ∷ []) (h .customers-first))) (λ un is-n.
+        counts ! fm mem run known κ q s Ts (Second 𝓤 H A W κ s First Rest) (keeps-second 𝓤 H A W κ q s Ts First Rest)
+        (args ! 1 σ (2 ∷ []) refl env (ap (λ (o : Option Val). o ∷ []) (h .customers-first))) (λ un is-n.
         let σ₁ = setAt σ (code .number) un in
         let env₁ = same-env 𝓤 H A σ (code .number) un ∙ env in
         land ! (finds ! σ (code .number) _ env (h .number-free) (stop !)) (set ! 1 σ (code .number) refl (h .number-free) (uint-lawful 𝓤 H A W w64 .typed n _ is-n .0)) $
-        gathers ! fm mem run known κ q s Ts (Second 𝓤 H A W κ s First Rest) (keeps-second 𝓤 H A W κ q s Ts First Rest) (args ! 1 σ₁ (2 ∷ []) refl env₁ (ap (λ (o : Option Val). o ∷ []) (h .customers-then un))) (λ ua is-all.
+        gathers ! fm mem run known κ q s Ts (Second 𝓤 H A W κ s First Rest) (keeps-second 𝓤 H A W κ q s Ts First Rest)
+        (args ! 1 σ₁ (2 ∷ []) refl env₁ (ap (λ (o : Option Val). o ∷ []) (h .customers-then un))) (λ ua is-all.
         let σ₂ = setAt σ₁ (code .array) ua in
         let env₂ = same-env 𝓤 H A σ₁ (code .array) ua ∙ env₁ in
         let σ₃ = afterAll σ₂ (code .again) (h .lents un ua) in
@@ -150,7 +157,8 @@ module _ {M : Type 1} (𝓤 : URA M) (H : Heap 𝓤) (A : Atoms 𝓤) (W : Given
         hands-over ! κ q s Ts First Rest all n ua un is-all is-n $
         move ! (1 ∷ []) $ use1 W (‵ (owns (typesAt (T₁ .signature .params) κs) a (vss un ua))) (around .given un ua) $ move ! (1 ∷ 0 ∷ []) $
         -- [the core's tokens; what its parameters own; the customers' token; the locals]
-        calls-said ! fm T₁ c core-known κs qs bounds a (vss un ua) (around .ghost) (around .asks) (around .Said) (around .heard) (args ! 2 σ₃ (code .operands) refl env₃ (h .operands-are un ua)) (λ u r ws said is.
+        calls-said ! fm T₁ c core-known κs qs bounds a (vss un ua) (around .ghost) (around .asks) (around .Said) (around .heard) (args ! 2 σ₃ (code .operands) refl env₃ (h .operands-are un ua))
+        (λ u r ws said is.
         -- [the result; the core's tokens; what is said of the last values; the customers' token; the locals]
         land ! (finds ! σ₃ 0 _ env₃ (h .result-free un ua) (stop !)) (set ! 4 σ₃ 0 refl (h .result-free un ua) (around .typed r u is)) $
         returns ! (reads ! 4 (setAt σ₃ 0 u) refl (held ! (setAt σ₃ 0 u) 0 (here-set σ₃ 0 res (bs .0) u (h .result-free un ua)))) $

@@ -26,7 +26,10 @@ cut-coded 𝓤 H A res κs qs a are b bs =
       array-free = λ un. refl;
       lents = λ un ua. (
         lends _ _ (named 4) (a .1 .1 .1 .1 .1 .0) (are .1 .1 .1 .1 .1 .0 .0 .1 .0) _ _ _ refl refl refl,
-        (lends _ _ (named 5) (a .1 .1 .1 .1 .1 .1 .0) (are .1 .1 .1 .1 .1 .1 .0 .0 .1 .0) _ _ _ refl refl refl, (lends _ _ (named 6) (a .1 .1 .1 .1 .1 .1 .1 .0) (are .1 .1 .1 .1 .1 .1 .1 .0 .0 .1 .0) _ _ _ refl refl refl, tt)),
+        (
+          lends _ _ (named 5) (a .1 .1 .1 .1 .1 .1 .0) (are .1 .1 .1 .1 .1 .1 .0 .0 .1 .0) _ _ _ refl refl refl,
+          (lends _ _ (named 6) (a .1 .1 .1 .1 .1 .1 .1 .0) (are .1 .1 .1 .1 .1 .1 .1 .0 .0 .1 .0) _ _ _ refl refl refl, tt),
+        ),
       );
       result-free = λ un ua. refl;
       operands-are = λ un ua. refl;

@@ -1,4 +1,5 @@
--- The lists that are lent to a public call, given by their kinds: the slots of its signature and of its core's, and the locals and operands of its code. To both the lists are the same. Assumes `Given`.
+-- The lists that are lent to a public call, given by their kinds: the slots of its signature and of its core's, and the locals and operands
+-- of its code. To both the lists are the same. Assumes `Given`.
 use Prim.Native.Nat.{ℕ, zero, suc, _+_}
 use mathlib.Core.List.{List, [], _∷_}
 use lib.ListN.{length}
@@ -61,7 +62,8 @@ module _ (m : ℕ) (κs : Lfts (suc m)) where
   values j [] vs = tt
   values j (k ∷ ks) vs = (vs .0, values (suc j) ks (vs .1))
 
-  abbrev pub back : (j : ℕ) (ks : List Kind) (a : Denots (typesAt (slots (suc m) (suc j) ks) κs)) → Fins (κs .1) (slots m j ks) (kepts m j ks) (over j ks a) → Fins κs (slots (suc m) (suc j) ks) (kepts (suc m) (suc j) ks) a
+  abbrev pub back : (j : ℕ) (ks : List Kind) (a : Denots (typesAt (slots (suc m) (suc j) ks) κs)) → Fins (κs .1) (slots m j ks) (kepts m j ks) (over j ks a)
+      → Fins κs (slots (suc m) (suc j) ks) (kepts (suc m) (suc j) ks) a
   back j [] a ws = tt
   back j (shared T ∷ ks) a ws = (ws .0, back (suc j) ks (a .1) (ws .1))
   back j (mutable T ∷ ks) a ws = (ws .0, back (suc j) ks (a .1) (ws .1))
@@ -136,7 +138,8 @@ codeOf ks =
 
 module _ {M : Type 1} (𝓤 : URA M) (H : Heap 𝓤) (A : Atoms 𝓤) (W : Given 𝓤 H A) (n : ℕ) (κs : Lfts n) where
   -- the lists' values are of their locals' types
-  pub take-lists : (j : ℕ) (ks : List Kind) (more : List Local) (bs : Blocks (lists j ks more)) (a : Denots (typesAt (slots n j ks) κs)) → let vs = valss (typesAt (slots n j ks) κs) (spells n κs j ks) a in
+  pub take-lists : (j : ℕ) (ks : List Kind) (more : List Local) (bs : Blocks (lists j ks more)) (a : Denots (typesAt (slots n j ks) κs))
+      → let vs = valss (typesAt (slots n j ks) κs) (spells n κs j ks) a in
       Are (typesAt (slots n j ks) κs) (Ises (typesAt (slots n j ks) κs)) a vs → Takes (unsetOf (lists j ks more) bs) (flat (typesAt (slots n j ks) κs) vs)
   take-lists j [] more bs a are = tt
   take-lists j (shared T ∷ ks) more bs a are = (shr-slice-lawful 𝓤 H A W (named j) (lifetimeAt n j κs) T .typed (a .0) _ (are .0) .0, take-lists (suc j) ks more (bs .1) (a .1) (are .1))

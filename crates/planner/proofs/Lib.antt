@@ -4,23 +4,24 @@ pub mod Answers
 pub mod CallWalk
 pub mod LentLists
 pub mod PublicCall
+-- What a contract says of a refusal.
+pub mod Refusing
+-- The evaluations of a run.
 pub mod RunLists
 pub mod RunCalls
+-- The cutting of a tour.
 pub mod CutLists
--- What a caller of a cutting is given.
-pub mod ManyClauses
-pub mod Promised
+pub mod CutKept
 pub mod CutCalls
 -- The improvers.
-pub mod ImproverRows
+pub mod ImproversKept
 pub mod ReversalLists
+pub mod EliminationLists
 -- The marker.
-pub mod MarkRow
 pub mod MarkLists
-pub mod MarkGiven
+pub mod MarkKept
 -- The visits of a run.
 pub mod RouteRows
-pub mod RouteFigures
--- Route elimination.
-pub mod EliminationRow
-pub mod EliminationLists
+pub mod RouteKept
+-- The reader.
+pub mod ReadKept

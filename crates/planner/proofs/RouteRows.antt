@@ -1,4 +1,5 @@
--- What the walk of `build_route` cites of its answer and of what is listed for it: their rows and laws, the machine value of what is listed, and its parts. All of them own only facts. Assumes `Given`.
+-- What the walk of `build_route` cites of its answer and of what is listed for it: their rows and laws, the machine value of what is
+-- listed, and its parts. All of them own only facts. Assumes `Given`.
 use mathlib.Core.Path.{sym, _∙_}
 use Prim.Native.Nat.{ℕ}
 use mathlib.Core.List.{List, [], _∷_, map}
@@ -22,11 +23,11 @@ use Rattle.visits.proofs.visit.Visit as Vt
 use Rattle.visits.proofs.visit.Visit.Laws as Vt′
 use Rattle.visits.proofs.visit.Violation as Wt
 use Rattle.visits.proofs.visit.Violation.Laws as Wt′
-use Rattle.checked_runs.specs.declared.visiting.Listed.{Listed}
-use Rattle.checked_runs.proofs.visiting.Route as Rt
-use Rattle.checked_runs.proofs.visiting.Route.Laws as Rt′
-use Rattle.checked_runs.proofs.visiting.Listed as Lt
-use Rattle.checked_runs.proofs.visiting.Listed.Laws as Lt′
+use Rattle.call_runs.specs.declared.visiting.Listed.{Listed}
+use Rattle.call_runs.proofs.visiting.Route as Rt
+use Rattle.call_runs.proofs.visiting.Route.Laws as Rt′
+use Rattle.call_runs.proofs.visiting.Listed as Lt
+use Rattle.call_runs.proofs.visiting.Listed.Laws as Lt′
 
 -- ---- rows
 

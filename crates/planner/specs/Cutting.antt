@@ -1,33 +1,29 @@
--- What a caller of a cutting is given by its answer. Definitions only.
+-- The contract of a cutting. Definitions only.
 use Prim.Native.Nat.{ℕ}
 use mathlib.Core.Path.{_≡_}
 use mathlib.Core.List.{List}
 use mathlib.Core.Option.{Option, none, some}
-use lib.ListN.{length}
+use lib.ListN.{length, take}
 use lib.Ieee.{Float}
-use Rattle.definitions.specs.Lent.{cutting}
-use Rattle.definitions.specs.Refusals.{refusalOf}
+use Rattle.definitions.specs.Sheet.{Sheet}
+use Rattle.definitions.specs.Drop.{Result, split, splitTw}
+use Rattle.definitions.specs.Lent.{Lent, cutting}
+use Rattle.definitions.specs.Room.{written}
+use Rattle.definitions.specs.Answers.{Answer, front, answer}
+use Rattle.definitions.specs.Clauses.{Legal, Sum, Least, Tied, Drops, Served, Partition, bare}
 use Rattle.whole.specs.Value.{value}
-use Rattle.models.specs.declared.customer.Customer.{Customer}
-use Rattle.models.specs.declared.head.Head.{Head}
 use Rattle.split.specs.declared.split.SplitResult.{SplitResult}
-use Rattle.checked_cuts.specs.declared.cutting.Cut.{Cut}
-use Rattle.checked_cuts.specs.declared.cutting.Cut.the-variants as Cases
-use Rattle.checked_cuts.specs.Cutting.{cutLent}
+use Rattle.call_cuts.specs.declared.cutting.Cut.{Cut}
+use Rattle.call_cuts.specs.declared.cutting.Cut.the-variants as Cases
+use Rattle.call_cuts.specs.Cutting.{cutLent, cutIn}
+use Rattle.planner.specs.Calls.{LentSheet, on, meant, Refused, Untouched}
 
-module _ (head : Head) (customers : List Customer) (distances times : List Float) (tour served ends dropped : List ℕ) where
-  -- the number that refuses the call, if one does
-  abbrev pub cutRefusal : Option ℕ
-  cutRefusal = refusalOf value cutting (cutLent head customers distances times tour (length served) (length ends) (length dropped))
+-- ---- the answer
 
--- the number of a refusal
-abbrev pub refusedBy : Cut → Option ℕ
-refusedBy (Cases.Refused number) = some number
-refusedBy (Cases.Cut counts) = none
-
-abbrev pub IfRefused : Cut → Type 0 → Type 0
-IfRefused (Cases.Refused number) P = P
-IfRefused (Cases.Cut counts) P = Unit {0}
+-- the number by which it refuses
+abbrev pub cutRefusal : Cut → Option ℕ
+cutRefusal (Cases.Refused number) = some number
+cutRefusal (Cases.Cut counts) = none
 
 abbrev pub IfCut : Cut → (SplitResult → Type 0) → Type 0
 IfCut (Cases.Refused number) P = Unit {0}
@@ -36,3 +32,68 @@ IfCut (Cases.Cut counts) P = P counts
 -- a float that is a whole number, of which P holds
 abbrev pub Means : Float → (ℕ → Type 0) → Type 0
 Means x P = (n : ℕ) × (value x ≡ some n) × P n
+
+-- ---- the lists that are written: served customers, run ends, dropped positions
+
+pub record CutOutput : Type 0 where
+  pub served : List ℕ
+  pub ends : List ℕ
+  pub dropped : List ℕ
+
+abbrev pub cutOutput : (served ends dropped : List ℕ) → CutOutput
+cutOutput served ends dropped = record { served = served; ends = ends; dropped = dropped }
+
+-- as much of each as is counted
+abbrev pub counted : SplitResult → CutOutput → CutOutput
+counted c x = cutOutput (take (c .served) (x .served)) (take (c .runs) (x .ends)) (take (c .dropped) (x .dropped))
+
+-- ---- the contract
+
+-- all that is lent, with the lengths of the lists
+abbrev pub cutOn : LentSheet → List ℕ → CutOutput → Lent Float
+cutOn q tour old = on q cutLent tour (length (old .served)) (length (old .ends)) (length (old .dropped))
+
+abbrev pub cutAnswer : (Sheet → List ℕ → Result) → LentSheet → List ℕ → CutOutput → Answer Result
+cutAnswer cut q tour old = answer value cutting (λ s. cut s tour) (cutOn q tour old)
+
+-- for a way to cut, and what it looks at of a sheet
+module _ (cut : Sheet → List ℕ → Result) (looksAt : Sheet → Sheet) (q : LentSheet) (tour : List ℕ) (old : CutOutput) where
+  abbrev answered : Answer Result
+  answered = cutAnswer cut q tour old
+
+  abbrev looked : Sheet
+  looked = looksAt (meant q)
+
+  -- of the answer, and of the lists as they are left
+  pub record CutContract (r : Cut) (new : CutOutput) : Type 0 where
+    -- the complete answer
+    pub result : r ≡ cutIn answered
+    pub served-left : new .served ≡ written (front (λ x. x .served) answered) (old .served)
+    pub ends-left : new .ends ≡ written (front (λ x. x .ends) answered) (old .ends)
+    pub dropped-left : new .dropped ≡ written (front (λ x. x .dropped) answered) (old .dropped)
+    -- by which number it is refused, if by one; nothing is written then
+    pub refused : Refused cutting (cutOn q tour old) (cutRefusal r)
+    pub untouched : Untouched (cutRefusal r) old new
+    -- the runs returned are a legal cutting of the served calls
+    pub legal : IfCut r (λ c. let x = counted c new in Legal looked (x .served) (x .ends))
+    -- their costs add up to the cost returned
+    pub sum : IfCut r (λ c. let x = counted c new in Means (c .cost) (λ n. Sum looked (x .served) (x .ends) n))
+    -- no other legal cutting of the served calls costs less
+    pub least : IfCut r (λ c. let x = counted c new in Means (c .cost) (λ n. Least looked (x .served) n))
+    -- of equal cost the earlier cut point is kept
+    pub ties : IfCut r (λ c. let x = counted c new in Tied looked (x .served) (x .ends))
+    -- the positions held in the end (none where the call is refused): their calls are the served ones
+    pub held : List ℕ
+    pub served-are : IfCut r (λ c. Served tour held (counted c new .served))
+    -- each dropped call ends the shortest beginning, of the calls then held, that has no legal cutting
+    pub drops : IfCut r (λ c. Drops looked tour held (counted c new .dropped))
+    -- each position of the tour is held or dropped, and none is both
+    pub partition : IfCut r (λ c. Partition tour held (counted c new .dropped))
+
+-- by capacity alone: windows, limits and break are not looked at
+abbrev pub SplitContract : LentSheet → List ℕ → CutOutput → Cut → CutOutput → Type 0
+SplitContract q tour old r new = CutContract split bare q tour old r new
+
+-- by all that the sheet has
+abbrev pub SplitTwContract : LentSheet → List ℕ → CutOutput → Cut → CutOutput → Type 0
+SplitTwContract q tour old r new = CutContract splitTw (λ s. s) q tour old r new

@@ -1,6 +1,10 @@
--- What a caller of a cutting is given.
+-- What the contracts share.
+pub mod Calls
+-- The contracts.
 pub mod Cutting
--- What a caller of the marker is given.
-pub mod Marking
--- The lists of visits and violations as they are left.
+pub mod Evaluating
 pub mod Visiting
+pub mod Marking
+pub mod Reversing
+pub mod Eliminating
+pub mod Reading

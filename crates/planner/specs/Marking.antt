@@ -1,39 +1,36 @@
--- What a caller of the marker is given by its answer. Definitions only.
+-- The contract of the marker. Definitions only.
 use Prim.Native.Nat.{ℕ}
 use mathlib.Core.Path.{_≡_}
+use mathlib.Core.Bool.{true}
 use mathlib.Core.List.{List, map}
 use mathlib.Core.Option.{Option, none, some}
 use lib.Ieee.{Float}
+use Rattle.basics.specs.Options.{present}
+use Rattle.definitions.specs.Sheet.{Sheet, latenessPay}
 use Rattle.definitions.specs.Run.{Run}
 use Rattle.definitions.specs.RunList.{runsOf}
 use Rattle.definitions.specs.Marker as Whole
 use Rattle.definitions.specs.Marker.{withPlaces, verdictNumber, verdictValues}
-use Rattle.definitions.specs.Lent.{marking}
-use Rattle.definitions.specs.Refusals.{refusalOf}
+use Rattle.definitions.specs.Marks.{Says}
+use Rattle.definitions.specs.Lent.{Lent, marking}
+use Rattle.definitions.specs.Answers.{markOf}
 use Rattle.whole.specs.Whole.{fl}
 use Rattle.whole.specs.Value.{value}
-use Rattle.models.specs.declared.customer.Customer.{Customer}
-use Rattle.models.specs.declared.head.Head.{Head}
 use Rattle.marker.specs.declared.verdict.Verdict.{Verdict}
+use Rattle.marker.specs.declared.verdict.Verdict.the-variants.{Cheaper}
 use Rattle.marker.specs.Image.{flVerdict}
 use Rattle.marker.specs.Figures.{numberIn, valuesIn}
-use Rattle.checked_cuts.specs.declared.marking.Marking.{Marking}
-use Rattle.checked_cuts.specs.declared.marking.Marking.the-variants as Cases
-use Rattle.checked_cuts.specs.Marking.{markLent}
+use Rattle.call_cuts.specs.declared.marking.Marking.{Marking}
+use Rattle.call_cuts.specs.declared.marking.Marking.the-variants as Cases
+use Rattle.call_cuts.specs.Marking.{markLent, markIn}
+use Rattle.planner.specs.Calls.{LentSheet, on, meant, Refused}
 
-module _ (head : Head) (customers : List Customer) (distances times : List Float) (tour calls ends places : List ℕ) where
-  -- the number that refuses the call, if one does
-  abbrev pub markRefusal : Option ℕ
-  markRefusal = refusalOf value marking (markLent head customers distances times tour calls ends places)
+-- ---- the answer
 
--- the runs that are marked
-abbrev pub runsGiven : (calls ends places : List ℕ) → List Run
-runsGiven calls ends places = withPlaces (runsOf calls ends) places
-
--- the number of a refusal
-abbrev pub unmarkedBy : Marking → Option ℕ
-unmarkedBy (Cases.Refused number) = some number
-unmarkedBy (Cases.Verdict verdict) = none
+-- the number by which it refuses
+abbrev pub markRefusal : Marking → Option ℕ
+markRefusal (Cases.Refused number) = some number
+markRefusal (Cases.Verdict verdict) = none
 
 abbrev pub IfMarked : Marking → (Verdict → Type 0) → Type 0
 IfMarked (Cases.Refused number) P = Unit {0}
@@ -47,3 +44,33 @@ HoldsOne v P = (w : Whole.Verdict) × (v ≡ flVerdict w) × P w
 pub record ByFigures (v : Verdict) (w : Whole.Verdict) : Type 0 where
   pub number : numberIn v ≡ verdictNumber w
   pub values : valuesIn v ≡ map fl (verdictValues w)
+
+-- where the verdict is Cheaper there is lateness pay and a break
+abbrev pub CheaperOnly : Sheet → Verdict → Type 0
+CheaperOnly s v = (by : Float) → v ≡ Cheaper by → (latenessPay s ≡ true) × (present (s .head .rest) ≡ true)
+
+-- ---- the contract
+
+-- the runs that calls, run ends and break places make
+abbrev pub runsGiven : (calls ends breaks : List ℕ) → List Run
+runsGiven calls ends breaks = withPlaces (runsOf calls ends) breaks
+
+module _ (q : LentSheet) (tour calls ends breaks : List ℕ) where
+  -- all that is lent
+  abbrev pub markOn : Lent Float
+  markOn = on q markLent tour calls ends breaks
+
+  -- of the answer
+  pub record MarkContract (r : Marking) : Type 0 where
+    -- the complete answer
+    pub result : r ≡ markIn (markOf value markOn)
+    -- by which number it is refused, if by one
+    pub refused : Refused marking markOn (markRefusal r)
+    -- what the verdict says of the runs
+    pub says : IfMarked r (λ v. HoldsOne v (Says (meant q) tour (runsGiven calls ends breaks)))
+    -- no other verdict says so of them
+    pub no-other : IfMarked r (λ v. (w : Whole.Verdict) → Says (meant q) tour (runsGiven calls ends breaks) w → v ≡ flVerdict w)
+    -- its number and values
+    pub figures : IfMarked r (λ v. ByFigures v (Whole.mark (meant q) tour (runsGiven calls ends breaks)))
+    -- it is Cheaper only with lateness pay and a break
+    pub cheaper : IfMarked r (CheaperOnly (meant q))

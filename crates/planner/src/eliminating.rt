@@ -1,15 +1,15 @@
-// Route elimination as a public call: the customers are gathered into an array, on which the call is checked and answered.
-ghost use mathlib.Core.Path.{_≡_};
-ghost use Rattle.definitions.specs.Answers.{front};
-ghost use Rattle.definitions.specs.Room.{written};
-ghost use Rattle.checked_improvers.specs.Eliminating.{eliminateAnswer, eliminationOf};
-use checked_improvers::eliminating::Elimination;
+// Route elimination as a public call: the customers are gathered into an array, on which the call is checked and
+// answered.
+ghost use Rattle.planner.specs.Calls.{lentSheet};
+ghost use Rattle.planner.specs.Eliminating.{eliminationOutput, EliminationContract};
+use call_improvers::eliminating::Elimination;
 use lending::count;
 use lending::gathered;
 use models::customer::Customer;
 use models::head::Head;
 
-// The runs that are left once each run that can be emptied is: their calls and run ends are written at the front of the lent lists.
+// The runs that are left once each run that can be emptied is: their calls and run ends are written at the front of the
+// lent lists.
 pub fn eliminate_routes(
     head: Head,
     customers: &[Customer],
@@ -20,13 +20,15 @@ pub fn eliminate_routes(
     left_calls: &mut [usize],
     left_ends: &mut [usize],
 ) -> Elimination
-    ensures answer { λ r. ⌜ r ≡ eliminationOf (eliminateAnswer head (now (customers .entry)) (now (distances .entry)) (now (times .entry)) (now (calls .entry)) (now (ends .entry)) (now («left_calls» .entry)) (now («left_ends» .entry))) ⌝ }
-    ensures calls { λ _. ⌜ now («left_calls» .exit) ≡ written (front (λ x. x .calls) (eliminateAnswer head (now (customers .entry)) (now (distances .entry)) (now (times .entry)) (now (calls .entry)) (now (ends .entry)) (now («left_calls» .entry)) (now («left_ends» .entry)))) (now («left_calls» .entry)) ⌝ }
-    ensures ends { λ _. ⌜ now («left_ends» .exit) ≡ written (front (λ x. x .ends) (eliminateAnswer head (now (customers .entry)) (now (distances .entry)) (now (times .entry)) (now (calls .entry)) (now (ends .entry)) (now («left_calls» .entry)) (now («left_ends» .entry)))) (now («left_ends» .entry)) ⌝ }
+    ensures { λ r.
+        let sheet = lentSheet head (now (customers .entry)) (now (distances .entry)) (now (times .entry)) in
+        let old = eliminationOutput (now («left_calls» .entry)) (now («left_ends» .entry)) in
+        let new = eliminationOutput (now («left_calls» .exit)) (now («left_ends» .exit)) in
+        ⌜ EliminationContract sheet (now (calls .entry)) (now (ends .entry)) old r new ⌝ }
 {
     let n = count(customers);
     let all = gathered(customers);
-    checked_improvers::eliminating::eliminate_routes(
+    call_improvers::eliminating::eliminate_routes(
         head,
         all,
         n,

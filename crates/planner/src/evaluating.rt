@@ -1,9 +1,10 @@
-// The evaluations of a run as public calls: the customers are gathered into an array, on which the call is checked and answered.
-ghost use mathlib.Core.Path.{_≡_};
-ghost use Rattle.checked_runs.specs.Evaluating.{feasibleAnswer, costAnswer, evalAnswer};
-use checked_runs::evaluating::Cost;
-use checked_runs::evaluating::Evaluation;
-use checked_runs::evaluating::Feasible;
+// The evaluations of a run as public calls: the customers are gathered into an array, on which the call is checked and
+// answered.
+ghost use Rattle.planner.specs.Calls.{lentSheet};
+ghost use Rattle.planner.specs.Evaluating.{FeasibleContract, CostContract, EvalContract};
+use call_runs::evaluating::Cost;
+use call_runs::evaluating::Evaluation;
+use call_runs::evaluating::Feasible;
 use lending::count;
 use lending::gathered;
 use models::customer::Customer;
@@ -17,11 +18,13 @@ pub fn route_feasible(
     times: &[f64],
     run: &[usize],
 ) -> Feasible
-    ensures { λ r. ⌜ r ≡ feasibleAnswer head (now (customers .entry)) (now (distances .entry)) (now (times .entry)) (now (run .entry)) ⌝ }
+    ensures { λ r.
+        let sheet = lentSheet head (now (customers .entry)) (now (distances .entry)) (now (times .entry)) in
+        ⌜ FeasibleContract sheet (now (run .entry)) r ⌝ }
 {
     let n = count(customers);
     let all = gathered(customers);
-    checked_runs::evaluating::route_feasible(head, all, n, distances, times, run)
+    call_runs::evaluating::route_feasible(head, all, n, distances, times, run)
 }
 
 // The distance and the lateness cost.
@@ -32,11 +35,13 @@ pub fn effective_cost(
     times: &[f64],
     run: &[usize],
 ) -> Cost
-    ensures { λ r. ⌜ r ≡ costAnswer head (now (customers .entry)) (now (distances .entry)) (now (times .entry)) (now (run .entry)) ⌝ }
+    ensures { λ r.
+        let sheet = lentSheet head (now (customers .entry)) (now (distances .entry)) (now (times .entry)) in
+        ⌜ CostContract sheet (now (run .entry)) r ⌝ }
 {
     let n = count(customers);
     let all = gathered(customers);
-    checked_runs::evaluating::effective_cost(head, all, n, distances, times, run)
+    call_runs::evaluating::effective_cost(head, all, n, distances, times, run)
 }
 
 // What a run comes to, with its break, if it is allowed.
@@ -47,9 +52,11 @@ pub fn route_eval(
     times: &[f64],
     run: &[usize],
 ) -> Evaluation
-    ensures { λ r. ⌜ r ≡ evalAnswer head (now (customers .entry)) (now (distances .entry)) (now (times .entry)) (now (run .entry)) ⌝ }
+    ensures { λ r.
+        let sheet = lentSheet head (now (customers .entry)) (now (distances .entry)) (now (times .entry)) in
+        ⌜ EvalContract sheet (now (run .entry)) r ⌝ }
 {
     let n = count(customers);
     let all = gathered(customers);
-    checked_runs::evaluating::route_eval(head, all, n, distances, times, run)
+    call_runs::evaluating::route_eval(head, all, n, distances, times, run)
 }

@@ -3,21 +3,22 @@ use Prim.Native.Nat.{ℕ, suc, pred, _+_, _*_, _≤_, _<_}
 use native.Mathlib.Omega.{arith}
 use native.Mathlib.Nat.{mul-le-mul}
 use mathlib.Core.Path.{_≡_, refl, sym, ap, subst, _∙_}
-use mathlib.Core.Bool.{Bool, true, false, _&&_, not}
+use mathlib.Core.Bool.{Bool, true, false, not}
 use mathlib.Core.List.{List, [], _∷_, _++_, append-assoc, cons≢nil}
 use mathlib.Core.Option.{Option, none, some}
 use mathlib.Core.Logic.{inl, inr}
-use lib.ListN.{length, length-append}
+use lib.ListN.{length, drop, length-append}
 use lib.Dec.{eqb, ltb, leb, eqb·suc-zero}
 use borrow.Author.Tests.{leb-true, eq-eqb, lt-ltb, le-ltb, lt-leb}
-use Rattle.basics.specs.Tests.{by-test, and-left}
+use Rattle.basics.proofs.TestLaws.{by-test, and-left}
 use Rattle.basics.specs.Options.{Holds, IfAny}
 use Rattle.basics.specs.Lists.{All, Passes}
 use Rattle.definitions.specs.Domain.{isPenalty, isNumber, isCall}
 use Rattle.definitions.specs.Sheet.{Window, Break, Customer, Sheet}
 use Rattle.definitions.specs.Words.{Word, word}
 use Rattle.definitions.specs.Encoding.{optional, breakWords, windowWords, customerWords}
-use Rattle.definitions.specs.Reader.{State, start, next, onward, mayStand, inRange, pairFalls, among, faultAt, accepted, behind, walk}
+use Rattle.definitions.specs.Refusal.{firstFit}
+use Rattle.definitions.specs.Reader.{State, start, next, onward, mayStand, inRange, pairFalls, among, faults, faultAt, accepted, behind, walk}
 use Rattle.round_trip.proofs.Says.{callWords, timeWords, tableWords, limitWords, allWords, others}
 use Rattle.round_trip.proofs.Good.{GoodWindow, GoodBreak, GoodCustomer, AsMany, GoodSheet, GoodCalls}
 
@@ -29,19 +30,20 @@ behindWord k v r n d = record { last = word k v; row = r; places = n; coming = d
 pub record Fine (s : State) (i k v : ℕ) : Type 0 where
   pub stands : among k (mayStand s) ≡ true
   pub ranged : inRange s (word k v) ≡ true
-  pub paired : pairFalls s (word k v) ≡ false
+  -- the tests behind 11 and 1: of a kind that they do not ask about, by computation
+  pub others : firstFit (drop 2 (faults s i (word k v))) ≡ none
 
-no-fault : (s : State) (i k v : ℕ) → Fine s i k v → eqb k 0xF && not (eqb v i) ≡ false → faultAt s i (word k v) ≡ none
+no-fault : (s : State) (i k v : ℕ) → Fine s i k v → faultAt s i (word k v) ≡ none
 unfolding faultAt
-no-fault s i k v F h = rw (F .stands, F .ranged, F .paired, h)
+no-fault s i k v F = rw (F .stands, F .ranged) (F .others)
 
 pub step : (s : State) (i k v : ℕ) (ws : List Word) (left : Bool) → eqb k 0xF ≡ false → Fine s i k v → walk s i (word k v ∷ ws) left ≡ walk (next s (word k v)) (suc i) ws left
 unfolding walk
-step s i k v ws left n F = let e : eqb k 0xF && not (eqb v i) ≡ false = rw n refl in rw (no-fault s i k v F e, n)
+step s i k v ws left n F = rw (no-fault s i k v F, n)
 
-pub last-step : (s : State) (i v : ℕ) → Fine s i 0xF v → v ≡ i → walk s i (word 0xF v ∷ []) false ≡ accepted
-unfolding walk
-last-step s i v F e = let h : not (eqb v i) ≡ false = rw (eq-eqb v i e) refl in rw (no-fault s i 0xF v F h)
+pub last-step : (s : State) (i v : ℕ) → among 0xF (mayStand s) ≡ true → v ≡ i → walk s i (word 0xF v ∷ []) false ≡ accepted
+unfolding walk inRange pairFalls
+last-step s i v m e = rw (no-fault s i 0xF v (record { stands = m; ranged = refl; others = rw (eq-eqb v i e) refl }))
 
 -- ---- the tour and F
 
@@ -51,10 +53,10 @@ Accepted s i ws = walk s i ws false ≡ accepted
 tour-ok : (v r n d i : ℕ) (tour : List ℕ) (f : ℕ) → Passes (isCall n) tour → r + length tour ≤ 128 → f ≡ i + length tour
     → Accepted (behindWord 0xE v r n d) i (callWords tour f)
 unfolding mayStand inRange pairFalls
-tour-ok v r n d i [] f a h e = last-step (behindWord 0xE v r n d) i f (record { stands = refl; ranged = refl; paired = refl }) (omega arith)
+tour-ok v r n d i [] f a h e = last-step (behindWord 0xE v r n d) i f refl (omega arith)
 tour-ok v r n d i (c ∷ tour) f a h e =
     step (behindWord 0xE v r n d) i 0xE c (callWords tour f) false refl
-    (record { stands = refl; ranged = rw (a .0, lt-leb 128 r (omega arith)) refl; paired = refl })
+    (record { stands = refl; ranged = rw (a .0, lt-leb 128 r (omega arith)) refl; others = refl })
     ∙ tour-ok c (suc r) n d (suc i) tour f (a .1) (omega arith) (omega arith)
 
 -- from a state that a tour may follow
@@ -62,10 +64,10 @@ tour-from : (k v r n d i : ℕ) (tour : List ℕ) (f : ℕ) → eqb 0xE k ≡ fa
     → among 0xE (mayStand (behindWord k v r n d)) ≡ true → among 0xF (mayStand (behindWord k v r n d)) ≡ true
     → GoodCalls n tour → f ≡ i + length tour → Accepted (behindWord k v r n d) i (callWords tour f)
 unfolding inRange pairFalls
-tour-from k v r n d i [] f p q mE mF C e = last-step (behindWord k v r n d) i f (record { stands = mF; ranged = refl; paired = refl }) (omega arith)
+tour-from k v r n d i [] f p q mE mF C e = last-step (behindWord k v r n d) i f mF (omega arith)
 tour-from k v r n d i (c ∷ tour) f p q mE mF C e =
     step (behindWord k v r n d) i 0xE c (callWords tour f) false refl
-    (record { stands = mE; ranged = rw (C .each .0, q) refl; paired = refl })
+    (record { stands = mE; ranged = rw (C .each .0, q) refl; others = refl })
     ∙ rw p (tour-ok c 1 n d (suc i) tour f (C .each .1) (omega (arith, C .few)) (omega arith))
 
 -- ---- the tables
@@ -78,7 +80,7 @@ times-ok v r n d i [] tour f a h C e =
     tour-from 0xD v r n d i tour f refl refl (rw full refl) (rw full refl) C (omega arith)
 times-ok v r n d i (t ∷ ts) tour f a h C e =
     step (behindWord 0xD v r n d) i 0xD t (timeWords ts tour f) false refl
-    (record { stands = rw (lt-ltb r (n * n) (omega arith)) refl; ranged = a .0; paired = refl })
+    (record { stands = rw (lt-ltb r (n * n) (omega arith)) refl; ranged = a .0; others = refl })
     ∙ times-ok t (suc r) n d (suc i) ts tour f (a .1) (omega arith) C (omega arith)
 
 distances-ok : (v r n d i : ℕ) (ds ts tour : List ℕ) (f : ℕ) → 0 < n * n → Passes isNumber ds → r + length ds ≡ n * n → Passes isNumber ts → AsMany (n * n) ts
@@ -89,7 +91,7 @@ distances-ok v r n d i [] [] tour f z a h at m C e =
     tour-from 0xC v r n d i tour f refl refl (rw full refl) (rw full refl) C (omega arith)
 distances-ok v r n d i [] (t ∷ ts) tour f z a h at m C e =
     step (behindWord 0xC v r n d) i 0xD t (timeWords ts tour f) false refl
-    (record { stands = rw (le-ltb r (n * n) (omega arith)) refl; ranged = at .0; paired = refl })
+    (record { stands = rw (le-ltb r (n * n) (omega arith)) refl; ranged = at .0; others = refl })
     ∙ times-ok t 1 n d (suc i) ts tour f (at .1) (many m) C (omega arith)
   where
     many : AsMany (n * n) (t ∷ ts) → 1 + length ts ≡ n * n
@@ -97,7 +99,7 @@ distances-ok v r n d i [] (t ∷ ts) tour f z a h at m C e =
     many (inr x) = omega arith
 distances-ok v r n d i (c ∷ ds) ts tour f z a h at m C e =
     step (behindWord 0xC v r n d) i 0xC c (tableWords ds ts tour f) false refl
-    (record { stands = rw (lt-ltb r (n * n) (omega arith)) refl; ranged = a .0; paired = refl })
+    (record { stands = rw (lt-ltb r (n * n) (omega arith)) refl; ranged = a .0; others = refl })
     ∙ distances-ok c (suc r) n d (suc i) ds ts tour f z (a .1) (omega arith) at m C (omega arith)
 
 -- ---- the customers
@@ -153,7 +155,7 @@ penalty-ok : (p : Option ℕ) (k v n d i : ℕ) (rest : List Word) → IfAny isP
 unfolding inRange pairFalls
 penalty-ok none k v n d i rest g E m on h = at-index {j = i} on (omega arith) .from k v 1 E
 penalty-ok (some p) k v n d i rest g E m on h =
-    step (behindWord k v 1 n d) i 0xB p rest false refl (record { stands = m; ranged = g; paired = refl }) ∙ rw h (at-index {j = suc i} on (omega arith) .from 0xB p 1 ends-B)
+    step (behindWord k v 1 n d) i 0xB p rest false refl (record { stands = m; ranged = g; others = refl }) ∙ rw h (at-index {j = suc i} on (omega arith) .from 0xB p 1 ends-B)
 
 -- behind an 8: window and penalty
 inner-ok : (w : Option Window) (p : Option ℕ) (v n d i : ℕ) (rest : List Word) → Holds GoodWindow w → IfAny isPenalty p
@@ -161,8 +163,8 @@ inner-ok : (w : Option Window) (p : Option ℕ) (v n d i : ℕ) (rest : List Wor
 unfolding mayStand inRange pairFalls
 inner-ok none p v n d i rest g h on = penalty-ok p 8 v n d i rest h ends-8 refl (at-index on (omega arith)) refl
 inner-ok (some w) p v n d i rest g h on =
-    step (behindWord 8 v 1 n d) i 9 (w .ready) (word 0xA (w .due) ∷ (optional 0xB p ++ rest)) false refl (record { stands = refl; ranged = g .ready; paired = refl })
-    ∙ step (behindWord 9 (w .ready) 1 n d) (suc i) 0xA (w .due) (optional 0xB p ++ rest) false refl (record { stands = refl; ranged = g .due; paired = g .rises })
+    step (behindWord 8 v 1 n d) i 9 (w .ready) (word 0xA (w .due) ∷ (optional 0xB p ++ rest)) false refl (record { stands = refl; ranged = g .ready; others = refl })
+    ∙ step (behindWord 9 (w .ready) 1 n d) (suc i) 0xA (w .due) (optional 0xB p ++ rest) false refl (record { stands = refl; ranged = g .due; others = rw (g .rises) refl })
     ∙ penalty-ok p 0xA (w .due) n d (suc (suc i)) rest h ends-A refl (at-index on (omega arith)) refl
 
 seven-next : (k v r n d : ℕ) → Ends k r → among 7 (mayStand (behindWord k v r n (suc d))) ≡ true
@@ -177,10 +179,10 @@ unfolding mayStand inRange pairFalls
 customers-ok [] k v r n i rest g E on = at-index {j = i} on (omega arith) .from k v r E
 customers-ok (c ∷ cs) k v r n i rest g E on =
     ap (λ (l : List Word). walk (behindWord k v r n (suc (length cs))) i l false) split
-    ∙ step (behindWord k v r n (suc (length cs))) i 7 (c .demand) (word 8 (c .service) ∷ (inner ++ (customerWords cs ++ rest))) false refl
-    (record { stands = seven-next k v r n (length cs) E; ranged = g .0 .demand; paired = refl })
-    ∙ step (next (behindWord k v r n (suc (length cs))) (word 7 (c .demand))) (suc i) 8 (c .service) (inner ++ (customerWords cs ++ rest)) false refl
-    (record { stands = refl; ranged = g .0 .service; paired = refl })
+    ∙ step (behindWord k v r n (suc (length cs))) i 7 (c .demand .seats) (word 8 (c .service) ∷ (inner ++ (customerWords cs ++ rest))) false refl
+    (record { stands = seven-next k v r n (length cs) E; ranged = g .0 .demand; others = refl })
+    ∙ step (next (behindWord k v r n (suc (length cs))) (word 7 (c .demand .seats))) (suc i) 8 (c .service) (inner ++ (customerWords cs ++ rest)) false refl
+    (record { stands = refl; ranged = g .0 .service; others = refl })
     ∙ ap (λ (l : List Word). walk (behindWord 8 (c .service) 1 n (length cs)) (suc (suc i)) l false) (append-assoc (windowWords (c .window)) (optional 0xB (c .penalty)) (customerWords cs ++ rest))
     ∙ inner-ok (c .window) (c .penalty) (c .service) n (length cs) (suc (suc i)) (customerWords cs ++ rest) (g .0 .window) (g .0 .penalty)
     (record { from = λ k' v' r' E'. customers-ok cs k' v' r' n j rest (g .1) E' (at-index on total) })
@@ -191,7 +193,7 @@ customers-ok (c ∷ cs) k v r n i rest g E on =
     j : ℕ
     j = suc (suc i) + length (windowWords (c .window)) + length (optional 0xB (c .penalty))
 
-    split : customerWords (c ∷ cs) ++ rest ≡ word 7 (c .demand) ∷ word 8 (c .service) ∷ (inner ++ (customerWords cs ++ rest))
+    split : customerWords (c ∷ cs) ++ rest ≡ word 7 (c .demand .seats) ∷ word 8 (c .service) ∷ (inner ++ (customerWords cs ++ rest))
     split = simp append-assoc
 
     total : i + length (customerWords (c ∷ cs)) ≡ j + length (customerWords cs)
@@ -208,7 +210,7 @@ tables-ok k v r n i [] ts tour f E z a h at m C e = absurd (none-due z h)
     none-due : 0 < n * n → 0 ≡ n * n → ⊥
     none-due x y = omega arith
 tables-ok k v r n i (c ∷ ds) ts tour f E z a h at m C e =
-    step (behindWord k v r n 0) i 0xC c (tableWords ds ts tour f) false refl (record { stands = E .on v n 0; ranged = a .0; paired = refl })
+    step (behindWord k v r n 0) i 0xC c (tableWords ds ts tour f) false refl (record { stands = E .on v n 0; ranged = a .0; others = refl })
     ∙ rw (E .fresh) (distances-ok c 1 n 0 (suc i) ds ts tour f z (a .1) (omega arith) at m C (omega arith))
 
 break-ok : (b : Option Break) (k v n d i : ℕ) (rest : List Word) → Holds GoodBreak b → Ends k 1 → among 6 (mayStand (behindWord k v 1 n d)) ≡ true
@@ -216,10 +218,10 @@ break-ok : (b : Option Break) (k v n d i : ℕ) (rest : List Word) → Holds Goo
 unfolding mayStand inRange pairFalls
 break-ok none k v n d i rest g E m h h' on = at-index {j = i} on (omega arith) .from k v 1 E
 break-ok (some b) k v n d i rest g E m h h' on =
-    step (behindWord k v 1 n d) i 6 (b .earliest) (word 6 (b .latest) ∷ word 6 (b .duration) ∷ rest) false refl (record { stands = m; ranged = g .earliest; paired = rw h' refl })
+    step (behindWord k v 1 n d) i 6 (b .earliest) (word 6 (b .latest) ∷ word 6 (b .duration) ∷ rest) false refl (record { stands = m; ranged = g .earliest; others = rw h' refl })
     ∙ rw h
-    (step (behindWord 6 (b .earliest) 1 n d) (suc i) 6 (b .latest) (word 6 (b .duration) ∷ rest) false refl (record { stands = refl; ranged = g .latest; paired = g .rises })
-    ∙ step (behindWord 6 (b .latest) 2 n d) (suc (suc i)) 6 (b .duration) rest false refl (record { stands = refl; ranged = g .duration; paired = refl })
+    (step (behindWord 6 (b .earliest) 1 n d) (suc i) 6 (b .latest) (word 6 (b .duration) ∷ rest) false refl (record { stands = refl; ranged = g .latest; others = rw (g .rises) refl })
+    ∙ step (behindWord 6 (b .latest) 2 n d) (suc (suc i)) 6 (b .duration) rest false refl (record { stands = refl; ranged = g .duration; others = refl })
     ∙ at-index {j = suc (suc (suc i))} on (omega arith) .from 6 (b .duration) 3 ends-6)
 
 limits-ok : (dl tl : Option ℕ) (br : Option Break) (v n d i : ℕ) (rest : List Word) → IfAny isNumber dl → IfAny isNumber tl → Holds GoodBreak br
@@ -227,44 +229,44 @@ limits-ok : (dl tl : Option ℕ) (br : Option Break) (v n d i : ℕ) (rest : Lis
 unfolding mayStand inRange pairFalls
 limits-ok none none br v n d i rest a b g on = break-ok br 3 v n d i rest g ends-3 refl refl refl (at-index on (omega arith))
 limits-ok none (some t) br v n d i rest a b g on =
-    step (behindWord 3 v 1 n d) i 5 t (breakWords br ++ rest) false refl (record { stands = refl; ranged = b; paired = refl })
+    step (behindWord 3 v 1 n d) i 5 t (breakWords br ++ rest) false refl (record { stands = refl; ranged = b; others = refl })
     ∙ break-ok br 5 t n d (suc i) rest g ends-5 refl refl refl (at-index on (omega arith))
 limits-ok (some l) none br v n d i rest a b g on =
-    step (behindWord 3 v 1 n d) i 4 l (breakWords br ++ rest) false refl (record { stands = refl; ranged = a; paired = refl })
+    step (behindWord 3 v 1 n d) i 4 l (breakWords br ++ rest) false refl (record { stands = refl; ranged = a; others = refl })
     ∙ break-ok br 4 l n d (suc i) rest g ends-4 refl refl refl (at-index on (omega arith))
 limits-ok (some l) (some t) br v n d i rest a b g on =
-    step (behindWord 3 v 1 n d) i 4 l (word 5 t ∷ (breakWords br ++ rest)) false refl (record { stands = refl; ranged = a; paired = refl })
-    ∙ step (behindWord 4 l 1 n d) (suc i) 5 t (breakWords br ++ rest) false refl (record { stands = refl; ranged = b; paired = refl })
+    step (behindWord 3 v 1 n d) i 4 l (word 5 t ∷ (breakWords br ++ rest)) false refl (record { stands = refl; ranged = a; others = refl })
+    ∙ step (behindWord 4 l 1 n d) (suc i) 5 t (breakWords br ++ rest) false refl (record { stands = refl; ranged = b; others = refl })
     ∙ break-ok br 5 t n d (suc (suc i)) rest g ends-5 refl refl refl (at-index on (omega arith))
 
 -- ---- the whole sheet
 
 -- how many words stand before the customers' words, and before F
 abbrev limitsEnd : Sheet → ℕ
-limitsEnd s = 3 + length (optional 4 (s .maxDistance)) + length (optional 5 (s .maxDuration)) + length (breakWords (s .rest))
+limitsEnd s = 3 + length (optional 4 (s .head .maxDistance)) + length (optional 5 (s .head .maxDuration)) + length (breakWords (s .head .rest))
 
 abbrev pub wordCount : Sheet → List ℕ → ℕ
-wordCount s tour = limitsEnd s + length (customerWords (others s)) + length (s .distances) + length (s .times) + length tour
+wordCount s tour = limitsEnd s + length (customerWords (others s)) + length (s .legs .distances) + length (s .legs .times) + length tour
 
-pub all-ok : (s : Sheet) (tour : List ℕ) → GoodSheet s → GoodCalls (s .places) tour → walk start 0 (allWords s tour (wordCount s tour)) false ≡ accepted
+pub all-ok : (s : Sheet) (tour : List ℕ) → GoodSheet s → GoodCalls (s .head .places) tour → walk start 0 (allWords s tour (wordCount s tour)) false ≡ accepted
 unfolding mayStand inRange pairFalls
 all-ok s tour G C =
-    step start 0 1 n (word 2 (s .capacity) ∷ word 3 (s .fixed) ∷ rest) false refl (record { stands = refl; ranged = G .places; paired = refl })
-    ∙ step (behindWord 1 n 1 n (pred n)) 1 2 (s .capacity) (word 3 (s .fixed) ∷ rest) false refl (record { stands = refl; ranged = G .capacity; paired = refl })
-    ∙ step (behindWord 2 (s .capacity) 1 n (pred n)) 2 3 (s .fixed) rest false refl (record { stands = refl; ranged = G .fixed; paired = refl })
-    ∙ limits-ok (s .maxDistance) (s .maxDuration) (s .rest) (s .fixed) n (pred n) 3 behind (G .maxDistance) (G .maxDuration) (G .rest) from-customers
+    step start 0 1 n (word 2 (s .head .capacity .seats) ∷ word 3 (s .head .fixed) ∷ rest) false refl (record { stands = refl; ranged = G .places; others = refl })
+    ∙ step (behindWord 1 n 1 n (pred n)) 1 2 (s .head .capacity .seats) (word 3 (s .head .fixed) ∷ rest) false refl (record { stands = refl; ranged = G .capacity; others = refl })
+    ∙ step (behindWord 2 (s .head .capacity .seats) 1 n (pred n)) 2 3 (s .head .fixed) rest false refl (record { stands = refl; ranged = G .fixed; others = refl })
+    ∙ limits-ok (s .head .maxDistance) (s .head .maxDuration) (s .head .rest) (s .head .fixed) n (pred n) 3 behind (G .maxDistance) (G .maxDuration) (G .rest) from-customers
   where
     n : ℕ
-    n = s .places
+    n = s .head .places
 
     tables : List Word
-    tables = tableWords (s .distances) (s .times) tour (wordCount s tour)
+    tables = tableWords (s .legs .distances) (s .legs .times) tour (wordCount s tour)
 
     behind : List Word
     behind = customerWords (others s) ++ tables
 
     rest : List Word
-    rest = limitWords (s .maxDistance) (s .maxDuration) (s .rest) behind
+    rest = limitWords (s .head .maxDistance) (s .head .maxDuration) (s .head .rest) behind
 
     some-place : 1 ≤ n
     some-place = leb-true 1 n (and-left (leb 1 n) (leb n 64) (G .places))
@@ -272,8 +274,8 @@ all-ok s tour G C =
     from-tables : Onward n 0 (limitsEnd s + length (customerWords (others s))) tables
     from-tables = record {
       from = λ k v r E.
-          tables-ok k v r n (limitsEnd s + length (customerWords (others s))) (s .distances) (s .times) tour (wordCount s tour) E (mul-le-mul some-place some-place) (G .distances) (G .square)
-          (G .times) (G .as-many) C refl;
+          tables-ok k v r n (limitsEnd s + length (customerWords (others s))) (s .legs .distances) (s .legs .times) tour (wordCount s tour)
+          E (mul-le-mul some-place some-place) (G .distances) (G .square) (G .times) (G .as-many) C refl;
     }
 
     others-counted : length (others s) ≡ pred n
@@ -282,5 +284,6 @@ all-ok s tour G C =
     from-customers : Onward n (pred n) (limitsEnd s) behind
     from-customers = record {
       from = λ k v r E.
-          subst (λ (d : ℕ). Accepted (behindWord k v r n d) (limitsEnd s) behind) others-counted (customers-ok (others s) k v r n (limitsEnd s) tables (G .customers) E from-tables);
+          subst (λ (d : ℕ). Accepted (behindWord k v r n d) (limitsEnd s) behind) others-counted
+          (customers-ok (others s) k v r n (limitsEnd s) tables (G .customers) E from-tables);
     }

@@ -5,7 +5,7 @@ use mathlib.Core.Bool.{true, false≢true}
 use mathlib.Core.List.{List, [], _∷_}
 use lib.Dec.{eqb}
 use borrow.Author.Tests.{eqb-true}
-use Rattle.basics.specs.Tests.{by-test}
+use Rattle.basics.proofs.TestLaws.{by-test}
 use Rattle.definitions.specs.Reader.{among}
 
 infixr 5 _or_

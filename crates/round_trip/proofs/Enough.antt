@@ -10,11 +10,11 @@ use mathlib.Core.Logic.{_⊎_, inl, inr}
 use lib.ListN.{length}
 use lib.Dec.{eqb, ltb, leb}
 use borrow.Author.Tests.{eqb-true, eqb-false, ltb-true, leb-true, leb-false, not-true}
-use Rattle.basics.specs.Tests.{by-test, and-left, and-right}
-use Rattle.basics.specs.Options.{clash}
+use Rattle.basics.proofs.TestLaws.{by-test, and-left, and-right, not-false}
 use Rattle.definitions.specs.Domain.{isCall}
 use Rattle.definitions.specs.Words.{Word, word, wordOf, littleEndian, wordsOf, leftOver}
-use Rattle.definitions.specs.Reader.{State, start, next, After, lookup, onward, table, mayStand, inRange, among, faultAt, Outcome, refused, behind, unless, walk, read, readWords}
+use Rattle.definitions.specs.Reader.{State, start, next, After, lookup, onward, table, mayStand, inRange, among, faults, faultAt, Outcome, refused, behind, unless, walk, read, readWords}
+use Rattle.theorems.proofs.InOrder.{none-fits}
 use Rattle.round_trip.proofs.Accepts.{behindWord}
 use Rattle.round_trip.proofs.ByKind.{ByKind, no-other, _or_, by-kind}
 
@@ -195,9 +195,8 @@ lowers s w b m g f = by-kind (Lower v r n d u k) (mayStand s) (w .kind) (go b) m
 fine : (s : State) (i : ℕ) (w : Word) → faultAt s i w ≡ none → (among (w .kind) (mayStand s) ≡ true) × (inRange s w ≡ true)
 unfolding faultAt
 fine s i w h =
-    by-test (among (w .kind) (mayStand s))
-    (λ a. by-test (inRange s w) (λ b. (a, b)) (λ b. clash (sym (rw (a, b) at h))))
-    (λ a. clash (sym (rw a at h)))
+    let N = none-fits (faults s i w) h in
+    (not-false (among (w .kind) (mayStand s)) (N 11), not-false (inRange s w) (N 1))
 
 begun-next : (s : State) (w : Word) → Begun s → among (w .kind) (mayStand s) ≡ true → inRange s w ≡ true → 1 ≤ next s w .places
 unfolding mayStand inRange

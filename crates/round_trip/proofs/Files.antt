@@ -10,9 +10,10 @@ use mathlib.Core.Logic.{inl, inr}
 use lib.ListN.{length, length-append}
 use lib.Dec.{leb, ltb}
 use borrow.Author.Tests.{leb-true, ltb-true}
-use Rattle.basics.specs.Tests.{and-right}
+use Rattle.basics.proofs.TestLaws.{and-right}
 use Rattle.basics.specs.Options.{Holds, IfAny}
-use Rattle.basics.specs.Lists.{All, Passes, all-append, all-imp, all-map}
+use Rattle.basics.specs.Lists.{All, Passes}
+use Rattle.basics.proofs.ListLaws.{all-append, all-imp, all-map}
 use Rattle.definitions.specs.Domain.{isDemand, isCapacity, isPenalty, isNumber, isCall}
 use Rattle.definitions.specs.Sheet.{Window, Break, Customer, Sheet}
 use Rattle.definitions.specs.Words.{Word, word, wordsOf, leftOver, bytesOf}
@@ -65,7 +66,7 @@ fit-window (some w) G = (fit-number 9 (omega arith) (w .ready) (G .ready), (fit-
 fit-customers : (cs : List Customer) → All GoodCustomer cs → AllFit (customerWords cs)
 fit-customers [] g = tt
 fit-customers (c ∷ cs) g = (
-  fit 7 isDemand (omega arith) (small 32767 (omega arith)) (c .demand) (g .0 .demand),
+  fit 7 isDemand (omega arith) (small 32767 (omega arith)) (c .demand .seats) (g .0 .demand),
   (
     fit-number 8 (omega arith) (c .service) (g .0 .service),
     all-append Fits (windowWords (c .window) ++ optional 0xB (c .penalty)) (customerWords cs) inner (fit-customers cs (g .1)),
@@ -103,14 +104,14 @@ few-customers (c ∷ cs) =
       few-optional 0xB (c .penalty),
     )
 
-module _ (s : Sheet) (tour : List ℕ) (G : GoodSheet s) (C : GoodCalls (s .places) tour) where
-  few-places : s .places ≤ 64
-  few-places = leb-true (s .places) 64 (and-right (leb 1 (s .places)) (leb (s .places) 64) (G .places))
+module _ (s : Sheet) (tour : List ℕ) (G : GoodSheet s) (C : GoodCalls (s .head .places) tour) where
+  few-places : s .head .places ≤ 64
+  few-places = leb-true (s .head .places) 64 (and-right (leb 1 (s .head .places)) (leb (s .head .places) 64) (G .places))
 
-  few-legs : s .places * s .places ≤ 64 * 64
+  few-legs : s .head .places * s .head .places ≤ 64 * 64
   few-legs = mul-le-mul few-places few-places
 
-  few-times : AsMany (s .places * s .places) (s .times) → length (s .times) ≤ 4096
+  few-times : AsMany (s .head .places * s .head .places) (s .legs .times) → length (s .legs .times) ≤ 4096
   few-times (inl e) = omega (arith, ap length e)
   few-times (inr e) = omega (arith, e, few-legs)
 
@@ -120,9 +121,9 @@ module _ (s : Sheet) (tour : List ℕ) (G : GoodSheet s) (C : GoodCalls (s .plac
       omega (
         arith,
         body-length s tour,
-        few-optional 4 (s .maxDistance),
-        few-optional 5 (s .maxDuration),
-        few-break (s .rest),
+        few-optional 4 (s .head .maxDistance),
+        few-optional 5 (s .head .maxDuration),
+        few-break (s .head .rest),
         few-customers (others s),
         G .counted,
         ap length (G .first),
@@ -136,43 +137,43 @@ module _ (s : Sheet) (tour : List ℕ) (G : GoodSheet s) (C : GoodCalls (s .plac
   fit-all : AllFit (allWords s tour (wordCount s tour))
   fit-all = (
     record { kind = omega arith; value = omega (arith, few-places) },
-    (fit 2 isCapacity (omega arith) (small 1000000 (omega arith)) (s .capacity) (G .capacity), (fit-number 3 (omega arith) (s .fixed) (G .fixed), limited)),
+    (fit 2 isCapacity (omega arith) (small 1000000 (omega arith)) (s .head .capacity .seats) (G .capacity), (fit-number 3 (omega arith) (s .head .fixed) (G .fixed), limited)),
   )
     where
       f : ℕ
       f = wordCount s tour
 
-      small-call : Small (isCall (s .places))
-      small-call v e = omega (arith, ltb-true v (s .places) (and-right (leb 1 v) (ltb v (s .places)) e), few-places)
+      small-call : Small (isCall (s .head .places))
+      small-call v e = omega (arith, ltb-true v (s .head .places) (and-right (leb 1 v) (ltb v (s .head .places)) e), few-places)
 
       called : AllFit (callWords tour f)
       called =
-          all-append Fits (map (word 0xE) tour) (word 0xF f ∷ []) (fit-row 0xE (isCall (s .places)) tour (omega arith) small-call (C .each))
+          all-append Fits (map (word 0xE) tour) (word 0xF f ∷ []) (fit-row 0xE (isCall (s .head .places)) tour (omega arith) small-call (C .each))
           (record { kind = omega arith; value = omega (arith, few-words, body-length s tour) }, tt)
 
-      timed : AllFit (timeWords (s .times) tour f)
-      timed = all-append Fits (map (word 0xD) (s .times)) (callWords tour f) (fit-row 0xD isNumber (s .times) (omega arith) numbers (G .times)) called
+      timed : AllFit (timeWords (s .legs .times) tour f)
+      timed = all-append Fits (map (word 0xD) (s .legs .times)) (callWords tour f) (fit-row 0xD isNumber (s .legs .times) (omega arith) numbers (G .times)) called
 
-      tabled : AllFit (tableWords (s .distances) (s .times) tour f)
-      tabled = all-append Fits (map (word 0xC) (s .distances)) (timeWords (s .times) tour f) (fit-row 0xC isNumber (s .distances) (omega arith) numbers (G .distances)) timed
+      tabled : AllFit (tableWords (s .legs .distances) (s .legs .times) tour f)
+      tabled = all-append Fits (map (word 0xC) (s .legs .distances)) (timeWords (s .legs .times) tour f) (fit-row 0xC isNumber (s .legs .distances) (omega arith) numbers (G .distances)) timed
 
       rest : List Word
-      rest = customerWords (others s) ++ tableWords (s .distances) (s .times) tour f
+      rest = customerWords (others s) ++ tableWords (s .legs .distances) (s .legs .times) tour f
 
       from-customers : AllFit rest
-      from-customers = all-append Fits (customerWords (others s)) (tableWords (s .distances) (s .times) tour f) (fit-customers (others s) (G .customers)) tabled
+      from-customers = all-append Fits (customerWords (others s)) (tableWords (s .legs .distances) (s .legs .times) tour f) (fit-customers (others s) (G .customers)) tabled
 
-      from-break : AllFit (breakWords (s .rest) ++ rest)
-      from-break = all-append Fits (breakWords (s .rest)) rest (fit-break (s .rest) (G .rest)) from-customers
+      from-break : AllFit (breakWords (s .head .rest) ++ rest)
+      from-break = all-append Fits (breakWords (s .head .rest)) rest (fit-break (s .head .rest) (G .rest)) from-customers
 
-      limited : AllFit (limitWords (s .maxDistance) (s .maxDuration) (s .rest) rest)
+      limited : AllFit (limitWords (s .head .maxDistance) (s .head .maxDuration) (s .head .rest) rest)
       limited =
-          all-append Fits (optional 4 (s .maxDistance)) (optional 5 (s .maxDuration) ++ (breakWords (s .rest) ++ rest))
-          (fit-optional 4 isNumber (s .maxDistance) (omega arith) numbers (G .maxDistance))
-          (all-append Fits (optional 5 (s .maxDuration)) (breakWords (s .rest) ++ rest) (fit-optional 5 isNumber (s .maxDuration) (omega arith) numbers (G .maxDuration)) from-break)
+          all-append Fits (optional 4 (s .head .maxDistance)) (optional 5 (s .head .maxDuration) ++ (breakWords (s .head .rest) ++ rest))
+          (fit-optional 4 isNumber (s .head .maxDistance) (omega arith) numbers (G .maxDistance))
+          (all-append Fits (optional 5 (s .head .maxDuration)) (breakWords (s .head .rest) ++ rest) (fit-optional 5 isNumber (s .head .maxDuration) (omega arith) numbers (G .maxDuration)) from-break)
 
 pub encode-fits : (s : Sheet) (tour : List ℕ) → Within s → WithinCalls s tour → AllFit (encode s tour)
-encode-fits s tour W C = rw (encode-counted s tour) (fit-all s tour (good-sheet s W) (good-calls (s .places) tour C))
+encode-fits s tour W C = rw (encode-counted s tour) (fit-all s tour (good-sheet s W) (good-calls (s .head .places) tour C))
 
 -- ---- files
 

@@ -10,10 +10,12 @@ use lib.ListN.{length}
 use lib.Seq.{take-all}
 use lib.Dec.{eqb, ltb, leb}
 use borrow.Author.Tests.{eqb-true, eq-eqb, leb-true, le-ltb, ltb-false}
-use Rattle.basics.specs.Tests.{and-left, not-false, not-of-true}
+use Rattle.basics.proofs.TestLaws.{and-left, not-false, not-of-true}
 use Rattle.basics.specs.Options.{present, Holds, IfAny}
-use Rattle.basics.specs.Lists.{All, all-imp, Passes, Fails, any-fails, fails-any, fails-not, not-fails, isEmpty}
+use Rattle.basics.specs.Lists.{All, Passes, Fails, isEmpty}
+use Rattle.basics.proofs.ListLaws.{all-imp, any-fails, fails-any, fails-not, not-fails}
 use Rattle.definitions.specs.Domain.{isPlaces, isCapacity, isDemand, isPenalty, isNumber, isCall, mostCalls}
+use Rattle.definitions.specs.Load.{Load, noLoad, eachOf}
 use Rattle.definitions.specs.Sheet.{Window, Break, Customer, Sheet, records, depot}
 use Rattle.definitions.specs.Refusals.{Within, badCalls, badBreak, badCustomer, badDepot, badOptional, badWindow, breakFalls, unfit, windowFalls}
 use Rattle.theorems.proofs.Ranges.{TablesEven, tables-even, even-tables, calls-in-range, range-calls, break-in-range, range-break, window-in-range, range-window, customer-in-range, range-customer, depot-in-range, InRange, in-range, range-in, PairsRise, pairs-rise, rise-pairs}
@@ -31,7 +33,7 @@ pub record GoodBreak (b : Break) : Type 0 where
   pub rises : ltb (b .latest) (b .earliest) ≡ false
 
 pub record GoodCustomer (c : Customer) : Type 0 where
-  pub demand : isDemand (c .demand) ≡ true
+  pub demand : eachOf isDemand (c .demand) ≡ true
   pub service : isNumber (c .service) ≡ true
   pub window : Holds GoodWindow (c .window)
   pub penalty : IfAny isPenalty (c .penalty)
@@ -41,19 +43,19 @@ abbrev pub AsMany : ℕ → List ℕ → Type 0
 AsMany m ts = (ts ≡ []) ⊎ (length ts ≡ m)
 
 pub record GoodSheet (s : Sheet) : Type 0 where
-  pub places : isPlaces (s .places) ≡ true
-  pub capacity : isCapacity (s .capacity) ≡ true
-  pub fixed : isNumber (s .fixed) ≡ true
-  pub maxDistance : IfAny isNumber (s .maxDistance)
-  pub maxDuration : IfAny isNumber (s .maxDuration)
-  pub rest : Holds GoodBreak (s .rest)
-  pub counted : length (s .customers) ≡ s .places
+  pub places : isPlaces (s .head .places) ≡ true
+  pub capacity : eachOf isCapacity (s .head .capacity) ≡ true
+  pub fixed : isNumber (s .head .fixed) ≡ true
+  pub maxDistance : IfAny isNumber (s .head .maxDistance)
+  pub maxDuration : IfAny isNumber (s .head .maxDuration)
+  pub rest : Holds GoodBreak (s .head .rest)
+  pub counted : length (s .customers) ≡ s .head .places
   pub first : s .customers ≡ depot ∷ others s
   pub customers : All GoodCustomer (others s)
-  pub distances : Passes isNumber (s .distances)
-  pub square : length (s .distances) ≡ s .places * s .places
-  pub times : Passes isNumber (s .times)
-  pub as-many : AsMany (s .places * s .places) (s .times)
+  pub distances : Passes isNumber (s .legs .distances)
+  pub square : length (s .legs .distances) ≡ s .head .places * s .head .places
+  pub times : Passes isNumber (s .legs .times)
+  pub as-many : AsMany (s .head .places * s .head .places) (s .legs .times)
 
 -- calls of a tour or a run list, on a sheet with n places
 pub record GoodCalls (n : ℕ) (calls : List ℕ) : Type 0 where
@@ -87,7 +89,7 @@ customer-good : (c : Customer) → badCustomer some c ≡ false → windowFalls 
 customer-good c h g =
     let R = customer-in-range some c h in
     record {
-      demand = not-false (isDemand (c .demand)) (R .demand);
+      demand = not-false (eachOf isDemand (c .demand)) (R .demand);
       service = not-false (isNumber (c .service)) (R .service);
       window = window-good (c .window) (R .window) g;
       penalty = limit-good isPenalty (c .penalty) (R .penalty);
@@ -105,6 +107,9 @@ absent : {A : Type 0} (o : Option A) → present o ≡ false → o ≡ none
 absent none h = refl
 absent (some x) h = absurd (true≢false h)
 
+none-asked : (a : Load) → eachOf (λ (n : ℕ). eqb n 0) a ≡ true → a ≡ noLoad
+none-asked a h = λ i. record { seats = eqb-true (a .seats) 0 h i }
+
 -- the first record is the depot's
 first-good : (cs : List Customer) → 1 ≤ length cs → badDepot some cs ≡ false → cs ≡ depot ∷ tail cs
 first-good [] l h = absurd (no-record l)
@@ -113,7 +118,7 @@ first-good [] l h = absurd (no-record l)
     no-record x = omega arith
 first-good (c ∷ cs) l h =
     let R = depot-in-range some c cs h in
-    let d = eqb-true (c .demand) 0 (not-false (eqb (c .demand) 0) (R .demand)) in
+    let d = none-asked (c .demand) (not-false (eachOf (λ (n : ℕ). eqb n 0) (c .demand)) (R .demand)) in
     let s = eqb-true (c .service) 0 (not-false (eqb (c .service) 0) (R .service)) in
     let w = absent (c .window) (R .window) in
     let p = absent (c .penalty) (R .penalty) in
@@ -127,18 +132,18 @@ pub good-sheet : (s : Sheet) → Within s → GoodSheet s
 good-sheet s W =
     record {
       places = placed;
-      capacity = not-false (isCapacity (s .capacity)) (R .capacity);
-      fixed = not-false (isNumber (s .fixed)) (R .fixed);
-      maxDistance = limit-good isNumber (s .maxDistance) (R .maxDistance);
-      maxDuration = limit-good isNumber (s .maxDuration) (R .maxDuration);
-      rest = break-good (s .rest) (R .rest) (P .rest);
+      capacity = not-false (eachOf isCapacity (s .head .capacity)) (R .capacity);
+      fixed = not-false (isNumber (s .head .fixed)) (R .fixed);
+      maxDistance = limit-good isNumber (s .head .maxDistance) (R .maxDistance);
+      maxDuration = limit-good isNumber (s .head .maxDuration) (R .maxDuration);
+      rest = break-good (s .head .rest) (R .rest) (P .rest);
       counted = W .counted;
-      first = first-good (s .customers) (omega (arith, W .counted, leb-true 1 (s .places) (and-left (leb 1 (s .places)) (leb (s .places) 64) placed))) (rw all-records at (R .depot));
+      first = first-good (s .customers) (omega (arith, W .counted, leb-true 1 (s .head .places) (and-left (leb 1 (s .head .places)) (leb (s .head .places) 64) placed))) (rw all-records at (R .depot));
       customers = all-tail GoodCustomer (s .customers) good-customers;
-      distances = fails-not isNumber (s .distances) (any-fails (unfit some isNumber) (s .distances) (R .distances));
-      square = eqb-true (length (s .distances)) full (not-false (eqb (length (s .distances)) full) (T .distances));
-      times = fails-not isNumber (s .times) (any-fails (unfit some isNumber) (s .times) (R .times));
-      as-many = as-many-good full (s .times) (T .times);
+      distances = fails-not isNumber (s .legs .distances) (any-fails (unfit some isNumber) (s .legs .distances) (R .distances));
+      square = eqb-true (length (s .legs .distances)) full (not-false (eqb (length (s .legs .distances)) full) (T .distances));
+      times = fails-not isNumber (s .legs .times) (any-fails (unfit some isNumber) (s .legs .times) (R .times));
+      as-many = as-many-good full (s .legs .times) (T .times);
     }
   where
     R : InRange some s
@@ -151,13 +156,13 @@ good-sheet s W =
     P = pairs-rise some s (W .paired)
 
     full : ℕ
-    full = s .places * s .places
+    full = s .head .places * s .head .places
 
-    placed : isPlaces (s .places) ≡ true
-    placed = not-false (isPlaces (s .places)) (R .places)
+    placed : isPlaces (s .head .places) ≡ true
+    placed = not-false (isPlaces (s .head .places)) (R .places)
 
     all-records : records s ≡ s .customers
-    all-records = take-all (s .places) (s .customers) (omega (arith, W .counted))
+    all-records = take-all (s .head .places) (s .customers) (omega (arith, W .counted))
 
     good-customers : All GoodCustomer (s .customers)
     good-customers =
@@ -204,7 +209,7 @@ good-customer : (c : Customer) → GoodCustomer c → badCustomer some c ≡ fal
 good-customer c G =
     range-customer some c
     (record {
-      demand = not-of-true (isDemand (c .demand)) (G .demand);
+      demand = not-of-true (eachOf isDemand (c .demand)) (G .demand);
       service = not-of-true (isNumber (c .service)) (G .service);
       window = good-window (c .window) (G .window);
       penalty = good-limit isPenalty (c .penalty) (G .penalty);
@@ -220,33 +225,33 @@ good-within s G =
     record {
       counted = G .counted;
       tables = even-tables s (record {
-        distances = not-of-true (eqb (length (s .distances)) full) (eq-eqb (length (s .distances)) full (G .square));
-        times = good-as-many full (s .times) (G .as-many);
+        distances = not-of-true (eqb (length (s .legs .distances)) full) (eq-eqb (length (s .legs .distances)) full (G .square));
+        times = good-as-many full (s .legs .times) (G .as-many);
       });
       ranged = range-in some s (record {
-        places = not-of-true (isPlaces (s .places)) (G .places);
-        capacity = not-of-true (isCapacity (s .capacity)) (G .capacity);
-        fixed = not-of-true (isNumber (s .fixed)) (G .fixed);
-        maxDistance = good-limit isNumber (s .maxDistance) (G .maxDistance);
-        maxDuration = good-limit isNumber (s .maxDuration) (G .maxDuration);
-        rest = good-break (s .rest) (G .rest);
+        places = not-of-true (isPlaces (s .head .places)) (G .places);
+        capacity = not-of-true (eachOf isCapacity (s .head .capacity)) (G .capacity);
+        fixed = not-of-true (isNumber (s .head .fixed)) (G .fixed);
+        maxDistance = good-limit isNumber (s .head .maxDistance) (G .maxDistance);
+        maxDuration = good-limit isNumber (s .head .maxDuration) (G .maxDuration);
+        rest = good-break (s .head .rest) (G .rest);
         depot = rw all-records refl;
         customers = rw all-records (fails-any (badCustomer some) (others s) (all-imp GoodCustomer (λ (c : Customer). badCustomer some c ≡ false) good-customer (others s) (G .customers)));
-        distances = fails-any (unfit some isNumber) (s .distances) (not-fails isNumber (s .distances) (G .distances));
-        times = fails-any (unfit some isNumber) (s .times) (not-fails isNumber (s .times) (G .times));
+        distances = fails-any (unfit some isNumber) (s .legs .distances) (not-fails isNumber (s .legs .distances) (G .distances));
+        times = fails-any (unfit some isNumber) (s .legs .times) (not-fails isNumber (s .legs .times) (G .times));
       });
       paired = rise-pairs some s (record {
-        rest = break-rises (s .rest) (G .rest);
+        rest = break-rises (s .head .rest) (G .rest);
         windows = rw all-records (fails-any (λ (c : Customer). windowFalls some (c .window)) (others s)
             (all-imp GoodCustomer (λ (c : Customer). windowFalls some (c .window) ≡ false) (λ c g. window-rises (c .window) (g .window)) (others s) (G .customers)));
       });
     }
   where
     full : ℕ
-    full = s .places * s .places
+    full = s .head .places * s .head .places
 
     all-records : records s ≡ depot ∷ others s
-    all-records = take-all (s .places) (s .customers) (omega (arith, G .counted)) ∙ G .first
+    all-records = take-all (s .head .places) (s .customers) (omega (arith, G .counted)) ∙ G .first
 
 pub good-within-calls : (n : ℕ) (calls : List ℕ) → GoodCalls n calls → badCalls n calls ≡ false
 good-within-calls n calls G =

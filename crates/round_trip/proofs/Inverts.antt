@@ -5,19 +5,21 @@ use native.Mathlib.Nat.{mul-le-mul}
 use mathlib.Core.Path.{_≡_, refl, sym, ap, subst, _∙_}
 use mathlib.Core.Bool.{Bool, true, false, cond, _&&_, not}
 use mathlib.Core.List.{List, [], _∷_, _++_, append-assoc}
-use mathlib.Core.Option.{none, some}
+use mathlib.Core.Option.{Option, none, some}
 use mathlib.Core.Logic.{inl, inr}
 use lib.ListN.{length, length-append}
 use lib.Dec.{eqb, ltb, leb, eqb·suc-zero}
 use borrow.Author.Tests.{eqb-true, ltb-true, ltb-false, leb-true, leb-false, not-true}
-use Rattle.basics.specs.Tests.{by-test, not-false, and-left, and-right}
+use Rattle.basics.proofs.TestLaws.{by-test, not-false, and-left, and-right}
 use Rattle.basics.specs.Options.{Holds, IfAny}
 use Rattle.basics.specs.Lists.{All, Passes}
 use Rattle.definitions.specs.Domain.{isPlaces, isCapacity, isDemand, isPenalty, isNumber, isCall}
+use Rattle.definitions.specs.Load.{ofSeats}
 use Rattle.definitions.specs.Sheet.{Customer, Sheet, depot}
 use Rattle.definitions.specs.Words.{Word, word}
 use Rattle.definitions.specs.Encoding.{optional, breakWords, windowWords, customerWords}
-use Rattle.definitions.specs.Reader.{State, start, next, onward, mayStand, inRange, pairFalls, among, faultAt, accepted, refused, behind, walk}
+use Rattle.definitions.specs.Reader.{State, start, next, onward, mayStand, inRange, pairFalls, among, faults, faultAt, accepted, refused, behind, unless, walk}
+use Rattle.theorems.proofs.InOrder.{none-fits}
 use Rattle.round_trip.proofs.Says.{callWords, timeWords, tableWords, allWords}
 use Rattle.round_trip.proofs.Good.{GoodWindow, GoodBreak, GoodCustomer, AsMany, GoodSheet, GoodCalls}
 use Rattle.round_trip.proofs.Accepts.{behindWord, wordCount}
@@ -40,16 +42,13 @@ not-accepted n i h = let z : _≡_ {A = ℕ} 0 1 = cc in absurd (zero-one z)
 
 taken : (s : State) (i : ℕ) (w : Word) (ws : List Word) (left : Bool) → walk s i (w ∷ ws) left ≡ accepted → Taken s i w ws left
 unfolding walk faultAt
-taken s i w ws left h =
-    by-test (among (w .kind) (mayStand s))
-    (λ a. by-test (inRange s w)
-    (λ b. by-test (pairFalls s w)
-    (λ c. not-accepted 2 i (rw (a, b, c) at h))
-    (λ c. by-test (eqb (w .kind) 0xF && not (eqb (w .value) i))
-    (λ d. not-accepted 3 i (rw (a, b, c, d) at h))
-    (λ d. record { stands = a; ranged = b; paired = c; counted = d; on = rw (a, b, c, d) at h })))
-    (λ b. not-accepted 1 i (rw (a, b) at h)))
-    (λ a. not-accepted 11 i (rw a at h))
+taken s i w ws left h = go (faultAt s i w) refl h
+  where
+    go : (o : Option ℕ) → faultAt s i w ≡ o → unless o i (cond (eqb (w .kind) 0xF) (behind (suc i) ws left) (walk (next s w) (suc i) ws left)) ≡ accepted → Taken s i w ws left
+    go (some n) e f = not-accepted n i f
+    go none e f =
+        let N = none-fits (faults s i w) e in
+        record { stands = not-false (among (w .kind) (mayStand s)) (N 11); ranged = not-false (inRange s w) (N 1); paired = N 2; counted = N 3; on = f }
 
 ended : {A : Type 0} (s : State) (i : ℕ) (left : Bool) → walk s i [] left ≡ accepted → A
 unfolding walk
@@ -403,7 +402,7 @@ with-customer n d left i demand service ws h g W =
       ds = R .ds;
       ts = R .ts;
       tour = R .tour;
-      is = ap (λ (l : List Word). word 7 demand ∷ word 8 service ∷ l) (inner ∙ ap (λ (f : ℕ). windowed ++ (penalised ++ (customerWords (R .cs) ++ tableWords (R .ds) (R .ts) (R .tour) f))) same ∙ regroup);
+      is = ap (λ (l : List Word). word 7 demand ∷ word 8 service ∷ l) (inner ∙ ap (λ (n : ℕ). windowed ++ (penalised ++ behind n)) same ∙ regroup);
       counted = ap suc (R .counted);
       customers = (record { demand = h; service = g; window = W .good; penalty = P .good }, R .customers);
       tables = R .tables;
@@ -417,7 +416,7 @@ with-customer n d left i demand service ws h g W =
     R = P .beyond
 
     c : Customer
-    c = record { demand = demand; service = service; window = W .item; penalty = P .item }
+    c = record { demand = ofSeats demand; service = service; window = W .item; penalty = P .item }
 
     windowed : List Word
     windowed = windowWords (W .item)
@@ -425,16 +424,24 @@ with-customer n d left i demand service ws h g W =
     penalised : List Word
     penalised = optional 0xB (P .item)
 
+    -- the words behind this customer's, where F has the value n
+    behind : ℕ → List Word
+    behind n = customerWords (R .cs) ++ tableWords (R .ds) (R .ts) (R .tour) n
+
     f : ℕ
     f = i + length (customerWords (c ∷ R .cs)) + length (R .ds) + length (R .ts) + length (R .tour)
 
-    inner : ws ≡ windowed ++ (penalised ++ (customerWords (R .cs) ++ tableWords (R .ds) (R .ts) (R .tour) (suc (suc i) + length windowed + length penalised + length (customerWords (R .cs)) + length (R .ds) + length (R .ts) + length (R .tour))))
+    -- the same, counted word by word
+    f' : ℕ
+    f' = suc (suc i) + length windowed + length penalised + length (customerWords (R .cs)) + length (R .ds) + length (R .ts) + length (R .tour)
+
+    inner : ws ≡ windowed ++ (penalised ++ behind f')
     inner = W .is ∙ ap (λ (l : List Word). windowed ++ l) (P .is ∙ ap (λ (l : List Word). penalised ++ l) (R .is))
 
-    same : suc (suc i) + length windowed + length penalised + length (customerWords (R .cs)) + length (R .ds) + length (R .ts) + length (R .tour) ≡ f
+    same : f' ≡ f
     same = omega (arith, length-append (windowed ++ penalised) (customerWords (R .cs)), length-append windowed penalised)
 
-    regroup : windowed ++ (penalised ++ (customerWords (R .cs) ++ tableWords (R .ds) (R .ts) (R .tour) f)) ≡ windowed ++ penalised ++ customerWords (R .cs) ++ tableWords (R .ds) (R .ts) (R .tour) f
+    regroup : windowed ++ (penalised ++ behind f) ≡ windowed ++ penalised ++ customerWords (R .cs) ++ tableWords (R .ds) (R .ts) (R .tour) f
     regroup = simp append-assoc
 
 onward-seven : (k v r n d : ℕ) → onward (behindWord k v r n (suc d)) ≡ 7
@@ -468,7 +475,7 @@ pub record IsSheet (left : Bool) (ws : List Word) : Type 0 where
   pub tour : List ℕ
   pub is : ws ≡ allWords sheet tour (wordCount sheet tour)
   pub good : GoodSheet sheet
-  pub calls : GoodCalls (sheet .places) tour
+  pub calls : GoodCalls (sheet .head .places) tour
   pub nothing-left : left ≡ false
 
 is-sheet : (n capacity fixed : ℕ) (left : Bool) (ws : List Word) → isPlaces n ≡ true → isCapacity capacity ≡ true → isNumber fixed ≡ true → Limited n (pred n) left 3 ws
@@ -479,15 +486,9 @@ is-sheet n capacity fixed left ws p c f L =
     let R = B .beyond in
     record {
       sheet = record {
-        places = n;
-        capacity = capacity;
-        fixed = fixed;
-        maxDistance = L .item;
-        maxDuration = A .item;
-        rest = B .item;
+        head = record { places = n; capacity = ofSeats capacity; fixed = fixed; maxDistance = L .item; maxDuration = A .item; rest = B .item };
         customers = depot ∷ R .cs;
-        distances = R .ds;
-        times = R .ts;
+        legs = record { distances = R .ds; times = R .ts };
       };
       tour = R .tour;
       is = ap (λ (l : List Word). word 1 n ∷ word 2 capacity ∷ word 3 fixed ∷ l)

@@ -34,7 +34,7 @@ is-by ws left I =
           words = I .is ∙ sym (encode-counted (I .sheet) (I .tour));
           nothing-left = I .nothing-left;
           within = good-within (I .sheet) (I .good);
-          calls = good-within-calls (I .sheet .places) (I .tour) (I .calls);
+          calls = good-within-calls (I .sheet .head .places) (I .tour) (I .calls);
         }
 
 -- whatever is accepted is the words of the sheet and tour returned, with nothing left over, and those are within the limits

@@ -27,4 +27,4 @@ unfolding readWords
 reads-back s tour W C =
     let G = good-sheet s W in
     let f = wordCount s tour in
-    rw (encode-counted s tour, all-ok s tour G (good-calls (s .places) tour C), sheet-said s tour f (G .first), tour-said s tour f)
+    rw (encode-counted s tour, all-ok s tour G (good-calls (s .head .places) tour C), sheet-said s tour f (G .first), tour-said s tour f)

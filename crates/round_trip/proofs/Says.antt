@@ -7,7 +7,7 @@ use mathlib.Core.Option.{Option, none, some}
 use lib.ListN.{length}
 use lib.Dec.{eqb}
 use borrow.Author.Tests.{eq-eqb}
-use Rattle.basics.specs.Tests.{by-test}
+use Rattle.basics.proofs.TestLaws.{by-test}
 use Rattle.definitions.specs.Sheet.{Sheet, Window, Break, Customer, depot}
 use Rattle.definitions.specs.Words.{Word, word}
 use Rattle.definitions.specs.Encoding.{optional, breakWords, windowWords, customerWords, bodyWords, encode}
@@ -108,7 +108,7 @@ inner-lacks : (c : Customer) → Lacks 7 (inner c)
 inner-lacks c = lacks-append 7 (windowWords (c .window)) (optional 0xB (c .penalty)) (other-window 7 (c .window) refl refl) (other-optional 0xB 7 (c .penalty) refl)
 
 one-customer : (c : Customer) (ys : List Word) → Lacks 8 ys → Lacks 9 ys → Lacks 0xA ys → Lacks 0xB ys
-    → customerOf (c .demand) (word 8 (c .service) ∷ (inner c ++ ys)) ≡ c
+    → customerOf (c .demand .seats) (word 8 (c .service) ∷ (inner c ++ ys)) ≡ c
 one-customer c ys h8 h9 hA hB =
     λ i. record { demand = c .demand; service = c .service; window = window (c .window) (c .penalty) i; penalty = penalty (c .window) (c .penalty) i }
   where
@@ -129,7 +129,7 @@ pub customers-said : (cs : List Customer) (t : List Word) → Past t → custome
 customers-said [] t P = ap customersOf (sym (append-nil t)) ∙ customers-skip t [] (P .no7)
 customers-said (c ∷ cs) t P =
     let ys = own (customerWords cs ++ t) in
-    let whole : customerWords (c ∷ cs) ++ t ≡ word 7 (c .demand) ∷ word 8 (c .service) ∷ (inner c ++ (customerWords cs ++ t)) = simp append-assoc in
+    let whole : customerWords (c ∷ cs) ++ t ≡ word 7 (c .demand .seats) ∷ word 8 (c .service) ∷ (inner c ++ (customerWords cs ++ t)) = simp append-assoc in
     ap customersOf whole ∙ rw (own-through (inner c) (customerWords cs ++ t) (inner-lacks c), customers-skip (inner c) (customerWords cs ++ t) (inner-lacks c), customers-said cs t P)
     (ap (λ (d : Customer). d ∷ cs)
     (one-customer c ys (own-lacks 8 cs t (P .no7) (P .no8)) (own-lacks 9 cs t (P .no7) (P .no9)) (own-lacks 0xA cs t (P .no7) (P .noA)) (own-lacks 0xB cs t (P .no7) (P .noB))))
@@ -157,8 +157,8 @@ others s = tail (s .customers)
 -- the words of a sheet and its tour, where F has the value f
 abbrev pub allWords : Sheet → List ℕ → ℕ → List Word
 allWords s tour f =
-    word 1 (s .places) ∷ word 2 (s .capacity) ∷ word 3 (s .fixed)
-    ∷ limitWords (s .maxDistance) (s .maxDuration) (s .rest) (customerWords (others s) ++ tableWords (s .distances) (s .times) tour f)
+    word 1 (s .head .places) ∷ word 2 (s .head .capacity .seats) ∷ word 3 (s .head .fixed)
+    ∷ limitWords (s .head .maxDistance) (s .head .maxDuration) (s .head .rest) (customerWords (others s) ++ tableWords (s .legs .distances) (s .legs .times) tour f)
 
 pub encode-is : (s : Sheet) (tour : List ℕ) → encode s tour ≡ allWords s tour (length (bodyWords s tour))
 unfolding encode bodyWords
@@ -196,81 +196,81 @@ break-said (some b) = refl
 
 module _ (s : Sheet) (tour : List ℕ) (f : ℕ) where
   abbrev tables : List Word
-  tables = tableWords (s .distances) (s .times) tour f
+  tables = tableWords (s .legs .distances) (s .legs .times) tour f
 
   abbrev rest : List Word
   rest = customerWords (others s) ++ tables
 
   abbrev limited : List Word
-  limited = limitWords (s .maxDistance) (s .maxDuration) (s .rest) rest
+  limited = limitWords (s .head .maxDistance) (s .head .maxDuration) (s .head .rest) rest
 
   rest-lacks : (k : ℕ) → Strange k → eqb 0xC k ≡ false → eqb 0xD k ≡ false → eqb 0xE k ≡ false → eqb 0xF k ≡ false → Lacks k rest
-  rest-lacks k h c d e n = lacks-append k (customerWords (others s)) tables (other-customers k (others s) h) (tables-lack k (s .distances) (s .times) tour f c d e n)
+  rest-lacks k h c d e n = lacks-append k (customerWords (others s)) tables (other-customers k (others s) h) (tables-lack k (s .legs .distances) (s .legs .times) tour f c d e n)
 
   -- a kind of the tables
   to-tables : (k : ℕ) → eqb 4 k ≡ false → eqb 5 k ≡ false → eqb 6 k ≡ false → Strange k → valuesOf k limited ≡ valuesOf k tables
   to-tables k a b c h =
-      limits-skip k (s .maxDistance) (s .maxDuration) (s .rest) rest a b c ∙ skip k (customerWords (others s)) tables (other-customers k (others s) h)
+      limits-skip k (s .head .maxDistance) (s .head .maxDuration) (s .head .rest) rest a b c ∙ skip k (customerWords (others s)) tables (other-customers k (others s) h)
 
-  distance-limit-said : firstOf (valuesOf 4 limited) ≡ s .maxDistance
-  distance-limit-said = ap firstOf (stop 4 (optional 4 (s .maxDistance)) behind lacks) ∙ values-optional 4 (s .maxDistance)
+  distance-limit-said : firstOf (valuesOf 4 limited) ≡ s .head .maxDistance
+  distance-limit-said = ap firstOf (stop 4 (optional 4 (s .head .maxDistance)) behind lacks) ∙ values-optional 4 (s .head .maxDistance)
     where
       behind : List Word
-      behind = optional 5 (s .maxDuration) ++ (breakWords (s .rest) ++ rest)
+      behind = optional 5 (s .head .maxDuration) ++ (breakWords (s .head .rest) ++ rest)
 
       lacks : Lacks 4 behind
       lacks =
-          lacks-append 4 (optional 5 (s .maxDuration)) (breakWords (s .rest) ++ rest) (other-optional 5 4 (s .maxDuration) refl)
-          (lacks-append 4 (breakWords (s .rest)) rest (other-break 4 (s .rest) refl) (rest-lacks 4 (refl, refl, refl, refl, refl) refl refl refl refl))
+          lacks-append 4 (optional 5 (s .head .maxDuration)) (breakWords (s .head .rest) ++ rest) (other-optional 5 4 (s .head .maxDuration) refl)
+          (lacks-append 4 (breakWords (s .head .rest)) rest (other-break 4 (s .head .rest) refl) (rest-lacks 4 (refl, refl, refl, refl, refl) refl refl refl refl))
 
-  duration-limit-said : firstOf (valuesOf 5 limited) ≡ s .maxDuration
+  duration-limit-said : firstOf (valuesOf 5 limited) ≡ s .head .maxDuration
   duration-limit-said =
       ap firstOf
-      (skip 5 (optional 4 (s .maxDistance)) (optional 5 (s .maxDuration) ++ (breakWords (s .rest) ++ rest)) (other-optional 4 5 (s .maxDistance) refl)
-      ∙ stop 5 (optional 5 (s .maxDuration)) (breakWords (s .rest) ++ rest) lacks)
-      ∙ values-optional 5 (s .maxDuration)
+      (skip 5 (optional 4 (s .head .maxDistance)) (optional 5 (s .head .maxDuration) ++ (breakWords (s .head .rest) ++ rest)) (other-optional 4 5 (s .head .maxDistance) refl)
+      ∙ stop 5 (optional 5 (s .head .maxDuration)) (breakWords (s .head .rest) ++ rest) lacks)
+      ∙ values-optional 5 (s .head .maxDuration)
     where
-      lacks : Lacks 5 (breakWords (s .rest) ++ rest)
-      lacks = lacks-append 5 (breakWords (s .rest)) rest (other-break 5 (s .rest) refl) (rest-lacks 5 (refl, refl, refl, refl, refl) refl refl refl refl)
+      lacks : Lacks 5 (breakWords (s .head .rest) ++ rest)
+      lacks = lacks-append 5 (breakWords (s .head .rest)) rest (other-break 5 (s .head .rest) refl) (rest-lacks 5 (refl, refl, refl, refl, refl) refl refl refl refl)
 
-  rest-said : breakOf (valuesOf 6 limited) ≡ s .rest
+  rest-said : breakOf (valuesOf 6 limited) ≡ s .head .rest
   rest-said =
       ap breakOf
-      (skip 6 (optional 4 (s .maxDistance)) (optional 5 (s .maxDuration) ++ (breakWords (s .rest) ++ rest)) (other-optional 4 6 (s .maxDistance) refl)
-      ∙ skip 6 (optional 5 (s .maxDuration)) (breakWords (s .rest) ++ rest) (other-optional 5 6 (s .maxDuration) refl)
-      ∙ stop 6 (breakWords (s .rest)) rest (rest-lacks 6 (refl, refl, refl, refl, refl) refl refl refl refl))
-      ∙ break-said (s .rest)
+      (skip 6 (optional 4 (s .head .maxDistance)) (optional 5 (s .head .maxDuration) ++ (breakWords (s .head .rest) ++ rest)) (other-optional 4 6 (s .head .maxDistance) refl)
+      ∙ skip 6 (optional 5 (s .head .maxDuration)) (breakWords (s .head .rest) ++ rest) (other-optional 5 6 (s .head .maxDuration) refl)
+      ∙ stop 6 (breakWords (s .head .rest)) rest (rest-lacks 6 (refl, refl, refl, refl, refl) refl refl refl refl))
+      ∙ break-said (s .head .rest)
 
   others-said : customersOf limited ≡ others s
   others-said =
-      customers-skip (optional 4 (s .maxDistance)) (optional 5 (s .maxDuration) ++ (breakWords (s .rest) ++ rest)) (other-optional 4 7 (s .maxDistance) refl)
-      ∙ customers-skip (optional 5 (s .maxDuration)) (breakWords (s .rest) ++ rest) (other-optional 5 7 (s .maxDuration) refl)
-      ∙ customers-skip (breakWords (s .rest)) rest (other-break 7 (s .rest) refl)
-      ∙ customers-said (others s) tables (tables-past (s .distances) (s .times) tour f)
+      customers-skip (optional 4 (s .head .maxDistance)) (optional 5 (s .head .maxDuration) ++ (breakWords (s .head .rest) ++ rest)) (other-optional 4 7 (s .head .maxDistance) refl)
+      ∙ customers-skip (optional 5 (s .head .maxDuration)) (breakWords (s .head .rest) ++ rest) (other-optional 5 7 (s .head .maxDuration) refl)
+      ∙ customers-skip (breakWords (s .head .rest)) rest (other-break 7 (s .head .rest) refl)
+      ∙ customers-said (others s) tables (tables-past (s .legs .distances) (s .legs .times) tour f)
 
-  distances-said : valuesOf 0xC limited ≡ s .distances
+  distances-said : valuesOf 0xC limited ≡ s .legs .distances
   distances-said =
       to-tables 0xC refl refl refl (refl, refl, refl, refl, refl)
-      ∙ stop 0xC (map (word 0xC) (s .distances)) (timeWords (s .times) tour f) lacks
-      ∙ values-row 0xC (s .distances)
+      ∙ stop 0xC (map (word 0xC) (s .legs .distances)) (timeWords (s .legs .times) tour f) lacks
+      ∙ values-row 0xC (s .legs .distances)
     where
-      lacks : Lacks 0xC (timeWords (s .times) tour f)
-      lacks = lacks-append 0xC (map (word 0xD) (s .times)) (callWords tour f) (values-other 0xD 0xC (s .times) refl) (calls-lack 0xC tour f refl refl)
+      lacks : Lacks 0xC (timeWords (s .legs .times) tour f)
+      lacks = lacks-append 0xC (map (word 0xD) (s .legs .times)) (callWords tour f) (values-other 0xD 0xC (s .legs .times) refl) (calls-lack 0xC tour f refl refl)
 
-  times-said : valuesOf 0xD limited ≡ s .times
+  times-said : valuesOf 0xD limited ≡ s .legs .times
   times-said =
       to-tables 0xD refl refl refl (refl, refl, refl, refl, refl)
-      ∙ skip 0xD (map (word 0xC) (s .distances)) (timeWords (s .times) tour f) (values-other 0xC 0xD (s .distances) refl)
-      ∙ stop 0xD (map (word 0xD) (s .times)) (callWords tour f) (calls-lack 0xD tour f refl refl)
-      ∙ values-row 0xD (s .times)
+      ∙ skip 0xD (map (word 0xC) (s .legs .distances)) (timeWords (s .legs .times) tour f) (values-other 0xC 0xD (s .legs .distances) refl)
+      ∙ stop 0xD (map (word 0xD) (s .legs .times)) (callWords tour f) (calls-lack 0xD tour f refl refl)
+      ∙ values-row 0xD (s .legs .times)
 
   -- what the words say is the tour
   pub tour-said : tourOf (allWords s tour f) ≡ tour
   unfolding tourOf
   tour-said =
       to-tables 0xE refl refl refl (refl, refl, refl, refl, refl)
-      ∙ skip 0xE (map (word 0xC) (s .distances)) (timeWords (s .times) tour f) (values-other 0xC 0xE (s .distances) refl)
-      ∙ skip 0xE (map (word 0xD) (s .times)) (callWords tour f) (values-other 0xD 0xE (s .times) refl)
+      ∙ skip 0xE (map (word 0xC) (s .legs .distances)) (timeWords (s .legs .times) tour f) (values-other 0xC 0xE (s .legs .distances) refl)
+      ∙ skip 0xE (map (word 0xD) (s .legs .times)) (callWords tour f) (values-other 0xD 0xE (s .legs .times) refl)
       ∙ stop 0xE (map (word 0xE) tour) (word 0xF f ∷ []) refl
       ∙ values-row 0xE tour
 
@@ -279,13 +279,15 @@ module _ (s : Sheet) (tour : List ℕ) (f : ℕ) where
   unfolding sheetOf
   sheet-said first = λ i.
       record {
-        places = s .places;
-        capacity = s .capacity;
-        fixed = s .fixed;
-        maxDistance = distance-limit-said i;
-        maxDuration = duration-limit-said i;
-        rest = rest-said i;
+        head =
+            record {
+              places = s .head .places;
+              capacity = s .head .capacity;
+              fixed = s .head .fixed;
+              maxDistance = distance-limit-said i;
+              maxDuration = duration-limit-said i;
+              rest = rest-said i;
+            };
         customers = (ap (λ (cs : List Customer). depot ∷ cs) others-said ∙ sym first) i;
-        distances = distances-said i;
-        times = times-said i;
+        legs = record { distances = distances-said i; times = times-said i };
       }

@@ -1,5 +1,9 @@
--- The breaks of runs, one after the other.
+-- The cut of a sheet that is held.
+pub mod CutHeld
+-- The runs of the planner's result, and how many there are.
+pub mod PlanRuns
+pub mod PlanRoom
+-- The breaks of the runs, and the plan as it is left.
 pub mod BreakTurns
--- The plan, with the breaks that its runs take.
 pub mod BreaksFound
 pub mod Planning

@@ -1,64 +1,100 @@
--- The cut of a sheet that is held and the breaks of its runs, as the plan call leaves them. Assumes nothing.
+-- The cut of a sheet that is held and the breaks of its runs, as the plan leaves them in the lists. Assumes nothing.
 use Prim.Native.Nat.{ℕ, _≤_}
 use native.Mathlib.Omega.{arith}
-use mathlib.Core.Path.{_≡_, ap, subst, _∙_}
+use mathlib.Core.Path.{_≡_, sym, ap, subst, _∙_}
 use mathlib.Core.List.{List, map}
 use lib.Ieee.{Float}
-use lib.ListN.{length, take}
+use lib.ListN.{length, take, length-map}
+use Rattle.basics.specs.Options.{valueOr}
 use Rattle.whole.specs.Whole.{fl}
 use Rattle.definitions.specs.Sheet.{Sheet}
+use Rattle.definitions.specs.Clock.{startOf}
 use Rattle.definitions.specs.Drop.{splitTw}
 use Rattle.definitions.specs.Room.{written}
-use Rattle.definitions.specs.RunList.{runsOf}
-use Rattle.bounds.specs.Inside.{sized, few-calls, calls-inside}
+use Rattle.theorems.proofs.RunListLaws.{RiseTo}
+use Rattle.theorems.proofs.Promised.{promised}
+use Rattle.bounds.proofs.Inside.{sized, few-calls, calls-inside}
 use Rattle.models.specs.declared.customer.Customer.{Customer}
 use Rattle.models.specs.declared.head.Head.{Head}
 use Rattle.models.specs.Records.{restOf}
-use Rattle.evaluation.specs.Records.{LimitsF, lent}
+use Rattle.evaluation.specs.Records.{LimitsF, TakenF, lent}
 use Rattle.split.specs.declared.split.SplitResult.{SplitResult}
-use Rattle.report.proofs.PlanRoom.{few-ends, served-and-dropped}
-use Rattle.plan_listing.specs.Held.{InMemory}
-use Rattle.plan_listing.specs.Cut.{CutLeft}
-use Rattle.plan_listing.proofs.Planned.{served-are, ends-are}
-use Rattle.sheet_plan.specs.declared.breaks.Figures.{Figures}
-use Rattle.sheet_plan.specs.Breaks.{figuresF}
-use Rattle.sheet_plan.specs.Plan.{startsOf, plan, Left}
+use Rattle.cut_table.proofs.Fronts.{front, inside, counted}
+use Rattle.sheet_loaded.specs.Held.{InMemory}
+use Rattle.sheet_plan.specs.Breaks.{breaksF, placesIn, startsIn}
+use Rattle.sheet_plan.specs.Cut.{CutLists, CutLeft}
+use Rattle.sheet_plan.specs.Plan.{Plan, startsOf, plan, PlanLists, Left}
+use Rattle.sheet_plan.proofs.CutHeld.{served-are, ends-are}
+use Rattle.sheet_plan.proofs.PlanRuns.{placed-are, places-many}
+use Rattle.sheet_plan.proofs.PlanRoom.{plan-rises, few-ends, served-and-dropped}
 use Rattle.sheet_plan.proofs.BreaksFound.{places-found, starts-found}
 
-module _ (s : Sheet) (tour : List ℕ) (head : Head) (customers : List Customer) (distances times : List Float) (H : InMemory s tour head customers distances times)
-    {r : SplitResult} {served₀ ends₀ dropped₀ served ends dropped : List ℕ} (C : CutLeft (splitTw s tour) r served₀ ends₀ dropped₀ served ends dropped) where
-  -- the breaks of the runs
-  abbrev breaks : List Figures
-  breaks = map (figuresF (lent customers distances times (head .places)) (restOf (head .limits .rest))) (runsOf (take (r .served) served) (take (r .runs) ends))
+-- each run has a start
+starts-many : (s : Sheet) (tour : List ℕ) → length (splitTw s tour .places) ≡ length (startsOf s (splitTw s tour))
+starts-many s tour =
+    let P = promised s tour in
+    ap length (sym (P .places-are)) ∙ length-map (P .runs) (λ r. r .place) ∙ sym (length-map (P .runs) (λ r. valueOr 0 (startOf s r)))
+    ∙ ap (λ (rs : List _). length (map (λ r. valueOr 0 (startOf s r)) rs)) (sym (placed-are s tour))
 
-  places-are : map (λ b. b .place) breaks ≡ splitTw s tour .places
+module _ (s : Sheet) (tour : List ℕ) (head : Head) (customers : List Customer) (distances times : List Float) (H : InMemory s tour head customers distances times)
+    {r : SplitResult} {old new : CutLists} (C : CutLeft (splitTw s tour) r old new) where
+  -- the breaks of the runs
+  abbrev breaks : List TakenF
+  breaks = breaksF (lent customers distances times (head .places)) (restOf (head .limits .rest)) (take (r .served) (new .served)) (take (r .runs) (new .ends))
+
+  places-are : placesIn breaks ≡ splitTw s tour .places
   places-are =
       rw (served-are C, ends-are C, ap (λ (l : LimitsF). l .rest) (H .limits))
       (places-found s (sized s (H .within)) (lent customers distances times (head .places)) (H .tables) tour (few-calls s tour (H .calls)) (calls-inside s tour (H .calls)))
 
-  starts-are : map (λ b. b .start) breaks ≡ map fl (startsOf s (splitTw s tour))
+  starts-are : startsIn breaks ≡ map fl (startsOf s (splitTw s tour))
   starts-are =
       rw (served-are C, ends-are C, ap (λ (l : LimitsF). l .rest) (H .limits))
       (starts-found s (sized s (H .within)) (lent customers distances times (head .places)) (H .tables) tour (few-calls s tour (H .calls)) (calls-inside s tour (H .calls)))
 
+  -- the run ends rise to the number of served calls
+  pub rises : RiseTo 0 (take (r .runs) (new .ends)) (length (take (r .served) (new .served)))
+  rises = rw (served-are C, ends-are C) (plan-rises s tour)
+
   -- each run's break has room
-  pub ends-room : length (take (r .runs) ends) ≤ 128
+  pub ends-room : length (take (r .runs) (new .ends)) ≤ 128
   ends-room = rw (ends-are C) (omega (arith, few-ends s tour, served-and-dropped s tour, few-calls s tour (H .calls)))
 
-  pub left : (places₀ : List ℕ) (starts₀ : List Float) (places : List ℕ) (starts : List Float)
-      → places ≡ written (map (λ b. b .place) breaks) places₀ → starts ≡ written (map (λ b. b .start) breaks) starts₀
-      → Left (plan s tour) r served₀ ends₀ places₀ starts₀ dropped₀ served ends places starts dropped
-  unfolding plan
-  left places₀ starts₀ places starts p q =
-      record {
-        cut = C;
-        places-left = p ∙ ap (λ (l : List ℕ). written l places₀) places-are;
-        starts-left = q ∙ ap (λ (l : List Float). written l starts₀) starts-are;
-      }
+  module _ (before after : PlanLists) (from : before .cut ≡ old) (to : after .cut ≡ new) where
+    pub left : after .places ≡ written (placesIn breaks) (before .places) → after .starts ≡ written (startsIn breaks) (before .starts) → Left (plan s tour) r before after
+    unfolding plan
+    left p q =
+        record {
+          cut = rw (from, to) C;
+          places-count = C .runs-count ∙ places-many s tour;
+          starts-count = C .runs-count ∙ places-many s tour ∙ starts-many s tour ∙ sym (length-map (startsOf s (splitTw s tour)) fl);
+          places-left = p ∙ ap (λ (l : List ℕ). written l (before .places)) places-are;
+          starts-left = q ∙ ap (λ (l : List Float). written l (before .starts)) starts-are;
+        }
 
 -- a plan of the calls that are the tour
-pub of-tour : (s : Sheet) {l tour : List ℕ} {r : SplitResult} {served₀ ends₀ places₀ dropped₀ served ends places dropped : List ℕ} {starts₀ starts : List Float} → l ≡ tour
-    → Left (plan s l) r served₀ ends₀ places₀ starts₀ dropped₀ served ends places starts dropped
-    → Left (plan s tour) r served₀ ends₀ places₀ starts₀ dropped₀ served ends places starts dropped
-of-tour s {r = r} {served₀ = served₀} {ends₀ = ends₀} {places₀ = places₀} {dropped₀ = dropped₀} {served = served} {ends = ends} {places = places} {dropped = dropped} {starts₀ = starts₀} {starts = starts} e L =
-    subst (λ (l : List ℕ). Left (plan s l) r served₀ ends₀ places₀ starts₀ dropped₀ served ends places starts dropped) e L
+pub of-tour : (s : Sheet) {l tour : List ℕ} {r : SplitResult} {old new : PlanLists} → l ≡ tour → Left (plan s l) r old new → Left (plan s tour) r old new
+of-tour s {r = r} {old = old} {new = new} e L = subst (λ (l : List ℕ). Left (plan s l) r old new) e L
+
+-- ---- what callers of `plan_held` ask for
+
+module _ {p : Plan} {r : SplitResult} {old new : PlanLists} (L : Left p r old new) where
+  -- the parts at the front of the lists lie inside them, and are as long as is counted
+  pub places-inside : r .runs ≤ length (new .places)
+  places-inside = inside (r .runs) (p .cut .places) (old .places) (new .places) (L .places-count) (L .places-left)
+
+  pub places-counted : r .runs ≡ length (take (r .runs) (new .places))
+  places-counted = counted (r .runs) (p .cut .places) (old .places) (new .places) (L .places-count) (L .places-left)
+
+  pub starts-inside : r .runs ≤ length (new .starts)
+  starts-inside = inside (r .runs) (map fl (p .starts)) (old .starts) (new .starts) (L .starts-count) (L .starts-left)
+
+  pub starts-counted : r .runs ≡ length (take (r .runs) (new .starts))
+  starts-counted = counted (r .runs) (map fl (p .starts)) (old .starts) (new .starts) (L .starts-count) (L .starts-left)
+
+  -- they are the plan's
+  pub break-places-are : take (r .runs) (new .places) ≡ p .cut .places
+  break-places-are = front (r .runs) (p .cut .places) (old .places) (new .places) (L .places-count) (L .places-left)
+
+  pub break-starts-are : take (r .runs) (new .starts) ≡ map fl (p .starts)
+  break-starts-are = front (r .runs) (map fl (p .starts)) (old .starts) (new .starts) (L .starts-count) (L .starts-left)

@@ -1,17 +1,22 @@
--- The break of a run on floats, in numbers alone. Definitions only.
+-- The breaks of the runs of a run list, on floats. Definitions only.
 use Prim.Native.Nat.{ℕ}
-use mathlib.Core.List.{List}
+use mathlib.Core.List.{List, map}
 use mathlib.Core.Option.{Option}
 use lib.Ieee.{Float}
 use Rattle.basics.specs.Options.{valueOr}
 use Rattle.whole.specs.Whole.{fl}
 use Rattle.definitions.specs.Sheet.{BreakOf}
+use Rattle.definitions.specs.RunList.{runsOf}
 use Rattle.evaluation.specs.Records.{Tables, TakenF}
 use Rattle.evaluation.specs.Route.{breakF}
-use Rattle.sheet_plan.specs.declared.breaks.Figures.{Figures}
 
-abbrev pub figures : TakenF → Figures
-figures b = record { place = b .place; start = valueOr (fl 0) (b .start) }
+-- where the clock of each run puts its break
+abbrev pub breaksF : Tables → Option (BreakOf Float) → (calls ends : List ℕ) → List TakenF
+breaksF t rest calls ends = map (breakF t rest) (runsOf calls ends)
 
-unfoldable pub figuresF : Tables → Option (BreakOf Float) → List ℕ → Figures
-figuresF t rest calls = figures (breakF t rest calls)
+-- their places, and their starts, 0 where there is none
+abbrev pub placesIn : List TakenF → List ℕ
+placesIn breaks = map (λ b. b .place) breaks
+
+abbrev pub startsIn : List TakenF → List Float
+startsIn breaks = map (λ b. valueOr (fl 0) (b .start)) breaks

@@ -1,5 +1,5 @@
 -- The plan of a sheet in whole numbers: the cut, and when the breaks of its runs start. Definitions only.
-use Prim.Native.Nat.{ℕ}
+use Prim.Native.Nat.{ℕ, _≤_}
 use mathlib.Core.Path.{_≡_}
 use mathlib.Core.List.{List, [], _∷_, map}
 use lib.Ieee.{Float}
@@ -13,7 +13,7 @@ use Rattle.definitions.specs.Marker.{withPlaces}
 use Rattle.definitions.specs.Room.{written}
 use Rattle.definitions.specs.RunList.{runsOf}
 use Rattle.split.specs.declared.split.SplitResult.{SplitResult}
-use Rattle.plan_listing.specs.Cut.{CutLeft}
+use Rattle.sheet_plan.specs.Cut.{CutLists, cutLists, CutLeft}
 
 -- the cutting of `split_tw`, and when the break of each run starts, 0 where it has none
 pub record Plan : Type 0 where
@@ -34,8 +34,25 @@ countsOf p = length (p .cut .served) ∷ length (p .cut .ends) ∷ length (p .cu
 abbrev pub totalsOf : Plan → List Float
 totalsOf p = fl (p .cut .cost) ∷ fl (p .cut .distance) ∷ []
 
--- what a plan comes to, and the lists as it leaves them
-pub record Left (p : Plan) (r : SplitResult) (served₀ ends₀ places₀ : List ℕ) (starts₀ : List Float) (dropped₀ served ends places : List ℕ) (starts : List Float) (dropped : List ℕ) : Type 0 where
-  pub cut : CutLeft (p .cut) r served₀ ends₀ dropped₀ served ends dropped
-  pub places-left : places ≡ written (p .cut .places) places₀
-  pub starts-left : starts ≡ written (map fl (p .starts)) starts₀
+-- the lists that a plan is written to, as they are before or after it
+pub record PlanLists : Type 0 where
+  pub cut : CutLists
+  pub places : List ℕ
+  pub starts : List Float
+
+abbrev pub planLists : (served ends places : List ℕ) (starts : List Float) (dropped : List ℕ) → PlanLists
+planLists served ends places starts dropped = record { cut = cutLists served ends dropped; places = places; starts = starts }
+
+-- each list has room for the longest tour
+abbrev pub Roomy : PlanLists → Type 0
+Roomy l =
+    (128 ≤ length (l .cut .served)) × (128 ≤ length (l .cut .ends)) × (128 ≤ length (l .places))
+    × (128 ≤ length (l .starts)) × (128 ≤ length (l .cut .dropped))
+
+-- what a plan comes to, and the lists as it leaves them: each run has a place and a start
+pub record Left (p : Plan) (r : SplitResult) (old new : PlanLists) : Type 0 where
+  pub cut : CutLeft (p .cut) r (old .cut) (new .cut)
+  pub places-count : r .runs ≡ length (p .cut .places)
+  pub starts-count : r .runs ≡ length (map fl (p .starts))
+  pub places-left : new .places ≡ written (p .cut .places) (old .places)
+  pub starts-left : new .starts ≡ written (map fl (p .starts)) (old .starts)

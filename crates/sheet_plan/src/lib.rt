@@ -1,3 +1,4 @@
-// The plan of the sheet that bytes are, with the breaks of its runs.
+// The plan of a sheet: its tour cut into runs, and the breaks of the runs.
 pub mod breaks;
+pub mod cut;
 pub mod plan;

@@ -5,11 +5,11 @@ use mathlib.Core.Path.{_≡_, sym, ap, subst, _∙_}
 use mathlib.Core.List.{List}
 use lib.ListN.{length, take, drop, length-map}
 use lib.Ieee.{Float}
-use Rattle.cutting.specs.Tab.{cells}
+use Rattle.cut_theory.specs.Tab.{cells}
 use Rattle.definitions.specs.Drop.{callAt, callsAt, Held}
 use Rattle.definitions.specs.Room.{written}
-use Rattle.table.proofs.Writing.{front-written}
-use Rattle.stretch.specs.Tariff.{Tariff, CutDone}
+use Rattle.cut_table.proofs.Writing.{front-written}
+use Rattle.cut_rows.specs.Tariff.{Tariff, CutDone}
 use Rattle.split.specs.Answer.{planF, Counted}
 use Rattle.split.proofs.Cutting.{part-is, few-runs, runs-are}
 

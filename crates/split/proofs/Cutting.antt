@@ -7,28 +7,30 @@ use mathlib.Core.List.{List, [], _∷_}
 use lib.ListN.{length, getD, take, drop, length-drop}
 use lib.Seq.{take-all}
 use lib.Ieee.{Float, nan}
-use Rattle.cutting.specs.Cut.{Rule, pred, backOf, ends}
-use Rattle.cutting.specs.Best.{pred-lt}
-use Rattle.cutting.specs.Back.{Falls}
-use Rattle.cutting.specs.Tab.{cells}
-use Rattle.cutting.specs.Rows.{Legs, rule64, last-cost, last-falls, last-ends}
-use Rattle.cutting.specs.Carried.{last-far}
-use Rattle.stretch.specs.Tariff.{Tariff, stretches, runsOf, farsOf, TableOf, endsF, CutDone}
+use Rattle.cut_theory.specs.Cut.{Rule, pred, backOf, ends, Falls}
+use Rattle.cut_theory.proofs.Best.{pred-lt}
+use Rattle.cut_theory.specs.Tab.{cells}
+use Rattle.cut_theory.specs.Rows.{Legs, rule64}
+use Rattle.cut_theory.proofs.RowLaws.{last-cost, last-falls, last-ends}
+use Rattle.cut_theory.proofs.CarriedLaws.{last-far}
+use Rattle.cut_table.specs.Table.{Table}
+use Rattle.cut_rows.specs.Tariff.{Tariff, stretches, runsOf, farsOf, TableOf, endsF, CutDone}
 
 -- ---- what is read from the table
 
-module _ (T : Tariff) (held : List ℕ) (few : length held ≤ 128) (cost far : List Float) (pred : List ℕ) (R : TableOf T held (length held) cost far pred) where
+module _ (T : Tariff) (held : List ℕ) (few : length held ≤ 128) (t : Table) (R : TableOf T held (length held) t) where
   abbrev runs : Legs
   runs = runsOf T (stretches held)
 
   inside : length held < cells
   inside = omega arith
 
-  pub table-falls : Falls (λ j. getD pred j 0) (length held)
+  pub table-falls : Falls (λ j. getD (t .pred) j 0) (length held)
   table-falls = subst (λ (l : List ℕ). Falls (λ j. getD l j 0) (length held)) (sym (R .preds-are)) (last-falls runs (length held) inside)
 
-  pub table-cut : (at : ℕ) (es : List ℕ) → (at ≤ cells) × (length es ≡ cells) → drop at es ≡ backOf (λ j. getD pred j 0) (length held) (length held) []
-      → CutDone T held (getD cost (length held) nan) (getD far (length held) nan) at es
+  pub table-cut : (at : ℕ) (es : List ℕ) → (at ≤ cells) × (length es ≡ cells)
+      → drop at es ≡ backOf (λ j. getD (t .pred) j 0) (length held) (length held) []
+      → CutDone T held (getD (t .cost) (length held) nan) (getD (t .far) (length held) nan) at es
   table-cut at es l e =
       record {
         cost-is = ap (λ (x : List Float). getD x (length held) nan) (R .costs-are) ∙ last-cost runs (length held) inside;

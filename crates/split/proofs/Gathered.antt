@@ -1,20 +1,27 @@
--- What is gathered once for a cut: what each record asks for, and the legs along the calls. Written one by one, and read along a stretch. Assumes nothing.
-use Prim.Native.Nat.{ℕ, zero, suc, _+_, _<_, _≤_}
+-- What is gathered once for a cut: what each record asks for, and the legs along the calls. Written one by one, and read along a row. Assumes nothing.
+use Prim.Native.Nat.{ℕ, suc, _+_, _-_, _<_, _≤_}
 use native.Mathlib.Nat.{not-suc-le-zero}
 use native.Mathlib.Omega.{arith}
 use mathlib.Core.Path.{_≡_, refl, sym, ap, subst, fun-ext, _∙_}
-use mathlib.Core.Bool.{cond}
+use mathlib.Core.Bool.{true}
 use mathlib.Core.List.{List, map}
 use lib.ListN.{length, getD, set, drop, length-set, length-drop}
 use lib.Seq.{getD-set-same, getD-set-other, getD-drop}
-use lib.Dec.{eqb, ltb, eqb·suc-zero}
+use lib.Dec.{ltb}
 use borrow.Author.Tests.{ltb-true, ltb-false}
 use lib.Ieee.{Float, nan}
-use Rattle.basics.specs.Tests.{by-test}
+use Rattle.basics.proofs.TestLaws.{by-test}
+use Rattle.definitions.specs.Load.{Load, plus, carried}
+use Rattle.models.specs.declared.load.Space.{Space}
+use Rattle.models.specs.Load.{spaceOf, UpTo}
+use Rattle.cut_table.specs.Table.{Table}
+use Rattle.cut_rows.specs.Stretch.{lastOf, legTo, wayTo}
+use Rattle.cut_rows.specs.Tariff.{Tariff}
+use Rattle.cut_rows.proofs.Along.{Row, rowFrom, Along, OneMore}
+use Rattle.cut_rows.proofs.Calls.{RunIs, way-is, leg-into}
 use Rattle.models.specs.declared.customer.Customer.{Customer}
 use Rattle.models.specs.Records.{customerOf}
-use Rattle.evaluation.specs.Tables.{demandsOf, askedF, placeBefore}
-use Rattle.evaluation.proofs.Demands.{asked}
+use Rattle.evaluation.specs.Tables.{askedF, Asks, placeBefore}
 use Rattle.split.specs.Split.{lent, planBy, splitF, LegsOf}
 
 -- ---- lists written from the front
@@ -29,10 +36,10 @@ put d f l k x h e F j b =
 -- ---- what the records ask for
 
 -- the cut by what was gathered is the cut
-pub split-by : (customers : List Customer) (demands : List ℕ) (distances : List Float) (size capacity : ℕ) (fixed : Float) (tour : List ℕ) → demands ≡ demandsOf (map customerOf customers)
-    → splitF (lent customers distances size capacity fixed) tour ≡ planBy (askedF demands) distances size capacity fixed tour
+pub split-by : (customers : List Customer) (demands : List ℕ) (distances : List Float) (size : ℕ) (capacity : Space) (fixed : Float) (tour : List ℕ) → Asks (map customerOf customers) demands
+    → splitF (lent customers distances size capacity fixed) tour ≡ planBy (askedF demands) distances size (spaceOf capacity) fixed tour
 unfolding splitF
-split-by customers demands distances size capacity fixed tour e = ap (λ (d : ℕ → ℕ). planBy d distances size capacity fixed tour) (fun-ext (λ c. sym (ap (λ (l : List ℕ). askedF l c) e ∙ asked (map customerOf customers) c)))
+split-by customers demands distances size capacity fixed tour e = ap (λ (d : ℕ → Load). planBy d distances size (spaceOf capacity) fixed tour) (fun-ext (λ c. sym (e c)))
 
 -- ---- the legs along the calls
 
@@ -56,7 +63,14 @@ module _ (leg : ℕ → ℕ → Float) (calls : List ℕ) where
   pub none-laid : (ins backs : List Float) → length ins ≡ 128 → length backs ≡ 128 → Laid leg calls ins backs 0 0
   unfolding placeBefore
   none-laid ins backs li lb =
-      record { within = omega arith; ins-long = li; backs-long = lb; is-prev = refl; ins-are = λ j h. absurd (not-suc-le-zero h); backs-are = λ j h. absurd (not-suc-le-zero h) }
+      record {
+        within = omega arith;
+        ins-long = li;
+        backs-long = lb;
+        is-prev = refl;
+        ins-are = λ j h. absurd (not-suc-le-zero h);
+        backs-are = λ j h. absurd (not-suc-le-zero h);
+      }
 
   pub one-laid : (ins backs : List Float) (prev k : ℕ) (x y : Float) → k < length calls → length calls ≤ 128 → x ≡ leg prev (getD calls k 0) → y ≡ leg (getD calls k 0) 0
       → Laid leg calls ins backs prev k → Laid leg calls (set ins k x) (set backs k y) (getD calls k 0) (k + 1)
@@ -77,25 +91,47 @@ module _ (leg : ℕ → ℕ → Float) (calls : List ℕ) where
       record {
         ins-long = omega (arith, L .ins-long);
         backs-long = omega (arith, L .backs-long);
-        ins-are = λ j b. L .ins-are (suc j) (omega arith);
+        ins-are = λ j _ b. L .ins-are j (omega arith);
         backs-are = λ j b. L .backs-are j (omega arith);
       }
 
-  -- the leg into call m of a run along the calls
-  pub leg-into : (ins backs : List Float) (out : Float) (m : ℕ) → LegsOf leg calls ins backs → m < length calls → out ≡ leg 0 (getD calls 0 0)
-      → cond (eqb m 0) out (getD ins m nan) ≡ leg (placeBefore calls m) (getD calls m 0)
-  unfolding placeBefore
-  leg-into ins backs out zero L h e = e
-  leg-into ins backs out (suc m) L h e = rw (eqb·suc-zero m) (L .ins-are m h)
+-- ---- a row
 
--- the legs along the calls from i on
-pub legs-from : (leg : ℕ → ℕ → Float) (calls : List ℕ) (ins backs : List Float) (i : ℕ) (st : List ℕ) (xs ys : List Float) → st ≡ drop i calls → xs ≡ drop i ins → ys ≡ drop i backs
-    → LegsOf leg calls ins backs → LegsOf leg st xs ys
-legs-from leg calls ins backs i st xs ys es ex ey L =
-    rw (es, ex, ey)
-    record {
-      ins-long = omega (arith, length-drop i calls, length-drop i ins, L .ins-long);
-      backs-long = omega (arith, length-drop i calls, length-drop i backs, L .backs-long);
-      ins-are = λ k h. let e : i + suc k ≡ suc (i + k) = omega arith in simp (getD-drop, e) (L .ins-are (i + k) (omega (arith, length-drop i calls)));
-      backs-are = λ k h. simp getD-drop (L .backs-are (i + k) (omega (arith, length-drop i calls)));
-    }
+-- what the loop of row i keeps, where the next run is that up to call j and with it
+pub record Running (T : Tariff) (held : List ℕ) (R : Row) (new : Table) (out : Float) (load : Load) (gone : Float) (j : ℕ) : Type 0 where
+  pub out-is : out ≡ T .leg 0 (getD held (R .i) 0)
+  pub from : R .i ≤ j
+  pub within : j ≤ length held
+  pub light : UpTo 1 load
+  pub along : Along T R new load gone (placeBefore (R .st) (j - R .i)) (j - R .i)
+
+-- a call fits, and its run is offered
+module _ {T : Tariff} {held : List ℕ} {i : ℕ} {old : Table} {base ahead : Float} {new : Table} {out : Float} {load : Load} {gone : Float} {j : ℕ}
+    (A : Running T held (rowFrom (drop i held) i old base ahead) new out load gone j) (few : length held ≤ 128) (h : j < length held)
+    (ins backs : List Float) (L : LegsOf (T .leg) held ins backs) {run : List ℕ} (Q : RunIs held i j run) where
+  abbrev st : List ℕ
+  st = drop i held
+
+  pub home-is : getD backs j nan ≡ T .leg (getD st (j - i) 0) 0
+  home-is = let e : i + (j - i) ≡ j = omega (arith, A .from) in L .backs-are j h ∙ rw (getD-drop i held (j - i) 0, e) refl
+
+  leg-is : legTo run out (getD ins j nan) ≡ T .leg (placeBefore st (j - i)) (getD st (j - i) 0)
+  leg-is =
+      leg-into (T .leg) held (A .from) Q out (getD ins j nan)
+      (λ z. let e : i + (j - i) ≡ i = omega arith in A .out-is ∙ rw (getD-drop i held (j - i) 0, e) refl)
+      (λ p. L .ins-are j (omega arith) h)
+
+  pub one-more : (load' : Load) (gone' : Float) (d : Load) → d ≡ T .demand (lastOf run) → load' ≡ plus load d → carried load' (T .capacity) ≡ true
+      → gone' ≡ wayTo run out gone (getD ins j nan) → OneMore T (rowFrom st i old base ahead) load gone (placeBefore st (j - i)) (j - i) load' gone'
+  one-more load' gone' d ed es ef eg =
+      record {
+        inside = simp length-drop (omega (arith, A .from));
+        short = simp length-drop (omega (arith, A .from));
+        demand = d;
+        leg = legTo run out (getD ins j nan);
+        is-demand = ed ∙ ap (T .demand) (Q .is-last);
+        is-load = es;
+        fits = ef;
+        is-leg = leg-is;
+        is-gone = way-is Q gone' out gone (getD ins j nan) eg;
+      }

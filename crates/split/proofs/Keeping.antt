@@ -6,12 +6,13 @@ use mathlib.Core.Path.{_≡_, refl, sym, ap, _∙_}
 use mathlib.Core.Bool.{Bool, true, false, cond, not}
 use mathlib.Core.List.{List, [], _∷_, _++_, map-append, append-nil}
 use lib.ListN.{length, getD, set, length-append, length-map, length-set}
-use Rattle.basics.specs.Tests.{by-test}
-use Rattle.basics.specs.Lists.{only, count, length-count}
+use Rattle.basics.proofs.TestLaws.{by-test}
+use Rattle.basics.specs.Lists.{only, count}
+use Rattle.basics.proofs.ListLaws.{length-count}
 use Rattle.definitions.specs.Drop.{callAt, callsAt}
 use Rattle.definitions.specs.Room.{written}
 use Rattle.split.specs.Split.{keptOf}
-use Rattle.table.proofs.Writing.{written-more, count-snoc}
+use Rattle.cut_table.proofs.Writing.{written-more, count-snoc}
 
 only-snoc : {A : Type 0} (p : A → Bool) (l : List A) (x : A) → only p (l ++ (x ∷ [])) ≡ only p l ++ only p (x ∷ [])
 only-snoc p [] x = refl
@@ -95,7 +96,8 @@ module _ (carryable : ℕ → Bool) (tour served₀ dropped₀ : List ℕ) where
               es ∙ ap (λ (l : List ℕ). set l n (getD tour k 0)) (S .served-are)
               ∙ written-more (callsAt tour (keptOf carryable tour k .held)) served₀ n (getD tour k 0) (length-map (keptOf carryable tour k .held) (callAt tour) ∙ sym c) (omega (arith, few-held))
               ∙ ap (λ (l : List ℕ). written l served₀)
-              (ap (λ (x : ℕ). callsAt tour (keptOf carryable tour k .held) ++ (x ∷ [])) (sym (position carryable tour k)) ∙ sym (ap (callsAt tour) e ∙ map-append (callAt tour) (keptOf carryable tour k .held) ((1 + k) ∷ [])));
+              (ap (λ (x : ℕ). callsAt tour (keptOf carryable tour k .held) ++ (x ∷ [])) (sym (position carryable tour k))
+              ∙ sym (ap (callsAt tour) e ∙ map-append (callAt tour) (keptOf carryable tour k .held) ((1 + k) ∷ [])));
           dropped-are = ed ∙ S .dropped-are ∙ ap (λ (l : List ℕ). written l dropped₀) (sym (dropped-same carryable tour k (sym eb)));
         }
     one-keptOf served' dropped' n' false h ls ld eb en es ed =

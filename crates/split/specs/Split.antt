@@ -1,19 +1,21 @@
 -- The cut by capacity alone on floats, as the code has it: the price of a run, which calls are carryable, and the answer. Definitions only.
-use Prim.Native.Nat.{ℕ, suc, _<_, _≤_}
+use Prim.Native.Nat.{ℕ, _<_, _≤_}
 use mathlib.Core.Path.{_≡_}
 use mathlib.Core.Bool.{Bool, true, not}
 use mathlib.Core.List.{List, [], map}
 use lib.ListN.{length, getD}
 use lib.Ieee.{Float, nan}
 use Rattle.basics.specs.Lists.{only, count}
+use Rattle.definitions.specs.Load.{Load, carried}
 use Rattle.definitions.specs.Sheet.{CustomerOf}
 use Rattle.definitions.specs.Drop.{callAt, Held}
 use Rattle.distance.specs.Lookup.{lookupF}
 use Rattle.models.specs.declared.customer.Customer.{Customer}
 use Rattle.models.specs.Records.{customerOf}
-use Rattle.models.specs.Load.{fitsLoad}
-use Rattle.evaluation.specs.Tables.{demandF}
-use Rattle.stretch.specs.Tariff.{Tariff}
+use Rattle.models.specs.declared.load.Space.{Space}
+use Rattle.models.specs.Load.{spaceOf}
+use Rattle.evaluation.specs.Tables.{demandF, askedF, placeBefore}
+use Rattle.cut_rows.specs.Tariff.{Tariff}
 use Rattle.split.specs.Answer.{ResultF, planF}
 
 -- ---- what is lent
@@ -22,16 +24,16 @@ pub record Instance : Type 0 where
   pub customers : List (CustomerOf Float)
   pub distances : List Float
   pub size : ℕ
-  pub capacity : ℕ
+  pub capacity : Load
   -- the cost added for every run
   pub fixed : Float
 
-abbrev pub lent : List Customer → List Float → ℕ → ℕ → Float → Instance
+abbrev pub lent : List Customer → List Float → ℕ → Space → Float → Instance
 lent customers distances size capacity fixed =
-    record { customers = map customerOf customers; distances = distances; size = size; capacity = capacity; fixed = fixed }
+    record { customers = map customerOf customers; distances = distances; size = size; capacity = spaceOf capacity; fixed = fixed }
 
 -- runs that turn on their load alone, at no pay, by what a call asks for
-abbrev pub tariffBy : (ℕ → ℕ) → List Float → ℕ → ℕ → Float → Tariff
+abbrev pub tariffBy : (ℕ → Load) → List Float → ℕ → Load → Float → Tariff
 tariffBy demand distances size capacity fixed =
     record {
       demand = demand;
@@ -42,6 +44,10 @@ tariffBy demand distances size capacity fixed =
       pays = λ _ _. [];
     }
 
+-- by the demands that were gathered
+abbrev pub tariffAsked : List ℕ → List Float → ℕ → Space → Float → Tariff
+tariffAsked demands distances size capacity fixed = tariffBy (askedF demands) distances size (spaceOf capacity) fixed
+
 abbrev pub tariff : Instance → Tariff
 tariff I = tariffBy (demandF (I .customers)) (I .distances) (I .size) (I .capacity) (I .fixed)
 
@@ -51,14 +57,14 @@ tariff I = tariffBy (demandF (I .customers)) (I .distances) (I .size) (I .capaci
 pub record LegsOf (leg : ℕ → ℕ → Float) (calls : List ℕ) (ins backs : List Float) : Type 0 where
   pub ins-long : length calls ≤ length ins
   pub backs-long : length calls ≤ length backs
-  pub ins-are : (k : ℕ) → suc k < length calls → getD ins (suc k) nan ≡ leg (getD calls k 0) (getD calls (suc k) 0)
+  pub ins-are : (k : ℕ) → 0 < k → k < length calls → getD ins k nan ≡ leg (placeBefore calls k) (getD calls k 0)
   pub backs-are : (k : ℕ) → k < length calls → getD backs k nan ≡ leg (getD calls k 0) 0
 
 -- ---- the calls held
 
 -- a call that a vehicle carries by itself
-abbrev pub carryableF : List (CustomerOf Float) → ℕ → ℕ → Bool
-carryableF customers capacity c = fitsLoad (demandF customers c) capacity
+abbrev pub carryableF : List (CustomerOf Float) → Load → ℕ → Bool
+carryableF customers capacity c = carried (demandF customers c) capacity
 
 -- of the first k calls of the tour, the carryable ones are kept and the others are dropped
 unfoldable pub keptOf : (ℕ → Bool) → List ℕ → ℕ → Held
@@ -69,17 +75,22 @@ keptOf carryable tour k =
     }
 
 -- the same for the whole tour, by what a call asks for
-abbrev pub carryables : (ℕ → ℕ) → ℕ → List ℕ → Held
-carryables demand capacity tour = keptOf (λ c. fitsLoad (demand c) capacity) tour (length tour)
+abbrev pub carryables : (ℕ → Load) → Load → List ℕ → Held
+carryables demand capacity tour = keptOf (λ c. carried (demand c) capacity) tour (length tour)
 
-abbrev pub removalsF : List (CustomerOf Float) → ℕ → List ℕ → Held
+-- the same by the demands that were gathered
+abbrev pub carryablesAsked : List ℕ → Space → List ℕ → Held
+carryablesAsked demands capacity tour = carryables (askedF demands) (spaceOf capacity) tour
+
+abbrev pub removalsF : List (CustomerOf Float) → Load → List ℕ → Held
 removalsF customers capacity tour = carryables (demandF customers) capacity tour
 
 -- ---- the answer
 
 -- the calls that no vehicle carries are removed, and the others are cut, by what a call asks for
-abbrev pub planBy : (ℕ → ℕ) → List Float → ℕ → ℕ → Float → List ℕ → ResultF
-planBy demand distances size capacity fixed tour = planF (tariffBy demand distances size capacity fixed) tour (carryables demand capacity tour)
+abbrev pub planBy : (ℕ → Load) → List Float → ℕ → Load → Float → List ℕ → ResultF
+planBy demand distances size capacity fixed tour =
+    planF (tariffBy demand distances size capacity fixed) tour (carryables demand capacity tour)
 
 unfoldable pub splitF : Instance → List ℕ → ResultF
 splitF I tour = planBy (demandF (I .customers)) (I .distances) (I .size) (I .capacity) (I .fixed) tour

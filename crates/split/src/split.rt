@@ -1,26 +1,29 @@
-// The cut of a tour by capacity alone (ga/split.rs): row i of the table tries the runs that start at call i.
+// The cut of a tour by capacity alone (ga/split.rs): row i of the table tries the runs that start at
+// call i, `held[i..j]` for each j behind it.
 ghost use mathlib.Core.Path.{_≡_};
 ghost use mathlib.Core.Bool.{cond};
 ghost use Prim.Native.Nat.{_+_, _-_, _<_, _≤_};
 ghost use lib.ListN.{length, set};
 ghost use Rattle.definitions.specs.Drop.{callsAt};
 ghost use Rattle.definitions.specs.Room.{written};
-ghost use Rattle.stretch.specs.Tariff.{RowOf, TableOf, CutDone};
-ghost use Rattle.split.specs.Answer.{Counted};
 ghost use Rattle.distance.specs.Lookup.{lookupF};
-ghost use Rattle.evaluation.specs.Tables.{askedF};
-ghost use Rattle.split.specs.Split.{lent, tariffBy, LegsOf, carryables, splitF};
+ghost use Rattle.cut_table.specs.Table.{table, Sized};
+ghost use Rattle.cut_rows.specs.Tariff.{HeldRow, TableOf, CutDone};
+ghost use Rattle.split.specs.Answer.{Counted};
+ghost use Rattle.split.specs.Split.{lent, tariffAsked, LegsOf, carryablesAsked, splitF};
+use cut_rows::way::last_call;
+use cut_rows::way::way_to;
+use cut_table::cells::offer;
+use cut_table::cells::read_back;
+use cut_table::held::write_front;
 use distance::matrix::get;
+use evaluation::load::Demands;
+use evaluation::load::demand_at;
 use evaluation::load::demands_of;
 use evaluation::route::call_at;
-use evaluation::schedule::record_index;
 use models::customer::Customer;
-use models::load::fits;
-use models::load::wide;
-use stretch::way::way_to;
-use table::cells::offer;
-use table::cells::read_back;
-use table::held::write_front;
+use models::load::Load;
+use models::load::Space;
 use whole::infinity;
 
 // The legs along the calls: into each from the one before it, and from each to the depot.
@@ -32,7 +35,9 @@ fn write_legs(
     backs: &mut [f64; 128],
 )
     requires { ⌜ (length (now held) ≤ 128) × (length (now ins) ≡ 128) × (length (now backs) ≡ 128) ⌝ }
-    ensures { λ _. ⌜ LegsOf (lookupF (now (distances .entry)) size) (now (held .entry)) (now (ins .exit)) (now (backs .exit)) ⌝ }
+    ensures { λ _.
+        let leg = lookupF (now (distances .entry)) size in
+        ⌜ LegsOf leg (now (held .entry)) (now (ins .exit)) (now (backs .exit)) ⌝ }
     ensures { λ _. ⌜ (length (now (ins .exit)) ≡ 128) × (length (now (backs .exit)) ≡ 128) ⌝ }
 {
     let mut prev = 0;
@@ -46,47 +51,53 @@ fn write_legs(
     }
 }
 
-// Row i: the runs along the stretch that starts at call i, each after the best of the calls before it. Where these cannot be cut there is nothing to do.
+// Row i: each run that starts at call i, after the best of the calls before it. Where these cannot be
+// cut there is nothing to do.
 pub fn row(
     cost: &mut [f64; 129],
     dist: &mut [f64; 129],
     pred: &mut [usize; 129],
-    stretch: &[usize],
-    demands: &[u32],
+    held: &[usize],
+    demands: &Demands,
     ins: &[f64],
     backs: &[f64],
     distances: &[f64],
     size: usize,
-    capacity: u32,
+    capacity: Space,
     fixed: f64,
     i: usize,
 )
-    requires { ⌜ (length (now cost) ≡ 129) × (length (now dist) ≡ 129) × (length (now pred) ≡ 129) ⌝ }
-    requires { ⌜ (i + length (now stretch) ≤ 128) × (length (now demands) ≡ 64) ⌝ }
-    requires { ⌜ LegsOf (lookupF (now distances) size) (now stretch) (now ins) (now backs) ⌝ }
-    ensures { λ _. ⌜ RowOf (tariffBy (askedF (now (demands .entry))) (now (distances .entry)) size capacity fixed) (now (stretch .entry)) i (now (cost .entry)) (now (dist .entry)) (now (pred .entry)) (now (cost .exit)) (now (dist .exit)) (now (pred .exit)) ⌝ }
+    requires { ⌜ Sized (table (now cost) (now dist) (now pred)) ⌝ }
+    requires { ⌜ (i ≤ length (now held)) × (length (now held) ≤ 128) ⌝ }
+    requires { ⌜ LegsOf (lookupF (now distances) size) (now held) (now ins) (now backs) ⌝ }
+    ensures { λ _.
+        let T = tariffAsked (now (demands .entry)) (now (distances .entry)) size capacity fixed in
+        let old = table (now (cost .entry)) (now (dist .entry)) (now (pred .entry)) in
+        let new = table (now (cost .exit)) (now (dist .exit)) (now (pred .exit)) in
+        ⌜ HeldRow T (now (held .entry)) i old new ⌝ }
 {
     if cost[i] == infinity() {
         return;
     }
     let base = cost[i] + fixed;
     let before = dist[i];
-    let out = get(distances, size, 0, call_at(stretch, 0));
-    let mut load: u64 = 0;
+    let out = get(distances, size, 0, call_at(held, i));
+    let mut load = Load::none();
     let mut gone = 0.0;
-    let mut m = 0;
-    while m < stretch.len() {
-        let index = record_index(stretch[m]);
-        load += wide(demands[index]);
-        if !fits(load, capacity) {
+    let mut j = i;
+    while j < held.len() {
+        let last = j;
+        j += 1;
+        let run = &held[i..j];
+        load = load.plus(demand_at(demands, last_call(run)));
+        if !load.fits(capacity) {
             return;
         }
-        gone = way_to(ins, out, gone, m);
-        let total = gone + backs[m];
-        m += 1;
+        gone = way_to(run, out, gone, ins[last]);
+        let total = gone + backs[last];
         let new = base + total;
         let far = before + total;
-        offer(&mut *cost, &mut *dist, &mut *pred, i + m, i, new, far);
+        offer(&mut *cost, &mut *dist, &mut *pred, j, i, new, far);
     }
 }
 
@@ -96,15 +107,19 @@ pub fn rows(
     dist: &mut [f64; 129],
     pred: &mut [usize; 129],
     held: &[usize],
-    demands: &[u32],
+    demands: &Demands,
     distances: &[f64],
     size: usize,
-    capacity: u32,
+    capacity: Space,
     fixed: f64,
 )
-    requires { ⌜ (length (now held) ≤ 128) × (length (now demands) ≡ 64) ⌝ }
-    requires { ⌜ TableOf (tariffBy (askedF (now demands)) (now distances) size capacity fixed) (now held) 0 (now cost) (now dist) (now pred) ⌝ }
-    ensures { λ _. ⌜ TableOf (tariffBy (askedF (now (demands .entry))) (now (distances .entry)) size capacity fixed) (now (held .entry)) (length (now (held .entry))) (now (cost .exit)) (now (dist .exit)) (now (pred .exit)) ⌝ }
+    requires { ⌜ length (now held) ≤ 128 ⌝ }
+    requires { let T = tariffAsked (now demands) (now distances) size capacity fixed in
+        ⌜ TableOf T (now held) 0 (table (now cost) (now dist) (now pred)) ⌝ }
+    ensures { λ _.
+        let T = tariffAsked (now (demands .entry)) (now (distances .entry)) size capacity fixed in
+        let new = table (now (cost .exit)) (now (dist .exit)) (now (pred .exit)) in
+        ⌜ TableOf T (now (held .entry)) (length (now (held .entry))) new ⌝ }
 {
     let mut ins = [0.0; 128];
     let mut backs = [0.0; 128];
@@ -115,10 +130,10 @@ pub fn rows(
             &mut *cost,
             &mut *dist,
             &mut *pred,
-            &held[i..],
+            held,
             demands,
-            &ins[i..],
-            &backs[i..],
+            &ins,
+            &backs,
             distances,
             size,
             capacity,
@@ -140,15 +155,17 @@ pub struct Cutting {
 // The calls held, cut at least cost. The ends of the runs stand at the end of `ends`, from `at` on.
 pub fn cut(
     held: &[usize],
-    demands: &[u32],
+    demands: &Demands,
     distances: &[f64],
     size: usize,
-    capacity: u32,
+    capacity: Space,
     fixed: f64,
     ends: &mut [usize; 129],
 ) -> Cutting
-    requires { ⌜ (length (now held) ≤ 128) × (length (now demands) ≡ 64) × (length (now ends) ≡ 129) ⌝ }
-    ensures { λ r. ⌜ CutDone (tariffBy (askedF (now (demands .entry))) (now (distances .entry)) size capacity fixed) (now (held .entry)) (r .cost) (r .distance) (r .at) (now (ends .exit)) ⌝ }
+    requires { ⌜ (length (now held) ≤ 128) × (length (now ends) ≡ 129) ⌝ }
+    ensures { λ r.
+        let T = tariffAsked (now (demands .entry)) (now (distances .entry)) size capacity fixed in
+        ⌜ CutDone T (now (held .entry)) (r .cost) (r .distance) (r .at) (now (ends .exit)) ⌝ }
 {
     let n = held.len();
     let top = infinity();
@@ -177,7 +194,8 @@ pub fn cut(
     }
 }
 
-// A carryable call is put after the n that are kept, and the position of another, which is k + 1, after those that are dropped. Gives the number kept.
+// A carryable call is put after the n that are kept, and the position of another, which is k + 1, after
+// those that are dropped. Gives the number kept.
 pub fn keep_or_drop(
     served: &mut [usize],
     dropped: &mut [usize],
@@ -189,7 +207,9 @@ pub fn keep_or_drop(
     requires { ⌜ (n ≤ k) × (k < length (now served)) × (k < length (now dropped)) ⌝ }
     ensures { λ r. ⌜ r ≡ cond carryable (n + 1) n ⌝ }
     ensures { λ _. ⌜ now (served .exit) ≡ cond carryable (set (now (served .entry)) n cid) (now (served .entry)) ⌝ }
-    ensures { λ _. ⌜ now (dropped .exit) ≡ cond carryable (now (dropped .entry)) (set (now (dropped .entry)) (k - n) (k + 1)) ⌝ }
+    ensures { λ _.
+        let old = now (dropped .entry) in
+        ⌜ now (dropped .exit) ≡ cond carryable old (set old (k - n) (k + 1)) ⌝ }
 {
     if carryable {
         served[n] = cid;
@@ -203,22 +223,28 @@ pub fn keep_or_drop(
 // Calls whose demand exceeds capacity are dropped, and the others are kept. Gives the number kept.
 pub fn keep_carryable(
     tour: &[usize],
-    demands: &[u32],
-    capacity: u32,
+    demands: &Demands,
+    capacity: Space,
     served: &mut [usize],
     dropped: &mut [usize],
 ) -> usize
-    requires { ⌜ (length (now demands) ≡ 64) × (length (now tour) ≤ length (now served)) × (length (now tour) ≤ length (now dropped)) ⌝ }
-    ensures { λ r. ⌜ r ≡ length (carryables (askedF (now (demands .entry))) capacity (now (tour .entry)) .held) ⌝ }
-    ensures { λ _. ⌜ now (served .exit) ≡ written (callsAt (now (tour .entry)) (carryables (askedF (now (demands .entry))) capacity (now (tour .entry)) .held)) (now (served .entry)) ⌝ }
-    ensures { λ _. ⌜ now (dropped .exit) ≡ written (carryables (askedF (now (demands .entry))) capacity (now (tour .entry)) .dropped) (now (dropped .entry)) ⌝ }
+    requires { ⌜ (length (now tour) ≤ length (now served)) × (length (now tour) ≤ length (now dropped)) ⌝ }
+    ensures { λ r.
+        let kept = carryablesAsked (now (demands .entry)) capacity (now (tour .entry)) in
+        ⌜ r ≡ length (kept .held) ⌝ }
+    ensures { λ _.
+        let kept = carryablesAsked (now (demands .entry)) capacity (now (tour .entry)) in
+        ⌜ now (served .exit) ≡ written (callsAt (now (tour .entry)) (kept .held)) (now (served .entry)) ⌝ }
+    ensures { λ _.
+        let kept = carryablesAsked (now (demands .entry)) capacity (now (tour .entry)) in
+        ⌜ now (dropped .exit) ≡ written (kept .dropped) (now (dropped .entry)) ⌝ }
 {
     let mut n = 0;
     let mut k = 0;
     while k < tour.len() {
         let cid = tour[k];
-        let index = record_index(cid);
-        let carryable = fits(wide(demands[index]), capacity);
+        let demand = demand_at(demands, cid);
+        let carryable = demand.fits(capacity);
         n = keep_or_drop(&mut *served, &mut *dropped, n, k, cid, carryable);
         k += 1;
     }
@@ -234,24 +260,35 @@ pub struct SplitResult {
     pub distance: f64,
 }
 
-// Calls that fit no vehicle are dropped, and the others are cut at least cost. The served customers, the run ends and the dropped positions are written at the front of the lent lists.
+// Calls that fit no vehicle are dropped, and the others are cut at least cost. The served customers, the
+// run ends and the dropped positions are written at the front of the lent lists.
 pub fn split(
     tour: &[usize],
     customers: [Customer; 64],
     distances: &[f64],
     size: usize,
-    capacity: u32,
+    capacity: Space,
     fixed: f64,
     served: &mut [usize],
     run_ends: &mut [usize],
     dropped: &mut [usize],
 ) -> SplitResult
     requires { ⌜ length (now tour) ≤ 128 ⌝ }
-    requires { ⌜ (length (now tour) ≤ length (now served)) × (length (now tour) ≤ length (now «run_ends»)) × (length (now tour) ≤ length (now dropped)) ⌝ }
-    ensures { λ r. ⌜ Counted (splitF (lent customers (now (distances .entry)) size capacity fixed) (now (tour .entry))) (r .served) (r .runs) (r .dropped) (r .cost) (r .distance) ⌝ }
-    ensures { λ _. ⌜ now (served .exit) ≡ written (splitF (lent customers (now (distances .entry)) size capacity fixed) (now (tour .entry)) .served) (now (served .entry)) ⌝ }
-    ensures { λ _. ⌜ now («run_ends» .exit) ≡ written (splitF (lent customers (now (distances .entry)) size capacity fixed) (now (tour .entry)) .ends) (now («run_ends» .entry)) ⌝ }
-    ensures { λ _. ⌜ now (dropped .exit) ≡ written (splitF (lent customers (now (distances .entry)) size capacity fixed) (now (tour .entry)) .dropped) (now (dropped .entry)) ⌝ }
+    requires { ⌜ (length (now tour) ≤ length (now served))
+        × (length (now tour) ≤ length (now «run_ends»))
+        × (length (now tour) ≤ length (now dropped)) ⌝ }
+    ensures { λ r.
+        let plan = splitF (lent customers (now (distances .entry)) size capacity fixed) (now (tour .entry)) in
+        ⌜ Counted plan (r .served) (r .runs) (r .dropped) (r .cost) (r .distance) ⌝ }
+    ensures { λ _.
+        let plan = splitF (lent customers (now (distances .entry)) size capacity fixed) (now (tour .entry)) in
+        ⌜ now (served .exit) ≡ written (plan .served) (now (served .entry)) ⌝ }
+    ensures { λ _.
+        let plan = splitF (lent customers (now (distances .entry)) size capacity fixed) (now (tour .entry)) in
+        ⌜ now («run_ends» .exit) ≡ written (plan .ends) (now («run_ends» .entry)) ⌝ }
+    ensures { λ _.
+        let plan = splitF (lent customers (now (distances .entry)) size capacity fixed) (now (tour .entry)) in
+        ⌜ now (dropped .exit) ≡ written (plan .dropped) (now (dropped .entry)) ⌝ }
 {
     let demands = demands_of(customers);
     let n = keep_carryable(tour, &demands, capacity, &mut *served, &mut *dropped);
@@ -267,10 +304,12 @@ pub fn split(
     );
     let at = c.at;
     write_front(&ends[at..], &mut *run_ends);
+    let runs = 129 - at;
+    let gone = tour.len() - n;
     SplitResult {
         served: n,
-        runs: 129 - at,
-        dropped: tour.len() - n,
+        runs,
+        dropped: gone,
         cost: c.cost,
         distance: c.distance,
     }

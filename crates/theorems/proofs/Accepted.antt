@@ -10,15 +10,17 @@ use lib.ListN.{length, length-map}
 use lib.Seq.{take-all, length-take-le}
 use lib.Dec.{eqb, ltb}
 use borrow.Author.Tests.{ltb-false, le-ltb}
-use Rattle.basics.specs.Tests.{or-left, or-right, or-false, not-false, not-of-true}
+use Rattle.basics.proofs.TestLaws.{or-left, or-right, or-false, not-false, not-of-true}
 use Rattle.basics.specs.Options.{holds, present, valueOr}
-use Rattle.basics.specs.Lists.{isEmpty, any, all-imp, all-map, any-fails, fails-any}
+use Rattle.basics.specs.Lists.{isEmpty, any}
+use Rattle.basics.proofs.ListLaws.{all-imp, all-map, any-fails, fails-any}
 use Rattle.definitions.specs.Domain.{isPenalty, isNumber}
 use Rattle.definitions.specs.Sheet.{WindowOf, BreakOf, CustomerOf, SheetOf, Customer, records, soft, anySoft, latenessPay, mapWindow, mapBreak, mapCustomer}
 use Rattle.definitions.specs.Room.{short}
 use Rattle.definitions.specs.Lent.{Lent, whole, wholeSheet, Call}
-use Rattle.definitions.specs.Refusals.{tooShort, Within, WithinCalls, tablesOdd, unfit, badOptional, badBreak, badWindow, badCustomer, badDepot, badSheet, windowFalls, breakFalls, pairsFall, refusalOf}
-use Rattle.theorems.proofs.Ranges.{LongEnough, long-enough, RunsEven, runs-even, even-runs, break-in-range, range-break, window-in-range, range-window, customer-in-range, range-customer, depot-in-range, range-depot, InRange, in-range, range-in, LentInRange, lent-in-range, range-lent, PairsRise, pairs-rise, rise-pairs, NotRefused, not-refused, none-refused}
+use Rattle.definitions.specs.Refusals.{tooShort, Within, WithinCalls, tablesOdd, unfit, badOptional, badBreak, badWindow, badCustomer, badDepot, badSheet, windowFalls, breakFalls, pairsFall, refusals, refusalOf}
+use Rattle.theorems.proofs.Ranges.{LongEnough, long-enough, RunsEven, runs-even, even-runs, break-in-range, range-break, window-in-range, range-window, customer-in-range, range-customer, depot-in-range, range-depot, InRange, in-range, range-in, LentInRange, lent-in-range, range-lent, PairsRise, pairs-rise, rise-pairs, fitsBy, not-refused}
+use Rattle.theorems.proofs.InOrder.{fits-none, _also_}
 
 -- ---- lists long enough
 
@@ -129,14 +131,14 @@ module _ {F : Type 0} (value : F → Option ℕ) where
 
   -- ---- a lent sheet
 
-  module _ (s : SheetOf F) (l : s .places ≤ length (s .customers)) where
-    counted : length (wholeSheet value s .customers) ≡ s .places
+  module _ (s : SheetOf F) (l : s .head .places ≤ length (s .customers)) where
+    counted : length (wholeSheet value s .customers) ≡ s .head .places
     unfolding wholeSheet
-    counted = length-map (records s) (mapCustomer (whole value)) ∙ length-take-le (s .places) (s .customers) l
+    counted = length-map (records s) (mapCustomer (whole value)) ∙ length-take-le (s .head .places) (s .customers) l
 
     all-records : records (wholeSheet value s) ≡ map (mapCustomer (whole value)) (records s)
     unfolding wholeSheet
-    all-records = take-all (s .places) (map (mapCustomer (whole value)) (records s)) (omega (arith, counted))
+    all-records = take-all (s .head .places) (map (mapCustomer (whole value)) (records s)) (omega (arith, counted))
 
     whole-in-range : InRange value s → InRange some (wholeSheet value s)
     unfolding wholeSheet
@@ -144,22 +146,24 @@ module _ {F : Type 0} (value : F → Option ℕ) where
         record {
           places = R .places;
           capacity = R .capacity;
-          fixed = fit isNumber (s .fixed) (R .fixed);
-          maxDistance = fit-limit isNumber (s .maxDistance) (R .maxDistance);
-          maxDuration = fit-limit isNumber (s .maxDuration) (R .maxDuration);
-          rest = fit-break (s .rest) (R .rest);
+          fixed = fit isNumber (s .head .fixed) (R .fixed);
+          maxDistance = fit-limit isNumber (s .head .maxDistance) (R .maxDistance);
+          maxDuration = fit-limit isNumber (s .head .maxDuration) (R .maxDuration);
+          rest = fit-break (s .head .rest) (R .rest);
           depot = rw all-records (fit-depot (records s) (R .depot));
           customers = rw all-records (any-imp (mapCustomer (whole value)) (badCustomer value) (badCustomer some) fit-customer (records s) (R .customers));
-          distances = any-imp (whole value) (unfit value isNumber) (unfit some isNumber) (fit isNumber) (s .distances) (R .distances);
-          times = any-imp (whole value) (unfit value isNumber) (unfit some isNumber) (fit isNumber) (s .times) (R .times);
+          distances = any-imp (whole value) (unfit value isNumber) (unfit some isNumber) (fit isNumber) (s .legs .distances) (R .distances);
+          times = any-imp (whole value) (unfit value isNumber) (unfit some isNumber) (fit isNumber) (s .legs .times) (R .times);
         }
 
     whole-rises : PairsRise value s → PairsRise some (wholeSheet value s)
     unfolding wholeSheet
     whole-rises P =
         record {
-          rest = break-same (s .rest) ∙ P .rest;
-          windows = rw all-records (any-same (mapCustomer (whole value)) (λ (c : CustomerOf F). windowFalls value (c .window)) (λ (c : Customer). windowFalls some (c .window)) (λ c. window-same (c .window)) (records s) ∙ P .windows);
+          rest = break-same (s .head .rest) ∙ P .rest;
+          windows =
+              rw all-records (any-same (mapCustomer (whole value)) (λ (c : CustomerOf F). windowFalls value (c .window)) (λ (c : Customer). windowFalls some (c .window)) (λ c. window-same (c .window))
+              (records s) ∙ P .windows);
         }
 
     -- one that is neither short, odd, out of range nor falling means one within the limits
@@ -168,7 +172,7 @@ module _ {F : Type 0} (value : F → Option ℕ) where
     whole-within t r p =
         record {
           counted = counted;
-          tables = rw (length-map (s .distances) (whole value), length-map (s .times) (whole value), empty-same (whole value) (s .times)) t;
+          tables = rw (length-map (s .legs .distances) (whole value), length-map (s .legs .times) (whole value), empty-same (whole value) (s .legs .times)) t;
           ranged = range-in some (wholeSheet value s) (whole-in-range (in-range value s r));
           paired = rise-pairs some (wholeSheet value s) (whole-rises (pairs-rise value s p));
         }
@@ -182,7 +186,7 @@ module _ {F : Type 0} (value : F → Option ℕ) where
 
   pub record Accepted (k : Call) (l : Lent F) : Type 0 where
     -- 13
-    pub customers : l .sheet .places ≤ length (l .sheet .customers)
+    pub customers : l .sheet .head .places ≤ length (l .sheet .customers)
     pub results : AtLeast (k .needs (length (l .tour)) (length (l .calls)) (length (l .ends))) (l .rooms)
     pub breaks : k .marks ≡ true → length (l .ends) ≤ length (l .breaks)
     -- 14, 1 and 2
@@ -196,31 +200,32 @@ module _ {F : Type 0} (value : F → Option ℕ) where
     pub unpaid : k .improves ≡ true → latenessPay (wholeSheet value (l .sheet)) ≡ false
 
   pub accepted-within : (k : Call) (l : Lent F) → refusalOf value k l ≡ none → Accepted k l
-  unfolding wholeSheet
+  unfolding wholeSheet refusals
   accepted-within k l h =
       record {
         customers = enough;
         results = at-least (k .needs (length (l .tour)) (length (l .calls)) (length (l .ends))) (l .rooms) (L .results);
         breaks = λ m. ltb-false (length (l .breaks)) (length (l .ends)) (rw m at (L .breaks));
         ranged = in-range value (l .sheet) (R .sheet);
-        within = whole-within (l .sheet) enough (N .tables-14) (R .sheet) (N .pairs-2);
+        within = whole-within (l .sheet) enough (N 14) (R .sheet) (N 2);
         tour = R .tour;
         calls = R .run-list;
-        runs = runs-even k l (N .runs-5);
-        unpaid = λ m. pay-same (l .sheet) ∙ (rw m at (N .pay-4));
+        runs = runs-even k l (N 5);
+        unpaid = λ m. pay-same (l .sheet) ∙ (rw m at (N 4));
       }
     where
-      N : NotRefused value k l
+      -- each by its number
+      N : (n : ℕ) → fitsBy value n k l ≡ false
       N = not-refused value k l h
 
       L : LongEnough k l
-      L = long-enough k l (N .long-13)
+      L = long-enough k l (N 13)
 
       R : LentInRange value l
-      R = lent-in-range value l (N .range-1)
+      R = lent-in-range value l (N 1)
 
-      enough : l .sheet .places ≤ length (l .sheet .customers)
-      enough = ltb-false (length (l .sheet .customers)) (l .sheet .places) (L .customers)
+      enough : l .sheet .head .places ≤ length (l .sheet .customers)
+      enough = ltb-false (length (l .sheet .customers)) (l .sheet .head .places) (L .customers)
 
   -- ---- and a call that keeps all this is accepted
 
@@ -228,14 +233,14 @@ module _ {F : Type 0} (value : F → Option ℕ) where
     not-short : tooShort k l ≡ false
     not-short =
         rw (
-          le-ltb (length (l .sheet .customers)) (l .sheet .places) (A .customers),
+          le-ltb (length (l .sheet .customers)) (l .sheet .head .places) (A .customers),
           none-short (k .needs (length (l .tour)) (length (l .calls)) (length (l .ends))) (l .rooms) (A .results),
           only-where (k .marks) (ltb (length (l .breaks)) (length (l .ends))) (λ m. le-ltb (length (l .breaks)) (length (l .ends)) (A .breaks m)),
         )
 
     not-odd : tablesOdd (l .sheet) ≡ false
     unfolding wholeSheet
-    not-odd = rw (length-map (l .sheet .distances) (whole value), length-map (l .sheet .times) (whole value), empty-same (whole value) (l .sheet .times)) at (A .within .tables)
+    not-odd = rw (length-map (l .sheet .legs .distances) (whole value), length-map (l .sheet .legs .times) (whole value), empty-same (whole value) (l .sheet .legs .times)) at (A .within .tables)
 
     not-falling : pairsFall value (l .sheet) ≡ false
     unfolding wholeSheet
@@ -243,24 +248,24 @@ module _ {F : Type 0} (value : F → Option ℕ) where
         let P = pairs-rise some (wholeSheet value (l .sheet)) (A .within .paired) in
         rise-pairs value (l .sheet)
         (record {
-          rest = sym (break-same (l .sheet .rest)) ∙ P .rest;
+          rest = sym (break-same (l .sheet .head .rest)) ∙ P .rest;
           windows =
-              sym (any-same (mapCustomer (whole value)) (λ (c : CustomerOf F). windowFalls value (c .window)) (λ (c : Customer). windowFalls some (c .window)) (λ c. window-same (c .window)) (records (l .sheet)))
+              sym (any-same (mapCustomer (whole value)) (λ (c : CustomerOf F). windowFalls value (c .window)) (λ (c : Customer). windowFalls some (c .window)) (λ c. window-same (c .window))
+              (records (l .sheet)))
               ∙ (rw (all-records (l .sheet) (A .customers)) at (P .windows));
         })
 
     pub accepted-none : refusalOf value k l ≡ none
-    unfolding wholeSheet
+    unfolding wholeSheet refusalOf refusals
     accepted-none =
-        none-refused value k l
-        (record {
-          long-13 = not-short;
-          tables-14 = not-odd;
-          range-1 = range-lent value l (record { sheet = range-in value (l .sheet) (A .ranged); tour = A .tour; run-list = A .calls });
-          pairs-2 = not-falling;
-          runs-5 = even-runs k l (A .runs);
-          pay-4 = only-where (k .improves) (anySoft (records (l .sheet))) (λ m. sym (pay-same (l .sheet)) ∙ A .unpaid m);
-        })
+        fits-none (refusals value k l)
+        (not-short
+        also not-odd
+        also range-lent value l (record { sheet = range-in value (l .sheet) (A .ranged); tour = A .tour; run-list = A .calls })
+        also not-falling
+        also even-runs k l (A .runs)
+        also only-where (k .improves) (anySoft (records (l .sheet))) (λ m. sym (pay-same (l .sheet)) ∙ A .unpaid m)
+        also tt)
 
   -- accepted is all else
   pub accepted-exactly : (k : Call) (l : Lent F) → (refusalOf value k l ≡ none) ↔ Accepted k l

@@ -8,15 +8,17 @@ use mathlib.Core.List.{List, [], _∷_, _++_, map, append-nil, append-assoc}
 use mathlib.Core.Option.{Option, none}
 use lib.ListN.{length, take, getD, length-append, length-map}
 use lib.Dec.{ltb}
-use borrow.Author.Tests.{leb-true, le-leb, ltb-true, ltb-false}
-use Rattle.basics.specs.Tests.{by-test, not-both, both, and-true}
-use Rattle.basics.specs.Options.{_>>=_, given, granted}
+use borrow.Author.Tests.{ltb-true, ltb-false}
+use Rattle.basics.proofs.TestLaws.{by-test, not-both, both, and-true}
+use Rattle.basics.specs.Options.{_>>=_, given}
+use Rattle.basics.proofs.OptionLaws.{granted}
 use Rattle.basics.specs.Lists.{isEmpty, all, only, count}
-use Rattle.definitions.specs.Sheet.{Sheet}
+use Rattle.definitions.specs.Sheet.{Sheet, customer}
 use Rattle.definitions.specs.Run.{Label, start, distanceFrom, Totals, home, load, fits, allowed, price}
 use Rattle.definitions.specs.Clock.{Arc, arc}
 use Rattle.definitions.specs.Drop.{callAt, callsAt, Held, drops, result, cutOf, splitTw, light, removals, plainArc, split, dropAt}
 use Rattle.definitions.specs.Promise.{Settles, stop, goes}
+use Rattle.definitions.proofs.LoadLaws.{fits-first, fits-rest}
 use Rattle.theorems.proofs.Dropping.{settles, without-at}
 use Rattle.theorems.proofs.Least.{Reach, more}
 use Rattle.theorems.proofs.Plain.{Plain, Clean, plain-clock}
@@ -58,9 +60,10 @@ module _ (s : Sheet) where
   append-light (x ∷ u) v p = let b = both (lightCall x) _ p in let r = append-light u v (b .1) in (and-true _ _ (b .0) (r .0), r .1)
 
   -- a run that fits has light calls
-  fits-light : (calls : List ℕ) → load s calls ≤ s .capacity → Light calls
+  fits-light : (calls : List ℕ) → fits s calls ≡ true → Light calls
   fits-light [] h = refl
-  fits-light (x ∷ calls) h = and-true _ _ (le-leb (load s (x ∷ [])) (s .capacity) (omega arith)) (fits-light calls (omega arith))
+  fits-light (x ∷ calls) h =
+      and-true _ _ (fits-first (λ c. customer s c .demand) (s .head .capacity) x calls h) (fits-light calls (fits-rest (λ c. customer s c .demand) (s .head .capacity) x calls h))
 
   reach-light : {calls : List ℕ} {n : ℕ} → Reach (plainArc s) calls n → Light calls
   unfolding plainArc
@@ -68,7 +71,7 @@ module _ (s : Sheet) where
   reach-light (more before since m a R q e z) =
       let g = granted (not (isEmpty since) && fits s since) _ a q in
       let b = both (not (isEmpty since)) _ (g .0) in
-      subst Light e (light-append before since (reach-light R) (fits-light since (leb-true (load s since) (s .capacity) (b .1))))
+      subst Light e (light-append before since (reach-light R) (fits-light since (b .1)))
 
   light-reach : (before : List ℕ) (m : ℕ) → Reach (plainArc s) before m → (calls : List ℕ) → Light calls → Cuttable (plainArc s) (before ++ calls)
   unfolding plainArc
@@ -130,8 +133,10 @@ module _ (s : Sheet) (tour : List ℕ) where
       stays : light s tour x ≡ true
           → Settles Has tour (at (pre ++ (x ∷ []) ++ post) dropped) (at (pre ++ (x ∷ []) ++ only (light s tour) post) (dropped ++ only (λ p. not (light s tour p)) post)) → End
       stays t r =
-          rw t (subst (λ (h : List ℕ). Settles Has tour (at (pre ++ (x ∷ post)) dropped) (at h (dropped ++ only (λ p. not (light s tour p)) post))) (append-assoc pre (x ∷ []) (only (light s tour) post))
-          (subst (λ (h : List ℕ). Settles Has tour (at h dropped) (at (pre ++ (x ∷ []) ++ only (light s tour) post) (dropped ++ only (λ p. not (light s tour p)) post))) (append-assoc pre (x ∷ []) post) r))
+          rw t (subst (λ (h : List ℕ). Settles Has tour (at (pre ++ (x ∷ post)) dropped) (at h (dropped ++ only (λ p. not (light s tour p)) post)))
+          (append-assoc pre (x ∷ []) (only (light s tour) post))
+          (subst (λ (h : List ℕ). Settles Has tour (at h dropped) (at (pre ++ (x ∷ []) ++ only (light s tour) post) (dropped ++ only (λ p. not (light s tour p)) post)))
+          (append-assoc pre (x ∷ []) post) r))
 
       long : length (callsAt tour pre) ≡ length pre
       long = length-map pre (callAt tour)
@@ -161,9 +166,12 @@ module _ (s : Sheet) (tour : List ℕ) where
           → Settles Has tour (at (pre ++ post) (dropped ++ (x ∷ []))) (at (pre ++ only (light s tour) post) (dropped ++ (x ∷ []) ++ only (λ p. not (light s tour p)) post)) → End
       leaves f r =
           rw f (goes (length pre) here (heavy f) before
-          (subst (λ (d : List ℕ). Settles Has tour (dropAt (length pre) (at (pre ++ (x ∷ post)) dropped)) (at (pre ++ only (light s tour) post) d)) (append-assoc dropped (x ∷ []) (only (λ p. not (light s tour p)) post))
-          (subst (λ (h : List ℕ). Settles Has tour (at h (dropped ++ (getD (pre ++ (x ∷ post)) (length pre) 0 ∷ []))) (at (pre ++ only (light s tour) post) (dropped ++ (x ∷ []) ++ only (λ p. not (light s tour p)) post))) (sym (without-at pre x post))
-          (subst (λ (y : ℕ). Settles Has tour (at (pre ++ post) (dropped ++ (y ∷ []))) (at (pre ++ only (light s tour) post) (dropped ++ (x ∷ []) ++ only (λ p. not (light s tour p)) post))) (sym (lib.Seq.getD-append-seam pre x post 0)) r))))
+          (subst (λ (d : List ℕ). Settles Has tour (dropAt (length pre) (at (pre ++ (x ∷ post)) dropped)) (at (pre ++ only (light s tour) post) d))
+          (append-assoc dropped (x ∷ []) (only (λ p. not (light s tour p)) post))
+          (subst (λ (h : List ℕ). Settles Has tour (at h (dropped ++ (getD (pre ++ (x ∷ post)) (length pre) 0 ∷ [])))
+          (at (pre ++ only (light s tour) post) (dropped ++ (x ∷ []) ++ only (λ p. not (light s tour p)) post))) (sym (without-at pre x post))
+          (subst (λ (y : ℕ). Settles Has tour (at (pre ++ post) (dropped ++ (y ∷ []))) (at (pre ++ only (light s tour) post) (dropped ++ (x ∷ []) ++ only (λ p. not (light s tour p)) post)))
+          (sym (lib.Seq.getD-append-seam pre x post 0)) r))))
 
 -- the drops lead to one end only
 pub settles-one : (Has : List ℕ → Type 0) (tour : List ℕ) {h g g' : Held} → Settles Has tour h g → Settles Has tour h g' → g ≡ g'

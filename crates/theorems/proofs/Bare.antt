@@ -5,14 +5,15 @@ use mathlib.Core.Bool.{Bool, false, not, _&&_}
 use mathlib.Core.List.{List, [], _∷_, map}
 use mathlib.Core.Option.{Option}
 use lib.ListN.{length, getD}
-use lib.Dec.{leb}
 use Rattle.basics.specs.Options.{present, given}
 use Rattle.basics.specs.Lists.{any, only, count, isEmpty}
-use Rattle.definitions.specs.Sheet.{Customer, Sheet, depot}
+use Rattle.definitions.specs.Load.{Load, carried}
+use Rattle.definitions.specs.Sheet.{Customer, Sheet, depot, customer}
 use Rattle.definitions.specs.Run.{distanceFrom, load, fits, price}
 use Rattle.definitions.specs.Clock.{Arc}
 use Rattle.definitions.specs.Drop.{callAt, Held, Result, result, light, removals, plainArc, cutOf, split}
 use Rattle.definitions.specs.Clauses.{Clauses, bare, bareCustomer}
+use Rattle.definitions.proofs.LoadLaws.{load-by}
 use Rattle.theorems.proofs.Plain.{Plain}
 use Rattle.theorems.proofs.Agreement.{split-same}
 use Rattle.theorems.proofs.Sentences.{split-tw-kept}
@@ -33,12 +34,11 @@ module _ (s : Sheet) where
 
   same-load : (calls : List ℕ) → load (bare s) calls ≡ load s calls
   unfolding bare
-  same-load [] = refl
-  same-load (c ∷ cs) = ap₂ (λ (x y : ℕ). x + y) (same-demand (s .customers) c) (same-load cs)
+  same-load calls = load-by (λ c. customer (bare s) c .demand) (λ c. customer s c .demand) calls (same-demand (s .customers))
 
   same-fits : (calls : List ℕ) → fits (bare s) calls ≡ fits s calls
   unfolding bare
-  same-fits calls = ap (λ (n : ℕ). leb n (s .capacity)) (same-load calls)
+  same-fits calls = ap (λ (l : Load). carried l (s .head .capacity)) (same-load calls)
 
   same-arc : plainArc (bare s) ≡ plainArc s
   unfolding plainArc bare

@@ -1,4 +1,4 @@
--- The table of crates/cutting, at costs that carry their runs, has the best cutting of each beginning. Assumes nothing.
+-- The table of crates/cut_theory, at costs that carry their runs, has the best cutting of each beginning. Assumes nothing.
 use Prim.Native.Nat.{ℕ, zero, suc, _+_, _≤_, _<_}
 use native.Mathlib.Omega.{arith}
 use native.Mathlib.Nat.{le-refl, le-trans, not-suc-le-zero, le-of-lt, le-of-suc-le-suc}
@@ -10,11 +10,11 @@ use mathlib.Core.Option.{Option, none, some}
 use lib.ListN.{length, take, drop, getD, length-append}
 use lib.Seq.{take-suc, take-take, take-length, take-append-seam, drop-append-seam, length-take-le}
 use Rattle.basics.specs.Options.{present}
-use Rattle.cutting.specs.Cut.{Rule}
-use Rattle.cutting.specs.Cut as C
-use Rattle.cutting.specs.Best as B
-use Rattle.cutting.specs.Runs.{ruleOf}
-use Rattle.cutting.specs.Plain.{Plain, opt}
+use Rattle.cut_theory.specs.Cut.{Rule}
+use Rattle.cut_theory.specs.Cut as C
+use Rattle.cut_theory.proofs.Best as B
+use Rattle.cut_theory.specs.Runs.{ruleOf}
+use Rattle.cut_theory.specs.Plain.{Plain, opt}
 use Rattle.definitions.specs.Clock.{Arc}
 use Rattle.definitions.specs.Cutting.{Best, lower, better, Point, longer, nothing, close, least, cheapest}
 use Rattle.theorems.proofs.Recurrence.{best-none, best-snoc, tails, points-are}
@@ -51,7 +51,7 @@ module _ (arc : List ℕ → Option Arc) (held : List ℕ) where
   better-is (some a) (some b) = refl
 
   cand-is : (j : ℕ) (before since : List ℕ) → before ++ since ≡ take j held → C.best rule (length before) ≡ cheapest arc before
-      → B.cand rule (length before) j ≡ close arc (record { best = cheapest arc before; since = since })
+      → C.cand rule (length before) j ≡ close arc (record { best = cheapest arc before; since = since })
   cand-is j before since e b =
       step-is (C.best rule (length before)) (length before) j
       ∙ ap (λ (o : Option Best). close arc (record { best = o; since = stretch (length before) j })) b
@@ -64,20 +64,20 @@ module _ (arc : List ℕ → Option Arc) (held : List ℕ) where
     c = getD held j 0
 
     scan-one : (pre rest : List ℕ) → pre ++ rest ≡ take j held
-        → better (close arc (record { best = cheapest arc pre; since = rest ++ (c ∷ []) })) (B.scan rule (length pre) (suc j)) ≡ B.scan rule (suc (length pre)) (suc j)
-    unfolding B.scan
+        → better (close arc (record { best = cheapest arc pre; since = rest ++ (c ∷ []) })) (C.scan rule (length pre) (suc j)) ≡ C.scan rule (suc (length pre)) (suc j)
+    unfolding C.scan
     scan-one pre rest e =
-        sym (better-is (B.cand rule (length pre) (suc j)) (B.scan rule (length pre) (suc j))
-        ∙ ap (λ (o : Option Best). better o (B.scan rule (length pre) (suc j)))
+        sym (better-is (C.cand rule (length pre) (suc j)) (C.scan rule (length pre) (suc j))
+        ∙ ap (λ (o : Option Best). better o (C.scan rule (length pre) (suc j)))
         (cand-is (suc j) pre (rest ++ (c ∷ [])) (sym (append-assoc pre rest (c ∷ [])) ∙ ap (λ (l : List ℕ). l ++ (c ∷ [])) e ∙ sym (take-suc held j 0 h)) (ih pre rest e)))
 
     scan-tails : (pre rest : List ℕ) → pre ++ rest ≡ take j held
-        → least arc (B.scan rule (length pre) (suc j)) (map (longer c) (tails arc pre rest)) ≡ B.scan rule (suc j) (suc j)
+        → least arc (C.scan rule (length pre) (suc j)) (map (longer c) (tails arc pre rest)) ≡ C.scan rule (suc j) (suc j)
     scan-tails pre [] e =
-        scan-one pre [] e ∙ ap (λ (k : ℕ). B.scan rule (suc k) (suc j)) (ap length (sym (append-nil pre) ∙ e) ∙ length-take-le j held (le-of-lt h))
+        scan-one pre [] e ∙ ap (λ (k : ℕ). C.scan rule (suc k) (suc j)) (ap length (sym (append-nil pre) ∙ e) ∙ length-take-le j held (le-of-lt h))
     scan-tails pre (d ∷ rest) e =
         ap (λ (o : Option Best). least arc o (map (longer c) (tails arc (pre ++ (d ∷ [])) rest)))
-        (scan-one pre (d ∷ rest) e ∙ ap (λ (k : ℕ). B.scan rule k (suc j)) (sym (length-append pre (d ∷ []) ∙ add-one (length pre))))
+        (scan-one pre (d ∷ rest) e ∙ ap (λ (k : ℕ). C.scan rule k (suc j)) (sym (length-append pre (d ∷ []) ∙ add-one (length pre))))
         ∙ scan-tails (pre ++ (d ∷ [])) rest (append-assoc pre (d ∷ []) rest ∙ e)
 
   -- ---- so the table has the best of each beginning
@@ -88,7 +88,7 @@ module _ (arc : List ℕ → Option Arc) (held : List ℕ) where
       (l, sym (take-take (length before) j held l) ∙ ap (λ (k : List ℕ). take (length before) k) (sym e) ∙ take-append-seam before since)
 
   upto : (n j : ℕ) → j ≤ n → j ≤ length held → C.best rule j ≡ cheapest arc (take j held)
-  unfolding B.scan
+  unfolding C.scan
   upto zero zero h b = B.best-zero rule ∙ sym (best-none arc)
   upto zero (suc j) h b = absurd (not-suc-le-zero h)
   upto (suc n) zero h b = B.best-zero rule ∙ sym (best-none arc)
@@ -113,7 +113,7 @@ module _ (arc : List ℕ → Option Arc) (held : List ℕ) where
   best-at = bridge (length held) (le-refl (length held)) ∙ ap (λ (l : List ℕ). cheapest arc l) (take-length held)
 
   pub cand-at : (before since : List ℕ) → before ++ since ≡ held
-      → B.cand rule (length before) (length held) ≡ close arc (record { best = cheapest arc before; since = since })
+      → C.cand rule (length before) (length held) ≡ close arc (record { best = cheapest arc before; since = since })
   cand-at before since e =
       let q : before ++ since ≡ take (length held) held = e ∙ sym (take-length held) in
       let s = start-is (length held) before since (le-refl (length held)) q in

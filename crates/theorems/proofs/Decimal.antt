@@ -8,8 +8,9 @@ use mathlib.Core.Bool.{Bool, true, _&&_}
 use mathlib.Core.List.{List, [], _∷_, _++_}
 use lib.Dec.{ltb, leb}
 use borrow.Author.Tests.{ltb-true, ltb-false, le-leb}
-use Rattle.basics.specs.Tests.{by-test, and-true}
-use Rattle.basics.specs.Lists.{Passes, all-append}
+use Rattle.basics.proofs.TestLaws.{by-test, and-true}
+use Rattle.basics.specs.Lists.{Passes}
+use Rattle.basics.proofs.ListLaws.{all-append}
 use Rattle.definitions.specs.Listing.{digitsIn, decimal}
 
 -- the number that digits say, behind those that said a

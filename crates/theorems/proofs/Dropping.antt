@@ -7,8 +7,9 @@ use mathlib.Core.Logic.{_⊎_, inl, inr, ⊎-elim}
 use mathlib.Core.List.{List, [], _∷_, _++_, map, append-nil, append-assoc}
 use mathlib.Core.Option.{Option, none}
 use lib.ListN.{length, take, drop, getD, length-append, length-map}
-use Rattle.basics.specs.Tests.{by-test}
-use Rattle.basics.specs.Lists.{without, count, In, first, next, Rising, length-without, length-count}
+use Rattle.basics.proofs.TestLaws.{by-test}
+use Rattle.basics.specs.Lists.{without, count, In, first, next, Rising}
+use Rattle.basics.proofs.ListLaws.{length-without, length-count}
 use Rattle.definitions.specs.Clock.{Arc}
 use Rattle.definitions.specs.Cutting.{stuck}
 use Rattle.definitions.specs.Drop.{allHeld, callAt, callsAt, Held, dropFrom, drops, dropAt}
@@ -116,7 +117,8 @@ module _ (arc : List ℕ → Option Arc) (tour : List ℕ) where
       (parts-append (F .parts) (all-kept (F .post)))))
   settles-parts all {h} (goes k b x a s) F =
       let j = k - length (F .pre) in
-      let le : length (F .pre) ≤ k = by-test (lib.Dec.ltb k (length (F .pre))) (λ t. absurd (x (F .fine (suc k) (borrow.Author.Tests.ltb-true k (length (F .pre)) t)))) (λ f. borrow.Author.Tests.ltb-false k (length (F .pre)) f) in
+      let le : length (F .pre) ≤ k =
+      by-test (lib.Dec.ltb k (length (F .pre))) (λ t. absurd (x (F .fine (suc k) (borrow.Author.Tests.ltb-true k (length (F .pre)) t)))) (λ f. borrow.Author.Tests.ltb-false k (length (F .pre)) f) in
       let lh : length (F .pre) + length (F .post) ≡ length (h .held) = sym (length-append (F .pre) (F .post)) ∙ ap length (F .held-is) in
       let lj : j < length (F .post) = omega arith in
       let lt : length (take j (F .post)) ≡ j = lib.Seq.length-take-le j (F .post) (omega arith) in

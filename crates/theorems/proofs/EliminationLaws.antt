@@ -7,11 +7,13 @@ use mathlib.Core.List.{List, [], _∷_, map}
 use mathlib.Core.Option.{Option, none, some, Option·map}
 use lib.ListN.{length}
 use lib.Dec.{ltb}
-use borrow.Author.Tests.{ltb-true, leb-true, le-ltb}
-use Rattle.basics.specs.Tests.{by-test}
+use borrow.Author.Tests.{ltb-true, le-ltb}
+use Rattle.basics.proofs.TestLaws.{by-test}
 use Rattle.basics.specs.Options.{_>>=_, valueOr, orElse, Holds}
-use Rattle.basics.specs.Lists.{sum, All, all-imp, all-append, all-map}
-use Rattle.definitions.specs.Run.{loadBy, fitsBy}
+use Rattle.basics.specs.Lists.{sum, All}
+use Rattle.basics.proofs.ListLaws.{all-imp, all-append, all-map}
+use Rattle.definitions.specs.Load.{Load, carried, fitsBy}
+use Rattle.definitions.proofs.LoadLaws.{load-same}
 use Rattle.definitions.specs.Sort.{rising, falling, sort}
 use Rattle.definitions.specs.Improver.{Given, distanceOf, total, allowed}
 use Rattle.definitions.specs.Elimination.{nonEmpty, Parted, past, parted, Put, beyond, inserts, candidates, firstBelow, placed, placedAll, emptied, firstEmptied, search, searches, eliminated}
@@ -57,7 +59,7 @@ module _ (G : Given) where
   -- a legal run: some call, a load at most capacity, and allowed
   pub record Legal (r : List ℕ) : Type 0 where
     pub some-call : Calls r
-    pub fits : loadBy (G .demand) r ≤ G .capacity
+    pub fits : fitsBy (G .demand) (G .capacity) r ≡ true
     pub may : allowed G r ≡ true
 
   -- the runs `new` are the runs `old` with the calls `cs` put in
@@ -71,13 +73,13 @@ module _ (G : Given) where
   abbrev pub PutWell : ℕ → List (List ℕ) → Put → Type 0
   PutWell c old p = allowed G (p .grown) ≡ true → Takes (c ∷ []) old (p .runs)
 
-  put-here : (c : ℕ) (r : List ℕ) (rs : List (List ℕ)) → loadBy (G .demand) (c ∷ r) ≤ G .capacity → (g : List ℕ) → Grows c r g
+  put-here : (c : ℕ) (r : List ℕ) (rs : List (List ℕ)) → fitsBy (G .demand) (G .capacity) (c ∷ r) ≡ true → (g : List ℕ) → Grows c r g
       → PutWell c (r ∷ rs) (record { grown = g; runs = g ∷ rs })
   put-here c r rs room g h a =
       record {
         calls = λ f. omega (arith, h .calls f);
         many = refl;
-        legal = λ l. (record { some-call = h .some-call; fits = omega (arith, h .calls (G .demand)); may = a }, l .1);
+        legal = λ l. (record { some-call = h .some-call; fits = ap (λ (l : Load). carried l (G .capacity)) (load-same (G .demand) g (c ∷ r) (h .calls)) ∙ room; may = a }, l .1);
         some-call = λ l. (h .some-call, l .1);
       }
 
@@ -101,7 +103,7 @@ module _ (G : Given) where
       (λ t. rw t
       (all-append (PutWell c (r ∷ rs)) (map here (inserts c r)) (map (beyond r) (candidates G c rs))
       (all-map (PutWell c (r ∷ rs)) here (inserts c r)
-      (all-imp (Grows c r) (λ (g : List ℕ). PutWell c (r ∷ rs) (here g)) (put-here c r rs (leb-true (loadBy (G .demand) (c ∷ r)) (G .capacity) t)) (inserts c r) (inserts-grow c r)))
+      (all-imp (Grows c r) (λ (g : List ℕ). PutWell c (r ∷ rs) (here g)) (put-here c r rs t) (inserts c r) (inserts-grow c r)))
       later))
       (λ n. rw n later)
     where
@@ -218,18 +220,18 @@ module _ (G : Given) where
       bound = total G (p .run ∷ p .rest) + G .fixed
 
       moving : List ℕ
-      moving = sort (falling (G .demand)) (p .run)
+      moving = sort (falling (λ (c : ℕ). G .demand c .seats)) (p .run)
 
       some-moving : Calls (p .run) → 0 < length moving
       some-moving c =
-          omega (arith, calls-some (p .run) c, sort-same (falling (G .demand)) (p .run) (λ (r : ℕ). 1), length-is-sum moving, length-is-sum (p .run))
+          omega (arith, calls-some (p .run) c, sort-same (falling (λ (c : ℕ). G .demand c .seats)) (p .run) (λ (r : ℕ). 1), length-is-sum moving, length-is-sum (p .run))
 
       go : (o : Option (List (List ℕ))) → Holds (λ (new : List (List ℕ)). Takes moving (p .rest) new × (total G (p .rest) < bound → total G new < bound)) o
           → (0 < length moving → Holds (λ (new : List (List ℕ)). total G new < bound) o) → Holds (Fewer all) o
       go none a b = tt
       go (some new) a b =
           record {
-            calls = λ f. omega (arith, a .0 .calls f, sort-same (falling (G .demand)) (p .run) f, h .sums (sum f));
+            calls = λ f. omega (arith, a .0 .calls f, sort-same (falling (λ (c : ℕ). G .demand c .seats)) (p .run) f, h .sums (sum f));
             fewer = omega (arith, a .0 .many, h .sums (λ (r : List ℕ). 1), length-is-sum (p .rest), length-is-sum all);
             legal = λ l. a .0 .legal (h .legal l);
             some-call = λ l. a .0 .some-call (h .some-call l .1);

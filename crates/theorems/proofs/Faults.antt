@@ -8,8 +8,9 @@ use mathlib.Core.Option.{Option, none, some}
 use lib.ListN.{length, getD, take}
 use lib.Dec.{ltb, leb, eqb}
 use borrow.Author.Tests.{ltb-true, leb-false, eqb-true, eqb-false, le-leb, eq-eqb}
-use Rattle.basics.specs.Tests.{by-test, not-both, and-true}
-use Rattle.basics.specs.Options.{_>>=_, present, valueOr, orElse, given, same, clash, bound}
+use Rattle.basics.proofs.TestLaws.{by-test, not-both, and-true}
+use Rattle.basics.specs.Options.{_>>=_, present, valueOr, orElse, given}
+use Rattle.basics.proofs.OptionLaws.{same, clash, bound}
 use Rattle.basics.specs.Lists.{isEmpty, all, All}
 use Rattle.definitions.specs.Sheet.{Window, Break, Sheet}
 use Rattle.definitions.specs.Window.{dueOf, enter}
@@ -72,7 +73,7 @@ break-there none arrival h = clash (sym h)
 break-there (some b) arrival h =
     by-test (tooLate b arrival) (λ t. (refl, ltb-true (b .latest) (breakStart b arrival) t)) (λ f. clash (sym (rw f at h)))
 
-at-its-place : (s : Sheet) (place k : ℕ) (b : Break) → breakAt s place k ≡ some b → (place ≡ k) × (s .rest ≡ some b)
+at-its-place : (s : Sheet) (place k : ℕ) (b : Break) → breakAt s place k ≡ some b → (place ≡ k) × (s .head .rest ≡ some b)
 at-its-place s place k b h = by-test (eqb place k) (λ t. (eqb-true place k t, rw t at h)) (λ f. clash (rw f at h))
 
 shut-there : (window : Option Window) (penalty : Option ℕ) (readiness : ℕ) → enter window penalty readiness ≡ none
@@ -130,21 +131,21 @@ first-of false a o v h f g = f refl (same h)
 
 module _ (s : Sheet) (n : ℕ) (r : Run) (proper : Placeable s r) where
   module _ (t : Totals) (home : Home s r t) where
-    missing-fails : placed (s .rest) (r .place) (length (r .calls)) (t .duration) ≡ false → Fails s n r (breakMissing n (t .duration) (breakOr (s .rest) .earliest))
+    missing-fails : placed (s .head .rest) (r .place) (length (r .calls)) (t .duration) ≡ false → Fails s n r (breakMissing n (t .duration) (breakOr (s .head .rest) .earliest))
     missing-fails p =
-        let u = unplaced (s .rest) (r .place) (length (r .calls)) (t .duration) proper p in
+        let u = unplaced (s .head .rest) (r .place) (length (r .calls)) (t .duration) proper p in
         by-missing (record { totals = t; at-home = home; break = _; rested = u .0; nowhere = u .1; value-is = refl; limit-is = refl; over = u .2 })
 
-    far-fails : placed (s .rest) (r .place) (length (r .calls)) (t .duration) ≡ true → within (s .maxDistance) (t .distance) ≡ false
-        → Fails s n r (tooFar n (t .distance) (valueOr 0 (s .maxDistance)))
+    far-fails : placed (s .head .rest) (r .place) (length (r .calls)) (t .duration) ≡ true → within (s .head .maxDistance) (t .distance) ≡ false
+        → Fails s n r (tooFar n (t .distance) (valueOr 0 (s .head .maxDistance)))
     far-fails p d =
-        let u = above (s .maxDistance) (t .distance) d in
+        let u = above (s .head .maxDistance) (t .distance) d in
         by-distance (record { totals = t; at-home = home; break-placed = p; value-is = refl; limit-is = u .0; over = u .1 })
 
-    long-fails : placed (s .rest) (r .place) (length (r .calls)) (t .duration) ≡ true → within (s .maxDistance) (t .distance) ≡ true → within (s .maxDuration) (t .duration) ≡ false
-        → Fails s n r (tooLong n (t .duration) (valueOr 0 (s .maxDuration)))
+    long-fails : placed (s .head .rest) (r .place) (length (r .calls)) (t .duration) ≡ true → within (s .head .maxDistance) (t .distance) ≡ true → within (s .head .maxDuration) (t .duration) ≡ false
+        → Fails s n r (tooLong n (t .duration) (valueOr 0 (s .head .maxDuration)))
     long-fails p d l =
-        let u = above (s .maxDuration) (t .duration) l in
+        let u = above (s .head .maxDuration) (t .duration) l in
         by-duration (record { totals = t; at-home = home; break-placed = p; near = d; value-is = refl; limit-is = u .0; over = u .1 })
 
   becomes : (v : Verdict) {w : Verdict} → Fails s n r w → w ≡ v → Fails s n r v
@@ -152,16 +153,16 @@ module _ (s : Sheet) (n : ℕ) (r : Run) (proper : Placeable s r) where
 
   total-fails : (v : Verdict) (t : Totals) → Home s r t → totalFault s n r t ≡ some v → Fails s n r v
   total-fails v t home h =
-      first-of (placed (s .rest) (r .place) (length (r .calls)) (t .duration)) _ _ v h (λ p e. becomes v (missing-fails t home p) e)
-      (λ p h. first-of (within (s .maxDistance) (t .distance)) _ _ v h (λ d e. becomes v (far-fails t home p d) e)
-      (λ d h. first-of (within (s .maxDuration) (t .duration)) _ none v (rw h refl) (λ l e. becomes v (long-fails t home p d l) e) (λ l h. clash h)))
+      first-of (placed (s .head .rest) (r .place) (length (r .calls)) (t .duration)) _ _ v h (λ p e. becomes v (missing-fails t home p) e)
+      (λ p h. first-of (within (s .head .maxDistance) (t .distance)) _ _ v h (λ d e. becomes v (far-fails t home p d) e)
+      (λ d h. first-of (within (s .head .maxDuration) (t .duration)) _ none v (rw h refl) (λ l e. becomes v (long-fails t home p d l) e) (λ l h. clash h)))
 
   -- a fault names a test that fails, and every test before it holds
   pub fault-fails : (v : Verdict) → runFault s n r ≡ some v → Fails s n r v
   unfolding runFault
   fault-fails v h =
       first-of (fits s (r .calls)) _ _ v h
-      (λ f e. becomes v (by-load (record { value-is = refl; limit-is = refl; over = leb-false (load s (r .calls)) (s .capacity) f })) e)
+      (λ f e. becomes v (by-load (record { value-is = refl; limit-is = refl; over = leb-false (load s (r .calls) .seats) (s .head .capacity .seats) f })) e)
       (λ room h. walked room (walkFault s n (r .place) 1 0 start (r .calls)) refl h)
     where
       walked : fits s (r .calls) ≡ true → (o : Option Verdict) → walkFault s n (r .place) 1 0 start (r .calls) ≡ o → orElse o (ride s r >>= totalFault s n r) ≡ some v → Fails s n r v

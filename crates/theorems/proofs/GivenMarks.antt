@@ -61,7 +61,7 @@ module _ {F : Type 0} (value : F → Option ℕ) (l : Lent F) where
       let A = accepted-within value marking l h in
       runs-proper s 0 (l .calls) (l .ends) (l .breaks) (subst (λ (n : ℕ). RiseTo 0 (l .ends) n) (sym (zero-add (length (l .calls)))) (rises 0 (l .ends) (length (l .calls)) (A .runs .ends)))
       (A .runs .some-call)
-      (ap (λ (b : Bool). breakBeyond b 0 (l .ends) (l .breaks)) (present-same (mapBreak (whole value)) (l .sheet .rest)) ∙ A .runs .breaks)
+      (ap (λ (b : Bool). breakBeyond b 0 (l .ends) (l .breaks)) (present-same (mapBreak (whole value)) (l .sheet .head .rest)) ∙ A .runs .breaks)
 
   -- a mark that is given says what its verdict means
   pub given-says : (v : Verdict) → markOf value l ≡ gives v → Says s (l .tour) runsGiven v
@@ -101,7 +101,7 @@ module _ {F : Type 0} (value : F → Option ℕ) (l : Lent F) where
         is-given best .1 (ap (mark s (l .tour)) runs-own ∙ own-best s (l .tour))
 
   -- Cheaper is given only with lateness pay and a break
-  pub given-cheaper-only : (d : ℕ) → markOf value l ≡ gives (cheaper d) → (latenessPay s ≡ true) × (present (s .rest) ≡ true)
+  pub given-cheaper-only : (d : ℕ) → markOf value l ≡ gives (cheaper d) → (latenessPay s ≡ true) × (present (s .head .rest) ≡ true)
   unfolding answer
   given-cheaper-only d h =
       let g = given-by (refusalOf value marking l) (mark s (l .tour) runsGiven) (cheaper d) h in

@@ -9,7 +9,7 @@ use lib.ListN.{length, take, drop, length-drop}
 use lib.Seq.{length-take-le}
 use lib.Dec.{ltb, eqb}
 use borrow.Author.Tests.{ltb-false, eqb-false, eqb-true}
-use Rattle.basics.specs.Tests.{or-left, or-right, not-false}
+use Rattle.basics.proofs.TestLaws.{or-left, or-right, not-false}
 use Rattle.basics.specs.Options.{present}
 use Rattle.basics.specs.Lists.{isEmpty, All}
 use Rattle.definitions.specs.Sheet.{Sheet}
@@ -69,7 +69,7 @@ runs-filled p calls (e ∷ ends) h f = (
 )
 
 -- no run is empty, and each break place is one of its run's calls, or 0; on a sheet without a break it is 0
-pub runs-proper : (s : Sheet) (p : ℕ) (calls ends places : List ℕ) → RiseTo p ends (p + length calls) → emptyRun p ends ≡ false → breakBeyond (present (s .rest)) p ends places ≡ false
+pub runs-proper : (s : Sheet) (p : ℕ) (calls ends places : List ℕ) → RiseTo p ends (p + length calls) → emptyRun p ends ≡ false → breakBeyond (present (s .head .rest)) p ends places ≡ false
     → All (Proper s) (withPlaces (runsFrom p calls ends) places)
 unfolding runsFrom
 runs-proper s p calls [] places h f b = tt
@@ -78,14 +78,14 @@ runs-proper s p calls (e ∷ ends) [] h f b = (
   runs-proper s e (drop (e - p) calls) ends [] (rises-on p calls e ends h) (or-right (eqb e p) (emptyRun e ends) f) (nothing-beyond e ends),
 )
   where
-    nothing-beyond : (q : ℕ) (es : List ℕ) → breakBeyond (present (s .rest)) q es [] ≡ false
+    nothing-beyond : (q : ℕ) (es : List ℕ) → breakBeyond (present (s .head .rest)) q es [] ≡ false
     nothing-beyond q [] = refl
     nothing-beyond q (x ∷ es) = refl
 runs-proper s p calls (e ∷ ends) (k ∷ places) h f b =
-    let on = or-right (ltb (cond (present (s .rest)) (e - p) 0) k) (breakBeyond (present (s .rest)) e ends places) b in (
+    let on = or-right (ltb (cond (present (s .head .rest)) (e - p) 0) k) (breakBeyond (present (s .head .rest)) e ends places) b in (
       record {
-        placeable = subst (λ (n : ℕ). k ≤ cond (present (s .rest)) n 0) (sym (first-long p calls e ends h))
-            (ltb-false (cond (present (s .rest)) (e - p) 0) k (or-left (ltb (cond (present (s .rest)) (e - p) 0) k) (breakBeyond (present (s .rest)) e ends places) b));
+        placeable = subst (λ (n : ℕ). k ≤ cond (present (s .head .rest)) n 0) (sym (first-long p calls e ends h))
+            (ltb-false (cond (present (s .head .rest)) (e - p) 0) k (or-left (ltb (cond (present (s .head .rest)) (e - p) 0) k) (breakBeyond (present (s .head .rest)) e ends places) b));
         some-calls = first-filled p calls e ends h (eqb-false e p (or-left (eqb e p) (emptyRun e ends) f));
       },
       runs-proper s e (drop (e - p) calls) ends places (rises-on p calls e ends h) (or-right (eqb e p) (emptyRun e ends) f) on,

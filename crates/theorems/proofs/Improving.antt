@@ -4,7 +4,7 @@ use mathlib.Core.Path.{_≡_, refl, sym}
 use mathlib.Core.Bool.{Bool, true, false, not, _&&_}
 use mathlib.Core.List.{List}
 use mathlib.Core.Option.{Option, none, some}
-use Rattle.basics.specs.Tests.{by-test}
+use Rattle.basics.proofs.TestLaws.{by-test}
 use Rattle.basics.specs.Options.{_>>=_, present, given}
 use Rattle.basics.specs.Lists.{isEmpty}
 use Rattle.definitions.specs.Sheet.{Sheet}

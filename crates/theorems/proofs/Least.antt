@@ -10,13 +10,15 @@ use mathlib.Core.Option.{Option, none, some}
 use lib.ListN.{length, take, drop, length-append, take-append-drop}
 use lib.Seq.{take-take, take-length, length-take-le}
 use borrow.Author.Tests.{ltb-true, ltb-false, le-ltb}
-use Rattle.basics.specs.Options.{present, clash, held}
-use Rattle.basics.specs.Lists.{sum, sum-append}
-use Rattle.cutting.specs.Cut.{Rule}
-use Rattle.cutting.specs.Cut as C
-use Rattle.cutting.specs.Best as B
-use Rattle.cutting.specs.Best.{Laws}
-use Rattle.cutting.specs.Plain.{PlainLaws, GoodOpt, lowerOpt, rule-laws}
+use Rattle.basics.specs.Options.{present}
+use Rattle.basics.proofs.OptionLaws.{clash, held}
+use Rattle.basics.specs.Lists.{sum}
+use Rattle.basics.proofs.ListLaws.{sum-append}
+use Rattle.cut_theory.specs.Cut.{Rule, Laws}
+use Rattle.cut_theory.specs.Cut as C
+use Rattle.cut_theory.proofs.Best as B
+use Rattle.cut_theory.specs.Plain.{PlainLaws, GoodOpt, lowerOpt}
+use Rattle.cut_theory.proofs.PlainBest.{rule-laws}
 use Rattle.definitions.specs.Run.{Run}
 use Rattle.definitions.specs.Clock.{Arc}
 use Rattle.definitions.specs.Cutting.{joined, Best, lower, Point, nothing, close, points, cheapest}
@@ -179,7 +181,9 @@ module _ (arc : List ℕ → Option Arc) where
     least-below calls n (more before since k a R q e z) =
         let b = least-below before k R in
         let x : Best = andRun (b .0) since (some a) in
-        let m = at-most-some calls x (cheapest arc calls) (at-most calls before since x e (shorter since (λ s. clash (sym empty ∙ ap arc (sym s) ∙ q)) (ap length (sym e) ∙ length-append before since)) (rw (b .1, q) refl)) in
+        let m =
+        at-most-some calls x (cheapest arc calls) (at-most calls before since x e (shorter since (λ s. clash (sym empty ∙ ap arc (sym s) ∙ q)) (ap length (sym e) ∙ length-append before since))
+        (rw (b .1, q) refl)) in
         (m .0, m .1, omega (arith, m .2, b .2))
       where
         shorter : (l : List ℕ) → (l ≡ [] → ⊥) → length calls ≡ length before + length l → length before < length calls
@@ -213,10 +217,10 @@ module _ (arc : List ℕ → Option Arc) where
     long : length (u ++ (c ∷ [])) ≡ suc (length u)
     long = length-append u (c ∷ []) ∙ add-one (length u)
 
-    cand-of : (k : ℕ) → k < suc (length u) → B.cand S k (suc (length u)) ≡ candidate u c k
+    cand-of : (k : ℕ) → k < suc (length u) → C.cand S k (suc (length u)) ≡ candidate u c k
     cand-of k h =
-        ap (λ (n : ℕ). B.cand S n (suc (length u))) (sym (length-take-le k u (le-of-suc-le-suc h)))
-        ∙ ap (λ (n : ℕ). B.cand S (length (take k u)) n) (sym long)
+        ap (λ (n : ℕ). C.cand S n (suc (length u))) (sym (length-take-le k u (le-of-suc-le-suc h)))
+        ∙ ap (λ (n : ℕ). C.cand S (length (take k u)) n) (sym long)
         ∙ cand-at arc (u ++ (c ∷ [])) (take k u) (drop k u ++ (c ∷ [])) (sym (append-assoc (take k u) (drop k u) (c ∷ [])) ∙ ap (λ (l : List ℕ). l ++ (c ∷ [])) (take-append-drop k u))
 
     pub best-earliest : (m : Best) → cheapest arc (u ++ (c ∷ [])) ≡ some m → Earliest u c (suc (length u)) m

@@ -10,7 +10,7 @@ use mathlib.Core.Option.{Option, none, some}
 use lib.ListN.{length, getD}
 use lib.Dec.{eqb}
 use borrow.Author.Tests.{eqb-true}
-use Rattle.basics.specs.Tests.{by-test}
+use Rattle.basics.proofs.TestLaws.{by-test}
 use Rattle.definitions.specs.Words.{Word, word, wordsOf, leftOver}
 use Rattle.definitions.specs.Room.{short}
 use Rattle.definitions.specs.Reader.{State, start, next, faultAt, Outcome, accepted, refused, behind, unless, walk, sheetOf, tourOf, refusedAt, answer, readWords, read, readerNeeds, readInto}

@@ -9,8 +9,9 @@ use mathlib.Core.Option.{Option, none, some}
 use lib.ListN.{length, getD}
 use lib.Dec.{ltb}
 use borrow.Author.Tests.{eqb-true, eq-eqb, ne-eqb, leb-true, le-leb}
-use Rattle.basics.specs.Tests.{or-left, or-right, by-test, both, and-true}
-use Rattle.basics.specs.Options.{_>>=_, holds, present, same, clash, bound, held, granted}
+use Rattle.basics.proofs.TestLaws.{or-left, or-right, by-test, both, and-true}
+use Rattle.basics.specs.Options.{_>>=_, holds, present}
+use Rattle.basics.proofs.OptionLaws.{same, clash, bound, held, granted}
 use Rattle.basics.specs.Lists.{isEmpty, any}
 use Rattle.definitions.specs.Sheet.{anySoft, Window, Break, Sheet, depot, customer, time, soft, latenessPay}
 use Rattle.definitions.specs.Window.{Entry, enter}
@@ -92,23 +93,23 @@ module _ (s : Sheet) (calls : List ℕ) where
   unfolding ride
   ridden p t q = let y = bound (labelOf p) _ t q in (y .0, y .1, same (y .2))
 
-  pub clocked : (l : Label) → counts (s .rest) back end ≡ some l → clock s calls ≡ some (home s calls l)
+  pub clocked : (l : Label) → counts (s .head .rest) back end ≡ some l → clock s calls ≡ some (home s calls l)
   unfolding clock
   clocked l e = ap (λ (o : Option Label). o >>= λ m. some (home s calls m)) e
 
   -- ---- the clock's answer is that of its own place
 
   abbrev Own : Totals → Type 0
-  Own t = (ride s (with (t .place)) ≡ some t) × (placed (s .rest) (t .place) (length calls) (t .duration) ≡ true)
+  Own t = (ride s (with (t .place)) ≡ some t) × (placed (s .head .rest) (t .place) (length calls) (t .duration) ≡ true)
 
-  own-label : (l : Label) → counts (s .rest) back end ≡ some l → Own (home s calls l)
+  own-label : (l : Label) → counts (s .head .rest) back end ≡ some l → Own (home s calls l)
   unfolding placed
-  own-label l q = go (s .rest) refl
+  own-label l q = go (s .head .rest) refl
     where
       unplaced : l .place ≡ 0 → labelOf 0 ≡ some l → ride s (with (l .place)) ≡ some (home s calls l)
       unplaced z e = rides (l .place) l (ap labelOf z ∙ e)
 
-      go : (o : Option Break) → s .rest ≡ o → Own (home s calls l)
+      go : (o : Option Break) → s .head .rest ≡ o → Own (home s calls l)
       go none e =
           let f : end .before ≡ some l = subst (λ (o : Option Break). counts o back end ≡ some l) e q in
           let z = unbroken l (sym plain ∙ f) in
@@ -118,7 +119,7 @@ module _ (s : Sheet) (calls : List ℕ) where
           f : counts (some b) back end ≡ some l
           f = subst (λ (o : Option Break). counts o back end ≡ some l) e q
 
-          back-to : placed (some b) (l .place) (length calls) (l .time + back) ≡ true → placed (s .rest) (l .place) (length calls) (l .time + back) ≡ true
+          back-to : placed (some b) (l .place) (length calls) (l .time + back) ≡ true → placed (s .head .rest) (l .place) (length calls) (l .time + back) ≡ true
           back-to h = subst (λ (o : Option Break). placed o (l .place) (length calls) (l .time + back) ≡ true) (sym e) h
 
           free : holds (end .before) (λ m. excused b (m .time + back)) ≡ true → Own (home s calls l)
@@ -139,24 +140,24 @@ module _ (s : Sheet) (calls : List ℕ) where
 
   pub clock-own : (t : Totals) → clock s calls ≡ some t → Own t
   unfolding clock
-  clock-own t q = let y = bound (counts (s .rest) back end) _ t q in subst Own (same (y .2)) (own-label (y .0) (y .1))
+  clock-own t q = let y = bound (counts (s .head .rest) back end) _ t q in subst Own (same (y .2)) (own-label (y .0) (y .1))
 
   -- ---- no place that the break may have is home earlier
 
   abbrev NoneEarlier : Label → Type 0
-  NoneEarlier l = (u : Label) × (counts (s .rest) back end ≡ some u) × (u .time ≤ l .time)
+  NoneEarlier l = (u : Label) × (counts (s .head .rest) back end ≡ some u) × (u .time ≤ l .time)
 
-  least-label : (p : ℕ) (l : Label) → labelOf p ≡ some l → placed (s .rest) p (length calls) (l .time + back) ≡ true → NoneEarlier l
+  least-label : (p : ℕ) (l : Label) → labelOf p ≡ some l → placed (s .head .rest) p (length calls) (l .time + back) ≡ true → NoneEarlier l
   unfolding placed
-  least-label p l q h = go (s .rest) refl
+  least-label p l q h = go (s .head .rest) refl
     where
-      go : (o : Option Break) → s .rest ≡ o → NoneEarlier l
+      go : (o : Option Break) → s .head .rest ≡ o → NoneEarlier l
       go none e =
           let z = eqb-true p 0 (subst (λ (o : Option Break). placed o p (length calls) (l .time + back) ≡ true) e h) in
           (l, ap (λ (o : Option Break). counts o back end) e ∙ plain ∙ ap labelOf (sym z) ∙ q, le-refl (l .time))
       go (some b) e = at p q (subst (λ (o : Option Break). placed o p (length calls) (l .time + back) ≡ true) e h)
         where
-          chosen : counts (s .rest) back end ≡ counts (some b) back end
+          chosen : counts (s .head .rest) back end ≡ counts (some b) back end
           chosen = ap (λ (o : Option Break). counts o back end) e
 
           at : (p : ℕ) → labelOf p ≡ some l → placed (some b) p (length calls) (l .time + back) ≡ true → NoneEarlier l
@@ -174,12 +175,12 @@ module _ (s : Sheet) (calls : List ℕ) where
               up : (p n : ℕ) → suc p ≤ n → suc p < 1 + n
               up p n h = omega arith
 
-  pub clock-least : (p : ℕ) (t : Totals) → ride s (with p) ≡ some t → placed (s .rest) p (length calls) (t .duration) ≡ true
+  pub clock-least : (p : ℕ) (t : Totals) → ride s (with p) ≡ some t → placed (s .head .rest) p (length calls) (t .duration) ≡ true
       → (u : Totals) × (clock s calls ≡ some u) × (u .duration ≤ t .duration) × (u .distance ≡ t .distance)
   clock-least p t q h =
       let y = ridden p t q in
       let d = ap (λ (x : Totals). x .duration) (y .2) in
-      let z = least-label p (y .0) (y .1) (subst (λ (n : ℕ). placed (s .rest) p (length calls) n ≡ true) (sym d) h) in
+      let z = least-label p (y .0) (y .1) (subst (λ (n : ℕ). placed (s .head .rest) p (length calls) n ≡ true) (sym d) h) in
       (home s calls (z .0), clocked (z .0) (z .1), le3 (z .0 .time) (y .0 .time) back (t .duration) (z .2) d, ap (λ (x : Totals). x .distance) (y .2))
     where
       le3 : (a b c d : ℕ) → a ≤ b → b + c ≡ d → a + c ≤ d
@@ -193,8 +194,8 @@ within-le (some limit) m n h w = let i = leb-true n limit w in le-leb m limit (o
 
 allowed-le : (s : Sheet) (u t : Totals) → u .duration ≤ t .duration → u .distance ≡ t .distance → allowed s t ≡ true → allowed s u ≡ true
 allowed-le s u t h e a =
-    let w = both (within (s .maxDistance) (t .distance)) _ a in
-    and-true _ _ (subst (λ (n : ℕ). within (s .maxDistance) n ≡ true) (sym e) (w .0)) (within-le (s .maxDuration) (u .duration) (t .duration) h (w .1))
+    let w = both (within (s .head .maxDistance) (t .distance)) _ a in
+    and-true _ _ (subst (λ (n : ℕ). within (s .head .maxDistance) n ≡ true) (sym e) (w .0)) (within-le (s .head .maxDuration) (u .duration) (t .duration) h (w .1))
 
 -- a legal run as one fact each: it comes to t
 pub record LegalFacts (s : Sheet) (r : Run) (t : Totals) : Type 0 where
@@ -202,7 +203,7 @@ pub record LegalFacts (s : Sheet) (r : Run) (t : Totals) : Type 0 where
   pub room : fits s (r .calls) ≡ true
   pub rode : ride s r ≡ some t
   pub kept-limits : allowed s t ≡ true
-  pub break-placed : placed (s .rest) (r .place) (length (r .calls)) (t .duration) ≡ true
+  pub break-placed : placed (s .head .rest) (r .place) (length (r .calls)) (t .duration) ≡ true
 
 pub legal-has : (s : Sheet) (r : Run) → legal s r ≡ true → (t : Totals) × LegalFacts s r t
 unfolding legal
@@ -306,7 +307,7 @@ module _ (s : Sheet) (nopay : latenessPay s ≡ false) where
       let y = arc-clock s (r .calls) a q in
       let M = y .2 in
       cost-of s r t (L .rode)
-      ∙ even (s .fixed) _ _ _ _ (sym (distance-of s r t (L .rode)) ∙ distance-of s _ (y .0) (M .rode)) (ride-free r t (L .rode)) (ride-free _ (y .0) (M .rode))
+      ∙ even (s .head .fixed) _ _ _ _ (sym (distance-of s r t (L .rode)) ∙ distance-of s _ (y .0) (M .rode)) (ride-free r t (L .rode)) (ride-free _ (y .0) (M .rode))
       ∙ ap (λ (x : Arc). x .cost) (y .3)
     where
       even : (f a b p q : ℕ) → a ≡ b → p ≡ 0 → q ≡ 0 → f + a + p ≡ f + b + q

@@ -19,6 +19,8 @@ pub mod Sentences
 pub mod Plain
 pub mod Agreement
 pub mod Bare
+-- Refusals in order, whatever stands in the list.
+pub mod InOrder
 -- What an accepted call is known to be; the reader's leftmost bad word; a number as text.
 pub mod Ranges
 pub mod Accepted
@@ -39,3 +41,7 @@ pub mod LegLaws
 pub mod TwoOptLaws
 pub mod EliminationLaws
 pub mod Improving
+-- Demand 3 and the marks pin their answers, and what wrong planners would return does not keep them.
+pub mod OneAnswer
+pub mod OneMark
+pub mod WrongPlanners

@@ -1,4 +1,5 @@
--- The marker finds a fault in a run exactly where it is not legal; it says Best, Dearer or Cheaper exactly of legal runs of the served calls, by their cost, and Cheaper only with lateness pay and a break. Assumes nothing.
+-- The marker finds a fault in a run exactly where it is not legal; it says Best, Dearer or Cheaper exactly of legal runs of the served calls, by their cost,
+-- and Cheaper only with lateness pay and a break. Assumes nothing.
 use Prim.Native.Nat.{ℕ, suc, _+_, _-_, _≤_, _<_}
 use native.Mathlib.Omega.{arith}
 use mathlib.Core.Logic.{_↔_}
@@ -9,8 +10,9 @@ use mathlib.Core.Option.{Option, none, some}
 use lib.ListN.{length}
 use lib.Dec.{ltb, eqb}
 use borrow.Author.Tests.{ltb-true, ltb-false, lt-ltb, le-ltb, eqb-true, eq-eqb}
-use Rattle.basics.specs.Tests.{by-test, not-both, both, and-true}
-use Rattle.basics.specs.Options.{_>>=_, holds, present, valueOr, orElse, given, neither, passed, same, clash}
+use Rattle.basics.proofs.TestLaws.{by-test, not-both, both, and-true}
+use Rattle.basics.specs.Options.{_>>=_, holds, present, valueOr, orElse, given}
+use Rattle.basics.proofs.OptionLaws.{neither, passed, same, clash}
 use Rattle.basics.specs.Lists.{isEmpty, all}
 use Rattle.definitions.specs.Sheet.{Break, Sheet, time, latenessPay}
 use Rattle.definitions.specs.Limits.{within}
@@ -68,14 +70,14 @@ unmarked-legal s n r z h =
     let t = home s (r .calls) (m .0) in
     let e : ride s r ≡ some t = rides s r (m .0) (m .1) in
     let f : totalFault s n r t ≡ none = subst (λ (o : Option Totals). (o >>= totalFault s n r) ≡ none) e (b .1) in
-    let c = neither (given (not (placed (s .rest) (r .place) (length (r .calls)) (t .duration))) _) _ f in
-    let d = neither (given (not (within (s .maxDistance) (t .distance))) _) _ (c .1) in
+    let c = neither (given (not (placed (s .head .rest) (r .place) (length (r .calls)) (t .duration))) _) _ f in
+    let d = neither (given (not (within (s .head .maxDistance) (t .distance))) _) _ (c .1) in
     has-legal s r t (record {
       some-calls = z;
       room = passed (fits s (r .calls)) _ (a .0);
       rode = e;
-      kept-limits = and-true _ _ (passed (within (s .maxDistance) (t .distance)) _ (d .0)) (passed (within (s .maxDuration) (t .duration)) _ (d .1));
-      break-placed = passed (placed (s .rest) (r .place) (length (r .calls)) (t .duration)) _ (c .0);
+      kept-limits = and-true _ _ (passed (within (s .head .maxDistance) (t .distance)) _ (d .0)) (passed (within (s .head .maxDuration) (t .duration)) _ (d .1));
+      break-placed = passed (placed (s .head .rest) (r .place) (length (r .calls)) (t .duration)) _ (c .0);
     })
   where
     rides : (s : Sheet) (r : Run) (l : Label) → serveAll s (r .place) 1 0 (some start) (r .calls) ≡ some l → ride s r ≡ some (home s (r .calls) l)
@@ -87,7 +89,7 @@ legal-unmarked s n r h =
     let (t, L) = legal-has s r h in
     let m = Rattle.theorems.proofs.Legality.ridden s (r .calls) (r .place) t (L .rode) in
     let w = served-walk s n (r .place) 1 0 start (r .calls) (m .0) (m .1) in
-    let b = both (within (s .maxDistance) (t .distance)) _ (L .kept-limits) in
+    let b = both (within (s .head .maxDistance) (t .distance)) _ (L .kept-limits) in
     rw (L .room, w, L .rode) (rw (L .break-placed, b .0, b .1) refl)
 
 pub unmarked-runs : (s : Sheet) (n : ℕ) (rs : List Run) → all (λ r. not (isEmpty (r .calls))) rs ≡ true → firstFault s n rs ≡ none → legalCutting s rs ≡ true
@@ -159,18 +161,18 @@ walk-fault s n place k a l (c ∷ cs) = go (serve s (breakAt s place k) k a c l)
 
 total-fault : (s : Sheet) (n : ℕ) (r : Run) (t : Totals) → Fault (totalFault s n r t)
 total-fault s n r t =
-    let A = not (placed (s .rest) (r .place) (length (r .calls)) (t .duration)) in
-    let B = not (within (s .maxDistance) (t .distance)) in
-    let C = not (within (s .maxDuration) (t .duration)) in
-    let x = breakMissing n (t .duration) (breakOr (s .rest) .earliest) in
-    let y = tooFar n (t .distance) (valueOr 0 (s .maxDistance)) in
-    let z = tooLong n (t .duration) (valueOr 0 (s .maxDuration)) in
+    let A = not (placed (s .head .rest) (r .place) (length (r .calls)) (t .duration)) in
+    let B = not (within (s .head .maxDistance) (t .distance)) in
+    let C = not (within (s .head .maxDuration) (t .duration)) in
+    let x = breakMissing n (t .duration) (breakOr (s .head .rest) .earliest) in
+    let y = tooFar n (t .distance) (valueOr 0 (s .head .maxDistance)) in
+    let z = tooLong n (t .duration) (valueOr 0 (s .head .maxDuration)) in
     fault-or (given A x) (orElse (given B y) (given C z)) (fault-one x refl A) (fault-or (given B y) (given C z) (fault-one y refl B) (fault-one z refl C))
 
 run-fault : (s : Sheet) (n : ℕ) (r : Run) → Fault (runFault s n r)
 unfolding runFault
 run-fault s n r =
-    let x = overload n (load s (r .calls)) (s .capacity) in
+    let x = overload n (load s (r .calls) .seats) (s .head .capacity .seats) in
     let A = not (fits s (r .calls)) in
     let w = walkFault s n (r .place) 1 0 start (r .calls) in
     fault-or (given A x) (orElse w (ride s r >>= totalFault s n r)) (fault-one x refl A)
@@ -215,7 +217,7 @@ module _ (planner cost : ℕ) where
   against-is v (below e h) = rw (le-ltb planner cost (omega arith), lt-ltb cost planner (omega arith)) (ap cheaper (omega arith))
 
 -- without a break on the sheet every legal run is as the clock has it
-plain-by-clock : (s : Sheet) → s .rest ≡ none → (rs : List Run) → legalCutting s rs ≡ true → byClock s rs ≡ true
+plain-by-clock : (s : Sheet) → s .head .rest ≡ none → (rs : List Run) → legalCutting s rs ≡ true → byClock s rs ≡ true
 unfolding placed
 plain-by-clock s e [] h = refl
 plain-by-clock s e (r ∷ rs) h =
@@ -248,7 +250,8 @@ module _ (s : Sheet) (tour : List ℕ) (rs : List Run) (shaped : all (λ r. not 
   priced-cuts : isPriced (mark s tour rs) ≡ true → Cuts s tour rs
   priced-cuts h = go (differ 1 (joined rs) (splitTw s tour .served)) refl
     where
-      at : differ 1 (joined rs) (splitTw s tour .served) ≡ none → (o : Option Verdict) → firstFault s 1 rs ≡ o → isPriced (valueOr (against (plannerCost s tour) (cuttingCost s rs)) o) ≡ true → Cuts s tour rs
+      at : differ 1 (joined rs) (splitTw s tour .served) ≡ none → (o : Option Verdict) → firstFault s 1 rs ≡ o → isPriced (valueOr (against (plannerCost s tour) (cuttingCost s rs)) o) ≡ true
+          → Cuts s tour rs
       at e (some v) f k = not-both (isPriced v) k (first-fault s 1 rs v f)
       at e none f k = (differ-same 1 (joined rs) (splitTw s tour .served) e, unmarked-runs s 1 rs shaped f)
 
@@ -286,10 +289,10 @@ module _ (s : Sheet) (tour : List ℕ) (rs : List Run) (shaped : all (λ r. not 
       (λ h. let y = x .0 h in let z = is-below _ _ d (y .1) in (y .0, z .0, z .1), λ y. x .1 (y .0, below (y .1) (y .2)))
 
   -- Cheaper occurs only with lateness pay and a break
-  pub cheaper-only : (d : ℕ) → mark s tour rs ≡ cheaper d → (latenessPay s ≡ true) × (present (s .rest) ≡ true)
+  pub cheaper-only : (d : ℕ) → mark s tour rs ≡ cheaper d → (latenessPay s ≡ true) × (present (s .head .rest) ≡ true)
   cheaper-only d h = (
     by-test (latenessPay s) (λ t. t) (λ f. off (P .least-free f rs (c .0 .0) (c .0 .1)) (c .1) (c .2)),
-    by-rest (s .rest) refl,
+    by-rest (s .head .rest) refl,
   )
     where
       P : Promise s tour (splitTw s tour)
@@ -301,7 +304,7 @@ module _ (s : Sheet) (tour : List ℕ) (rs : List Run) (shaped : all (λ r. not 
       off : {A : Type 0} {a b d : ℕ} → b ≤ a → b ≡ a + d → 0 < d → A
       off p q r = absurd (omega arith)
 
-      by-rest : (o : Option Break) → s .rest ≡ o → present o ≡ true
+      by-rest : (o : Option Break) → s .head .rest ≡ o → present o ≡ true
       by-rest (some b) e = refl
       by-rest none e = off (P .least-clock rs (c .0 .0) (c .0 .1, clock-runs s rs (plain-by-clock s e rs (c .0 .1)))) (c .1) (c .2)
 

@@ -9,9 +9,10 @@ use mathlib.Core.Option.{Option, none, some}
 use lib.ListN.{length, getD, length-append, length-map}
 use lib.Dec.{ltb, leb, eqb}
 use borrow.Author.Tests.{ltb-false, le-ltb, leb-true, eqb-true, eq-eqb, ne-eqb}
-use Rattle.basics.specs.Tests.{both, or-left, or-right, or-false}
+use Rattle.basics.proofs.TestLaws.{both, or-left, or-right, or-false}
 use Rattle.basics.specs.Options.{present}
-use Rattle.basics.specs.Lists.{isEmpty, any, count, length-count}
+use Rattle.basics.specs.Lists.{isEmpty, any, count}
+use Rattle.basics.proofs.ListLaws.{length-count}
 use Rattle.definitions.specs.Domain.{isCall, mostCalls}
 use Rattle.definitions.specs.Sheet.{Break, Sheet, mapBreak}
 use Rattle.definitions.specs.Run.{Run, placed, legal}
@@ -50,7 +51,8 @@ module _ (Q : ℕ → Bool) where
 
   tour-fails : (tour : List ℕ) (p n : ℕ) → p + n ≤ length tour → any Q tour ≡ false → any Q (callsAt tour (count (suc p) n)) ≡ false
   tour-fails tour p zero h e = refl
-  tour-fails tour p (suc n) h e = or-false (Q (callAt tour (suc p))) _ (subst (λ (i : ℕ). Q (getD tour i 0) ≡ false) (omega arith) (fails-at tour p (omega (arith, h)) e)) (tour-fails tour (suc p) n (omega (arith, h)) e)
+  tour-fails tour p (suc n) h e =
+      or-false (Q (callAt tour (suc p))) _ (subst (λ (i : ℕ). Q (getD tour i 0) ≡ false) (omega arith) (fails-at tour p (omega (arith, h)) e)) (tour-fails tour (suc p) n (omega (arith, h)) e)
 
 served-in-range : (places : ℕ) (tour : List ℕ) {held dropped : List ℕ} → Parts (count 1 (length tour)) held dropped → badCalls places tour ≡ false → badCalls places (callsAt tour held) ≡ false
 served-in-range places tour {held} p b =
@@ -87,14 +89,14 @@ module _ (s : Sheet) where
       or-false (eqb (p + length (r .calls)) p) _ (ne-eqb (p + length (r .calls)) p (λ e. absurd (omega (arith, e, filled (r .calls) (L .some-calls)))))
       (none-empty (p + length (r .calls)) rs (b .1))
 
-  none-beyond : (p : ℕ) (rs : List Run) → legalCutting s rs ≡ true → breakBeyond (present (s .rest)) p (endsFrom p (callsIn rs)) (map (λ r. r .place) rs) ≡ false
+  none-beyond : (p : ℕ) (rs : List Run) → legalCutting s rs ≡ true → breakBeyond (present (s .head .rest)) p (endsFrom p (callsIn rs)) (map (λ r. r .place) rs) ≡ false
   none-beyond p [] h = refl
   none-beyond p (r ∷ rs) h =
       let b = both (legal s r) _ h in
       let (t, L) = legal-has s r (b .0) in
-      or-false (ltb (cond (present (s .rest)) (p + length (r .calls) - p) 0) (r .place)) _
-      (le-ltb (cond (present (s .rest)) (p + length (r .calls) - p) 0) (r .place)
-      (subst (λ (n : ℕ). r .place ≤ cond (present (s .rest)) n 0) (omega arith) (placed-in (s .rest) (r .place) (length (r .calls)) (t .duration) (L .break-placed))))
+      or-false (ltb (cond (present (s .head .rest)) (p + length (r .calls) - p) 0) (r .place)) _
+      (le-ltb (cond (present (s .head .rest)) (p + length (r .calls) - p) 0) (r .place)
+      (subst (λ (n : ℕ). r .place ≤ cond (present (s .head .rest)) n 0) (omega arith) (placed-in (s .head .rest) (r .place) (length (r .calls)) (t .duration) (L .break-placed))))
       (none-beyond (p + length (r .calls)) rs (b .1))
 
   few-runs : (rs : List Run) → legalCutting s rs ≡ true → length rs ≤ length (joined rs)
@@ -125,9 +127,9 @@ module _ {F : Type 0} (value : F → Option ℕ) (l : Lent F) where
     P : Promise s (l .tour) plan
     P = promised s (l .tour)
 
-    own-calls : badCalls (l .sheet .places) (plan .served) ≡ false
+    own-calls : badCalls (l .sheet .head .places) (plan .served) ≡ false
     unfolding wholeSheet
-    own-calls = subst (λ (c : List ℕ). badCalls (l .sheet .places) c ≡ false) (P .served-are) (served-in-range (l .sheet .places) (l .tour) (P .parted) (A .tour))
+    own-calls = subst (λ (c : List ℕ). badCalls (l .sheet .head .places) c ≡ false) (P .served-are) (served-in-range (l .sheet .head .places) (l .tour) (P .parted) (A .tour))
 
     many : length (plan .ends) ≡ length (P .runs)
     many = ap length (sym (P .ends-are)) ∙ ends-many 0 (callsIn (P .runs)) ∙ length-map (P .runs) (λ r. r .calls)
@@ -138,15 +140,21 @@ module _ {F : Type 0} (value : F → Option ℕ) (l : Lent F) where
         record {
           few =
               le-ltb mostCalls (length (plan .ends))
-              (omega (arith, many, few-runs s (P .runs) (P .all-legal), ap length (P .cuts), ltb-false mostCalls (length (plan .served)) (calls-in-range (l .sheet .places) (plan .served) own-calls .few)));
+              (omega (
+                arith,
+                many,
+                few-runs s (P .runs) (P .all-legal),
+                ap length (P .cuts),
+                ltb-false mostCalls (length (plan .served)) (calls-in-range (l .sheet .head .places) (plan .served) own-calls .few),
+              ));
           ends =
               subst (λ (e : List ℕ). endsFall 0 e (length (plan .served)) ≡ false) (P .ends-are)
               (ends-rise 0 (callsIn (P .runs)) (length (plan .served)) (zero-add (length (joined (P .runs))) ∙ ap length (P .cuts)));
           some-call = subst (λ (e : List ℕ). emptyRun 0 e ≡ false) (P .ends-are) (none-empty s 0 (P .runs) (P .all-legal));
           breaks =
-              subst (λ (b : Bool). breakBeyond b 0 (plan .ends) (plan .places) ≡ false) (present-same (mapBreak (whole value)) (l .sheet .rest))
-              (subst (λ (e : List ℕ). breakBeyond (present (s .rest)) 0 e (plan .places) ≡ false) (P .ends-are)
-              (subst (λ (b : List ℕ). breakBeyond (present (s .rest)) 0 (endsFrom 0 (callsIn (P .runs))) b ≡ false) (P .places-are) (none-beyond s 0 (P .runs) (P .all-legal))));
+              subst (λ (b : Bool). breakBeyond b 0 (plan .ends) (plan .places) ≡ false) (present-same (mapBreak (whole value)) (l .sheet .head .rest))
+              (subst (λ (e : List ℕ). breakBeyond (present (s .head .rest)) 0 e (plan .places) ≡ false) (P .ends-are)
+              (subst (λ (b : List ℕ). breakBeyond (present (s .head .rest)) 0 (endsFrom 0 (callsIn (P .runs))) b ≡ false) (P .places-are) (none-beyond s 0 (P .runs) (P .all-legal))));
         }
 
     -- the marker accepts it where the cutting accepts the sheet and its tour

@@ -8,8 +8,8 @@ use mathlib.Core.List.{List, [], _∷_}
 use mathlib.Core.Option.{Option, none, some}
 use lib.ListN.{length, take, length-map}
 use lib.Seq.{take-length}
-use Rattle.basics.specs.Tests.{both, and-true}
-use Rattle.basics.specs.Options.{same, held}
+use Rattle.basics.proofs.TestLaws.{both, and-true}
+use Rattle.basics.proofs.OptionLaws.{same, held}
 use Rattle.definitions.specs.Sheet.{Sheet}
 use Rattle.definitions.specs.Run.{Run, legal, runCost}
 use Rattle.definitions.specs.Clock.{Arc}

@@ -10,8 +10,9 @@ use mathlib.Core.Option.{Option, none, some}
 use lib.ListN.{length}
 use lib.Dec.{ltb, eqb}
 use borrow.Author.Tests.{ltb-true, ltb-false, eqb-true, eq-eqb, ne-eqb}
-use Rattle.basics.specs.Tests.{by-test, not-both}
-use Rattle.basics.specs.Options.{_>>=_, same, clash, bound}
+use Rattle.basics.proofs.TestLaws.{by-test, not-both}
+use Rattle.basics.specs.Options.{_>>=_}
+use Rattle.basics.proofs.OptionLaws.{same, clash, bound}
 use Rattle.definitions.specs.Sheet.{Break, Sheet, time}
 use Rattle.definitions.specs.Run.{Label, start, serve, breakAt, serveAll}
 use Rattle.definitions.specs.Clock.{Clock, smaller, sooner, tick, clockFrom}
@@ -62,7 +63,7 @@ pub record Kept (k : ℕ) (x : Clock) (G : ℕ → Option Label) : Type 0 where
   -- and no place is earlier
   pub least : (p : ℕ) → 0 < p → p < k → NoLater (x .after) (G p)
 
-module _ (s : Sheet) (b : Break) (rest : s .rest ≡ some b) where
+module _ (s : Sheet) (b : Break) (rest : s .head .rest ≡ some b) where
   at-here : (k : ℕ) → breakAt s k k ≡ some b
   at-here k = rw (eq-eqb k k refl, rest) refl
 

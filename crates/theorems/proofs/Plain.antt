@@ -6,8 +6,9 @@ use mathlib.Core.Bool.{Bool, true, false, cond, _&&_}
 use mathlib.Core.List.{List, [], _∷_}
 use mathlib.Core.Option.{Option, none, some}
 use lib.ListN.{getD}
-use Rattle.basics.specs.Tests.{falses, or-left, or-right}
-use Rattle.basics.specs.Options.{present, absent}
+use Rattle.basics.proofs.TestLaws.{falses, or-left, or-right}
+use Rattle.basics.specs.Options.{present}
+use Rattle.basics.proofs.OptionLaws.{absent}
 use Rattle.basics.specs.Lists.{any}
 use Rattle.definitions.specs.Sheet.{Break, Customer, Sheet, depot, customer, time}
 use Rattle.definitions.specs.Window.{enter}
@@ -20,15 +21,15 @@ use Rattle.theorems.proofs.Legality.{plain, clocked}
 -- no window, limit or break
 pub record Plain (s : Sheet) : Type 0 where
   pub no-window : any (λ c. present (c .window)) (s .customers) ≡ false
-  pub no-distance : s .maxDistance ≡ none
-  pub no-duration : s .maxDuration ≡ none
-  pub no-break : s .rest ≡ none
+  pub no-distance : s .head .maxDistance ≡ none
+  pub no-duration : s .head .maxDuration ≡ none
+  pub no-break : s .head .rest ≡ none
 
 -- what no window, limit or break leaves out
 pub plain-of : (s : Sheet) → checksNeeded s ≡ false → Plain s
 unfolding checksNeeded
 plain-of s h =
-    let f = falses (any (λ c. present (c .window)) (s .customers) ∷ present (s .maxDistance) ∷ present (s .maxDuration) ∷ present (s .rest) ∷ []) h in
+    let f = falses (any (λ c. present (c .window)) (s .customers) ∷ present (s .head .maxDistance) ∷ present (s .head .maxDuration) ∷ present (s .head .rest) ∷ []) h in
     record { no-window = f .0; no-distance = absent (f .1 .0); no-duration = absent (f .1 .1 .0); no-break = absent (f .1 .1 .1 .0) }
 
 window-none : (l : List Customer) → any (λ c. present (c .window)) l ≡ false → (k : ℕ) → getD l k depot .window ≡ none
@@ -74,7 +75,8 @@ module _ (s : Sheet) (P : Plain s) where
       let m = served-clean 1 0 start calls (refl, refl) in
       let t = home s calls (m .0) in (
         m .0,
-        clocked s calls (m .0) (ap (λ (o : Option Break). counts o (time s (lastOf 0 calls) 0) (clockFrom s 1 0 (record { before = some start; after = none }) calls)) (P .no-break) ∙ plain s calls ∙ m .1),
-        ap (λ (o : Option ℕ). within o (t .distance) && within (s .maxDuration) (t .duration)) (P .no-distance) ∙ ap (λ (o : Option ℕ). within o (t .duration)) (P .no-duration),
+        clocked s calls (m .0) (ap (λ (o : Option Break). counts o (time s (lastOf 0 calls) 0) (clockFrom s 1 0 (record { before = some start; after = none }) calls)) (P .no-break) ∙ plain s calls
+            ∙ m .1),
+        ap (λ (o : Option ℕ). within o (t .distance) && within (s .head .maxDuration) (t .duration)) (P .no-distance) ∙ ap (λ (o : Option ℕ). within o (t .duration)) (P .no-duration),
         m .2,
       )

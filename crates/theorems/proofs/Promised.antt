@@ -9,8 +9,9 @@ use mathlib.Core.Option.{Option}
 use lib.ListN.{length, take, length-map}
 use lib.Dec.{eqb}
 use borrow.Author.Tests.{eqb-true, eq-eqb}
-use Rattle.basics.specs.Tests.{both, and-true}
-use Rattle.basics.specs.Options.{holds, same}
+use Rattle.basics.proofs.TestLaws.{both, and-true}
+use Rattle.basics.specs.Options.{holds}
+use Rattle.basics.proofs.OptionLaws.{same}
 use Rattle.basics.specs.Lists.{all, sum, In, Rising, count}
 use Rattle.definitions.specs.Sheet.{Sheet, latenessPay}
 use Rattle.definitions.specs.Run.{Run, distanceFrom, Totals, legal, runCost}
@@ -18,7 +19,7 @@ use Rattle.definitions.specs.Clock.{clock, placeOr, Arc, arc}
 use Rattle.definitions.specs.Cutting.{callsIn, joined, runEnds, legalCutting, cuttingCost}
 use Rattle.definitions.specs.Drop.{callAt, callsAt, drops, Result, splitTw}
 use Rattle.definitions.specs.Promise.{HasCutting, clockRun, ClockRival, Ties}
-use Rattle.definitions.specs.Clauses.{LeastFree, LeastByClock, Settled, Divided}
+use Rattle.definitions.specs.Clauses.{LeastFree, LeastByClock, Drops, Partition}
 use Rattle.theorems.proofs.Dropping.{settled, parts-either, parts-not-both, parts-rise, count-rises, drops-parts}
 use Rattle.theorems.proofs.Least.{Made, costIn, worth}
 use Rattle.theorems.proofs.Legality.{arc-clock, arc-legal, legal-arc, free-cost}
@@ -50,8 +51,8 @@ pub record Promise (s : Sheet) (tour : List ℕ) (x : Result) : Type 0 where
   -- of equal cost the earlier cut point is kept
   pub ties : Ties s (ClockRival s) runs
   -- the drop rule, and every position served or dropped
-  pub drop-rule : Settled s tour held (x .dropped)
-  pub parted : Divided tour held (x .dropped)
+  pub drop-rule : Drops s tour held (x .dropped)
+  pub parted : Partition tour held (x .dropped)
 
 -- ---- the clock's
 
@@ -61,7 +62,7 @@ module _ (s : Sheet) where
   clock-runs [] h = refl
   clock-runs (r ∷ rs) h =
       let b = both (holds (clock s (r .calls)) (λ t. eqb (t .place) (r .place))) _ h in
-      let t = Rattle.basics.specs.Options.held (clock s (r .calls)) _ (b .0) in
+      let t = Rattle.basics.proofs.OptionLaws.held (clock s (r .calls)) _ (b .0) in
       ap₂ (λ (x : Run) (l : List Run). x ∷ l)
       (ap (λ (p : ℕ). record { calls = r .calls; place = p }) (ap placeOr (t .1) ∙ eqb-true (t .0 .place) (r .place) (t .2)))
       (clock-runs rs (b .1))
@@ -102,7 +103,7 @@ module _ (s : Sheet) where
       let c = both (holds (clock s (r .calls)) (λ t. eqb (t .place) (r .place))) _ k in
       let a = legal-arc s r (b .0) in
       let y = arc-clock s (r .calls) (a .0) (a .1) in
-      let t = Rattle.basics.specs.Options.held (clock s (r .calls)) _ (c .0) in
+      let t = Rattle.basics.proofs.OptionLaws.held (clock s (r .calls)) _ (c .0) in
       let p : a .0 .place ≡ r .place =
       sym (ap (λ (x : Arc). x .place) (y .3)) ∙ ap (λ (x : Totals). x .place) (same (sym (y .1) ∙ t .1)) ∙ eqb-true (t .0 .place) (r .place) (t .2) in
       plus (subst (λ (n : ℕ). runCost s (record { calls = r .calls; place = n }) ≡ a .0 .cost) p (arc-legal s (r .calls) (a .0) (a .1) .1) ∙ sym (ap costIn (a .1))) (clock-worth rs (b .1) (c .1))
@@ -130,7 +131,8 @@ module _ (s : Sheet) (tour : List ℕ) where
         adds-up = k .3;
         least-free = λ z rs j l. cut-least s (arc s) C tour rs j l (at-least rs (free-worth s z rs l));
         least-clock = λ rs j R. cut-least s (arc s) C tour rs j (R .0) (at-least rs (clock-worth s rs (R .0) (runs-clock s rs (R .0) (R .1))));
-        ties = ties-early s (arc s) C (ClockRival s) (λ rs R. R .0) (λ rs R. at-least rs (clock-worth s rs (R .0) (runs-clock s rs (R .0) (R .1)))) (calls s (arc s) C tour) m (cut s (arc s) C tour .1);
+        ties =
+            ties-early s (arc s) C (ClockRival s) (λ rs R. R .0) (λ rs R. at-least rs (clock-worth s rs (R .0) (runs-clock s rs (R .0) (R .1)))) (calls s (arc s) C tour) m (cut s (arc s) C tour .1);
         drop-rule = drop-rule s (arc s) C tour;
         parted = drops-parts (arc s) tour (no-empty s (arc s) C);
       })

@@ -1,20 +1,22 @@
 -- The tests of the refusals by name: what is known where a test of several fails, and that all of it together is that test.
 use Prim.Native.Nat.{ℕ, zero, suc, _*_}
-use mathlib.Core.Path.{_≡_, refl, sym}
+use mathlib.Core.Path.{_≡_, refl}
 use mathlib.Core.Bool.{Bool, false, _&&_, _||_, not}
 use mathlib.Core.List.{List, [], _∷_}
 use mathlib.Core.Option.{Option, none, some}
 use lib.ListN.{length, getD}
 use lib.Dec.{ltb, eqb}
-use Rattle.basics.specs.Tests.{by-test, or-left, or-right, either}
-use Rattle.basics.specs.Options.{clash, present}
+use Rattle.basics.proofs.TestLaws.{or-left, or-right}
+use Rattle.basics.specs.Tests.{either}
+use Rattle.basics.specs.Options.{present}
 use Rattle.basics.specs.Lists.{isEmpty, any}
 use Rattle.definitions.specs.Domain.{isPlaces, isCapacity, isDemand, isPenalty, isNumber, isCall, mostCalls}
-use Rattle.definitions.specs.Sheet.{WindowOf, BreakOf, CustomerOf, SheetOf, records, anySoft}
-use Rattle.definitions.specs.Refusal.{Refusal, firstFit}
+use Rattle.definitions.specs.Load.{eachOf}
+use Rattle.definitions.specs.Sheet.{WindowOf, BreakOf, CustomerOf, SheetOf, records}
 use Rattle.definitions.specs.Room.{short}
 use Rattle.definitions.specs.Lent.{Lent, Call}
 use Rattle.definitions.specs.Refusals.{tooShort, tablesOdd, badCalls, badTour, badRunList, unfit, badOptional, badBreak, badWindow, badCustomer, badDepot, badSheet, outOfRange, windowFalls, breakFalls, pairsFall, endsFall, emptyRun, breakBeyond, runsOdd, refusals, refusalOf}
+use Rattle.theorems.proofs.InOrder.{testOf, none-fits}
 
 -- ---- several tests that all fail, each by its number from 0
 
@@ -23,18 +25,10 @@ each [] h k = refl
 each (b ∷ bs) h zero = or-left b (either bs) h
 each (b ∷ bs) h (suc k) = each bs (or-right b (either bs) h) k
 
-abbrev fits : List Refusal → List Bool
-fits [] = []
-fits (r ∷ rs) = r .fits ∷ fits rs
-
-none-fits : (rs : List Refusal) → firstFit rs ≡ none → either (fits rs) ≡ false
-none-fits [] h = refl
-none-fits (r ∷ rs) h = by-test (r .fits) (λ t. clash (sym (rw t at h))) (λ f. rw f (none-fits rs (rw f at h)))
-
 -- ---- 13
 
 pub record LongEnough {F : Type 0} (k : Call) (l : Lent F) : Type 0 where
-  pub customers : ltb (length (l .sheet .customers)) (l .sheet .places) ≡ false
+  pub customers : ltb (length (l .sheet .customers)) (l .sheet .head .places) ≡ false
   pub results : short (k .needs (length (l .tour)) (length (l .calls)) (length (l .ends))) (l .rooms) ≡ false
   pub breaks : k .marks && ltb (length (l .breaks)) (length (l .ends)) ≡ false
 
@@ -42,7 +36,7 @@ pub long-enough : {F : Type 0} (k : Call) (l : Lent F) → tooShort k l ≡ fals
 long-enough k l h =
     let f =
     each
-    (ltb (length (l .sheet .customers)) (l .sheet .places)
+    (ltb (length (l .sheet .customers)) (l .sheet .head .places)
     ∷ short (k .needs (length (l .tour)) (length (l .calls)) (length (l .ends))) (l .rooms)
     ∷ (k .marks && ltb (length (l .breaks)) (length (l .ends)))
     ∷ []) h
@@ -52,13 +46,13 @@ long-enough k l h =
 -- ---- 14
 
 pub record TablesEven {F : Type 0} (s : SheetOf F) : Type 0 where
-  pub distances : not (eqb (length (s .distances)) (s .places * s .places)) ≡ false
-  pub times : not (isEmpty (s .times) || eqb (length (s .times)) (s .places * s .places)) ≡ false
+  pub distances : not (eqb (length (s .legs .distances)) (s .head .places * s .head .places)) ≡ false
+  pub times : not (isEmpty (s .legs .times) || eqb (length (s .legs .times)) (s .head .places * s .head .places)) ≡ false
 
 pub tables-even : {F : Type 0} (s : SheetOf F) → tablesOdd s ≡ false → TablesEven s
 tables-even s h =
-    let d = not (eqb (length (s .distances)) (s .places * s .places)) in
-    let t = not (isEmpty (s .times) || eqb (length (s .times)) (s .places * s .places)) in
+    let d = not (eqb (length (s .legs .distances)) (s .head .places * s .head .places)) in
+    let t = not (isEmpty (s .legs .times) || eqb (length (s .legs .times)) (s .head .places * s .head .places)) in
     record { distances = or-left d t h; times = or-right d t h }
 
 pub even-tables : {F : Type 0} (s : SheetOf F) → TablesEven s → tablesOdd s ≡ false
@@ -109,14 +103,14 @@ module _ {F : Type 0} (value : F → Option ℕ) where
   range-window w R = rw (R .ready, R .due)
 
   pub record CustomerInRange (c : CustomerOf F) : Type 0 where
-    pub demand : not (isDemand (c .demand)) ≡ false
+    pub demand : not (eachOf isDemand (c .demand)) ≡ false
     pub service : unfit value isNumber (c .service) ≡ false
     pub window : badWindow value (c .window) ≡ false
     pub penalty : badOptional value isPenalty (c .penalty) ≡ false
 
   pub customer-in-range : (c : CustomerOf F) → badCustomer value c ≡ false → CustomerInRange c
   customer-in-range c h =
-      let f = each (not (isDemand (c .demand)) ∷ unfit value isNumber (c .service) ∷ badWindow value (c .window) ∷ badOptional value isPenalty (c .penalty) ∷ []) h in
+      let f = each (not (eachOf isDemand (c .demand)) ∷ unfit value isNumber (c .service) ∷ badWindow value (c .window) ∷ badOptional value isPenalty (c .penalty) ∷ []) h in
       record { demand = f 0; service = f 1; window = f 2; penalty = f 3 }
 
   pub range-customer : (c : CustomerOf F) → CustomerInRange c → badCustomer value c ≡ false
@@ -124,14 +118,14 @@ module _ {F : Type 0} (value : F → Option ℕ) where
 
   -- a depot's record has nothing in it
   pub record DepotInRange (c : CustomerOf F) : Type 0 where
-    pub demand : not (eqb (c .demand) 0) ≡ false
+    pub demand : not (eachOf (λ (n : ℕ). eqb n 0) (c .demand)) ≡ false
     pub service : unfit value (λ (n : ℕ). eqb n 0) (c .service) ≡ false
     pub window : present (c .window) ≡ false
     pub penalty : present (c .penalty) ≡ false
 
   pub depot-in-range : (c : CustomerOf F) (cs : List (CustomerOf F)) → badDepot value (c ∷ cs) ≡ false → DepotInRange c
   depot-in-range c cs h =
-      let f = each (not (eqb (c .demand) 0) ∷ unfit value (λ (n : ℕ). eqb n 0) (c .service) ∷ present (c .window) ∷ present (c .penalty) ∷ []) h in
+      let f = each (not (eachOf (λ (n : ℕ). eqb n 0) (c .demand)) ∷ unfit value (λ (n : ℕ). eqb n 0) (c .service) ∷ present (c .window) ∷ present (c .penalty) ∷ []) h in
       record { demand = f 0; service = f 1; window = f 2; penalty = f 3 }
 
   pub range-depot : (c : CustomerOf F) (cs : List (CustomerOf F)) → DepotInRange c → badDepot value (c ∷ cs) ≡ false
@@ -140,16 +134,16 @@ module _ {F : Type 0} (value : F → Option ℕ) where
   -- ---- 1, of a sheet
 
   pub record InRange (s : SheetOf F) : Type 0 where
-    pub places : not (isPlaces (s .places)) ≡ false
-    pub capacity : not (isCapacity (s .capacity)) ≡ false
-    pub fixed : unfit value isNumber (s .fixed) ≡ false
-    pub maxDistance : badOptional value isNumber (s .maxDistance) ≡ false
-    pub maxDuration : badOptional value isNumber (s .maxDuration) ≡ false
-    pub rest : badBreak value (s .rest) ≡ false
+    pub places : not (isPlaces (s .head .places)) ≡ false
+    pub capacity : not (eachOf isCapacity (s .head .capacity)) ≡ false
+    pub fixed : unfit value isNumber (s .head .fixed) ≡ false
+    pub maxDistance : badOptional value isNumber (s .head .maxDistance) ≡ false
+    pub maxDuration : badOptional value isNumber (s .head .maxDuration) ≡ false
+    pub rest : badBreak value (s .head .rest) ≡ false
     pub depot : badDepot value (records s) ≡ false
     pub customers : any (badCustomer value) (records s) ≡ false
-    pub distances : any (unfit value isNumber) (s .distances) ≡ false
-    pub times : any (unfit value isNumber) (s .times) ≡ false
+    pub distances : any (unfit value isNumber) (s .legs .distances) ≡ false
+    pub times : any (unfit value isNumber) (s .legs .times) ≡ false
 
   pub in-range : (s : SheetOf F) → badSheet value s ≡ false → InRange s
   unfolding badSheet
@@ -169,16 +163,16 @@ module _ {F : Type 0} (value : F → Option ℕ) where
     where
       tests : List Bool
       tests =
-          not (isPlaces (s .places))
-          ∷ not (isCapacity (s .capacity))
-          ∷ unfit value isNumber (s .fixed)
-          ∷ badOptional value isNumber (s .maxDistance)
-          ∷ badOptional value isNumber (s .maxDuration)
-          ∷ badBreak value (s .rest)
+          not (isPlaces (s .head .places))
+          ∷ not (eachOf isCapacity (s .head .capacity))
+          ∷ unfit value isNumber (s .head .fixed)
+          ∷ badOptional value isNumber (s .head .maxDistance)
+          ∷ badOptional value isNumber (s .head .maxDuration)
+          ∷ badBreak value (s .head .rest)
           ∷ badDepot value (records s)
           ∷ any (badCustomer value) (records s)
-          ∷ any (unfit value isNumber) (s .distances)
-          ∷ any (unfit value isNumber) (s .times)
+          ∷ any (unfit value isNumber) (s .legs .distances)
+          ∷ any (unfit value isNumber) (s .legs .times)
           ∷ []
 
       f : (k : ℕ) → getD tests k false ≡ false
@@ -204,13 +198,13 @@ module _ {F : Type 0} (value : F → Option ℕ) where
 
   pub record LentInRange (l : Lent F) : Type 0 where
     pub sheet : badSheet value (l .sheet) ≡ false
-    pub tour : badTour (l .sheet .places) (l .tour) ≡ false
-    pub run-list : badRunList (l .sheet .places) (l .calls) ≡ false
+    pub tour : badTour (l .sheet .head .places) (l .tour) ≡ false
+    pub run-list : badRunList (l .sheet .head .places) (l .calls) ≡ false
 
   pub lent-in-range : (l : Lent F) → outOfRange value l ≡ false → LentInRange l
   unfolding outOfRange
   lent-in-range l h =
-      let f = each (badSheet value (l .sheet) ∷ badTour (l .sheet .places) (l .tour) ∷ badRunList (l .sheet .places) (l .calls) ∷ []) h in
+      let f = each (badSheet value (l .sheet) ∷ badTour (l .sheet .head .places) (l .tour) ∷ badRunList (l .sheet .head .places) (l .calls) ∷ []) h in
       record { sheet = f 0; tour = f 1; run-list = f 2 }
 
   pub range-lent : (l : Lent F) → LentInRange l → outOfRange value l ≡ false
@@ -220,13 +214,13 @@ module _ {F : Type 0} (value : F → Option ℕ) where
   -- ---- 2
 
   pub record PairsRise (s : SheetOf F) : Type 0 where
-    pub rest : breakFalls value (s .rest) ≡ false
+    pub rest : breakFalls value (s .head .rest) ≡ false
     pub windows : any (λ (c : CustomerOf F). windowFalls value (c .window)) (records s) ≡ false
 
   pub pairs-rise : (s : SheetOf F) → pairsFall value s ≡ false → PairsRise s
   unfolding pairsFall
   pairs-rise s h =
-      let b = breakFalls value (s .rest) in
+      let b = breakFalls value (s .head .rest) in
       let w = any (λ (c : CustomerOf F). windowFalls value (c .window)) (records s) in
       record { rest = or-left b w h; windows = or-right b w h }
 
@@ -236,31 +230,15 @@ module _ {F : Type 0} (value : F → Option ℕ) where
 
   -- ---- the list of refusals
 
-  -- each refusal of the list, in its order
-  pub record NotRefused (k : Call) (l : Lent F) : Type 0 where
-    pub long-13 : tooShort k l ≡ false
-    pub tables-14 : tablesOdd (l .sheet) ≡ false
-    pub range-1 : outOfRange value l ≡ false
-    pub pairs-2 : pairsFall value (l .sheet) ≡ false
-    pub runs-5 : runsOdd k l ≡ false
-    pub pay-4 : k .improves && anySoft (records (l .sheet)) ≡ false
+  -- the test of this number, as the list has it
+  abbrev pub fitsBy : ℕ → Call → Lent F → Bool
+  unfolding refusals
+  fitsBy n k l = testOf n (refusals value k l)
 
-  pub not-refused : (k : Call) (l : Lent F) → refusalOf value k l ≡ none → NotRefused k l
+  -- where the call is accepted it fails, as `not-refused k l h 13 : tooShort k l ≡ false`
+  pub not-refused : (k : Call) (l : Lent F) → refusalOf value k l ≡ none → (n : ℕ) → fitsBy n k l ≡ false
   unfolding refusalOf refusals
-  not-refused k l h =
-      let f = each (fits (refusals value k l)) (none-fits (refusals value k l) h) in
-      record {
-        long-13 = f 0;
-        tables-14 = f 1;
-        range-1 = f 2;
-        pairs-2 = f 3;
-        runs-5 = f 4;
-        pay-4 = f 5;
-      }
-
-  pub none-refused : (k : Call) (l : Lent F) → NotRefused k l → refusalOf value k l ≡ none
-  unfolding refusalOf refusals
-  none-refused k l N = rw (N .long-13, N .tables-14, N .range-1, N .pairs-2, N .runs-5, N .pay-4)
+  not-refused k l h n = none-fits (refusals value k l) h n
 
 -- ---- 5
 
@@ -268,7 +246,7 @@ pub record RunsEven {F : Type 0} (k : Call) (l : Lent F) : Type 0 where
   pub few : k .takesEnds && ltb mostCalls (length (l .ends)) ≡ false
   pub ends : k .takesEnds && endsFall 0 (l .ends) (length (l .calls)) ≡ false
   pub some-call : k .marks && emptyRun 0 (l .ends) ≡ false
-  pub breaks : k .marks && breakBeyond (present (l .sheet .rest)) 0 (l .ends) (l .breaks) ≡ false
+  pub breaks : k .marks && breakBeyond (present (l .sheet .head .rest)) 0 (l .ends) (l .breaks) ≡ false
 
 pub runs-even : {F : Type 0} (k : Call) (l : Lent F) → runsOdd k l ≡ false → RunsEven k l
 runs-even k l h =
@@ -277,7 +255,7 @@ runs-even k l h =
     ((k .takesEnds && ltb mostCalls (length (l .ends)))
     ∷ (k .takesEnds && endsFall 0 (l .ends) (length (l .calls)))
     ∷ (k .marks && emptyRun 0 (l .ends))
-    ∷ (k .marks && breakBeyond (present (l .sheet .rest)) 0 (l .ends) (l .breaks))
+    ∷ (k .marks && breakBeyond (present (l .sheet .head .rest)) 0 (l .ends) (l .breaks))
     ∷ []) h
     in
     record { few = f 0; ends = f 1; some-call = f 2; breaks = f 3 }

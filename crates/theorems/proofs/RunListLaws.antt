@@ -5,7 +5,8 @@ use mathlib.Core.Path.{_≡_, refl, ap, subst, _∙_}
 use mathlib.Core.List.{List, [], _∷_, _++_}
 use lib.ListN.{length, take, drop, length-drop, take-append-drop}
 use lib.Seq.{take-append-seam, drop-append-seam, length-take-le}
-use Rattle.basics.specs.Lists.{sum, sum-append}
+use Rattle.basics.specs.Lists.{sum}
+use Rattle.basics.proofs.ListLaws.{sum-append}
 use Rattle.definitions.specs.RunList.{runsFrom, callsOf, endsFrom}
 
 -- the ends rise from p to n, or stay

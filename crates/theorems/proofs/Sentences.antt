@@ -1,13 +1,13 @@
 -- What `split_tw` returns keeps demand 3, sentence by sentence. Assumes nothing.
 use Prim.Native.Nat.{ℕ}
-use mathlib.Core.Path.{_≡_, sym, ap, ap₂, _∙_}
+use mathlib.Core.Path.{_≡_, sym, ap, ap₂, subst, _∙_}
 use mathlib.Core.List.{List, map}
-use Rattle.basics.specs.Options.{held}
+use Rattle.basics.proofs.OptionLaws.{held}
 use Rattle.definitions.specs.Sheet.{Sheet}
 use Rattle.definitions.specs.RunList.{runsOf}
 use Rattle.definitions.specs.Cutting.{callsIn, joined, legalCutting, cuttingCost}
 use Rattle.definitions.specs.Drop.{Result, splitTw}
-use Rattle.definitions.specs.Promise.{clockRun}
+use Rattle.definitions.specs.Promise.{clockRun, ClockRival, Ties}
 use Rattle.definitions.specs.Clauses.{returned, Clauses}
 use Rattle.theorems.proofs.RunListLaws.{runs-back}
 use Rattle.theorems.proofs.Promised.{Promise, clock-runs, promised}
@@ -26,6 +26,7 @@ module _ (s : Sheet) where
           legal = (ap joined runs-are ∙ P .cuts, ap (legalCutting s) runs-are ∙ P .all-legal);
           sum = ap (cuttingCost s) runs-are ∙ P .adds-up;
           least = (P .least-free, P .least-clock);
+          ties = subst (Ties s (ClockRival s)) (sym runs-are) (P .ties);
           held = P .held;
           served-are = P .served-are;
           drops = P .drop-rule;

@@ -6,8 +6,8 @@ use mathlib.Core.Path.{_≡_, refl, ap}
 use mathlib.Core.Option.{Option, none, some}
 use lib.Dec.{ltb}
 use borrow.Author.Tests.{ltb-false, le-ltb}
-use Rattle.basics.specs.Tests.{by-test}
-use Rattle.basics.specs.Options.{same, clash, bound}
+use Rattle.basics.proofs.TestLaws.{by-test}
+use Rattle.basics.proofs.OptionLaws.{same, clash, bound}
 use Rattle.definitions.specs.Sheet.{Window, Break, Customer, Sheet, customer, time}
 use Rattle.definitions.specs.Window.{waiting, begins, Entry, enter}
 use Rattle.definitions.specs.Run.{serveAt, ready, Label, placeAfter, serve}

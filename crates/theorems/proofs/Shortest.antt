@@ -7,8 +7,9 @@ use mathlib.Core.Bool.{true, false}
 use mathlib.Core.List.{List, [], _∷_, _++_, append-nil, append-assoc, tail}
 use mathlib.Core.Option.{Option, none, some}
 use lib.ListN.{length, take}
-use Rattle.basics.specs.Tests.{by-test}
-use Rattle.basics.specs.Options.{there, absent, present, clash}
+use Rattle.basics.proofs.TestLaws.{by-test}
+use Rattle.basics.proofs.OptionLaws.{there, absent, clash}
+use Rattle.basics.specs.Options.{present}
 use Rattle.definitions.specs.Clock.{Arc}
 use Rattle.definitions.specs.Cutting.{Best, Point, points, shortest, stuck}
 use Rattle.theorems.proofs.Least.{Reach, BestOf, best-reach, Table, table}

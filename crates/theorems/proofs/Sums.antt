@@ -4,7 +4,8 @@ use native.Mathlib.Omega.{arith}
 use mathlib.Core.Path.{_≡_, refl, sym, ap, _∙_}
 use mathlib.Core.List.{List, [], _∷_, reverse, reverseAux}
 use lib.ListN.{length, take, drop, take-append-drop}
-use Rattle.basics.specs.Lists.{sum, sum-append}
+use Rattle.basics.specs.Lists.{sum}
+use Rattle.basics.proofs.ListLaws.{sum-append}
 
 module _ {A : Type 0} where
   sum-reverseAux : (f : A → ℕ) (xs ys : List A) → sum f (reverseAux xs ys) ≡ sum f xs + sum f ys

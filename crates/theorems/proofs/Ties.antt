@@ -11,9 +11,9 @@ use lib.ListN.{length, take, drop, length-append}
 use lib.Seq.{length-take-le, take-append-seam, drop-append-seam}
 use lib.Dec.{ltb}
 use borrow.Author.Tests.{ltb-true, ltb-false}
-use Rattle.basics.specs.Tests.{by-test, both}
-use Rattle.basics.specs.Options.{same, clash, bound}
-use Rattle.basics.specs.Lists.{all-parts, sum-append}
+use Rattle.basics.proofs.TestLaws.{by-test, both}
+use Rattle.basics.proofs.OptionLaws.{same, clash, bound}
+use Rattle.basics.proofs.ListLaws.{all-parts, sum-append}
 use Rattle.definitions.specs.Sheet.{Sheet}
 use Rattle.definitions.specs.Run.{Run, legal}
 use Rattle.definitions.specs.Clock.{Arc}
@@ -104,7 +104,8 @@ module _ (s : Sheet) (price : List ℕ → Option Arc) (P : Placement s price) (
       shorter a b k e f g = omega arith
 
   ties-in : (n : ℕ) (calls : List ℕ) → length calls ≤ n → (m : Best) → cheapest price calls ≡ some m → Ties s Rival (m .runs)
-  ties-in zero calls h m e = ties-step zero calls (omega arith) (λ l i b f. subst (λ (q : Best). Ties s Rival (q .runs)) (same (sym (best-none price) ∙ ap (cheapest price) (sym (none l i)) ∙ f)) no-run) m e
+  ties-in zero calls h m e =
+      ties-step zero calls (omega arith) (λ l i b f. subst (λ (q : Best). Ties s Rival (q .runs)) (same (sym (best-none price) ∙ ap (cheapest price) (sym (none l i)) ∙ f)) no-run) m e
     where
       none : (l : List ℕ) → length l ≤ 0 → l ≡ []
       none [] i = refl

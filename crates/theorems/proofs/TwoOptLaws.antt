@@ -8,8 +8,9 @@ use mathlib.Core.List.{List, [], _∷_, _++_, reverse}
 use lib.ListN.{length, take, drop}
 use lib.Dec.{ltb, eqb}
 use borrow.Author.Tests.{ltb-true, ltb-false, le-ltb, eqb-true, eqb-false}
-use Rattle.basics.specs.Tests.{by-test}
-use Rattle.basics.specs.Lists.{count, Same, sum-append, All}
+use Rattle.basics.proofs.TestLaws.{by-test}
+use Rattle.basics.specs.Lists.{count, Same, All}
+use Rattle.basics.proofs.ListLaws.{sum-append}
 use Rattle.definitions.specs.Improver.{Given, distanceOf, allowed}
 use Rattle.definitions.specs.TwoOpt.{turned, tried, triedAll, passFrom, pass, passes, improved}
 use Rattle.theorems.proofs.Sums.{sum-reverse, sum-split}

@@ -7,18 +7,21 @@ use mathlib.Core.Bool.{Bool, true, false, not, _&&_, _||_, and-true, and-false, 
 use mathlib.Core.List.{List, [], _∷_, _++_}
 use mathlib.Core.Option.{Option, none, some}
 use lib.ListN.{length, length-append}
-use lib.Dec.{eqb}
+use lib.Dec.{leb, eqb}
 use borrow.Author.Tests.{le-leb}
-use Rattle.basics.specs.Tests.{by-test, not-both}
-use Rattle.basics.specs.Options.{present, valueOr, clash}
-use Rattle.basics.specs.Lists.{any-append, empty-append, isEmpty, any}
+use Rattle.basics.proofs.TestLaws.{by-test, not-both}
+use Rattle.basics.specs.Options.{present, valueOr}
+use Rattle.basics.proofs.OptionLaws.{clash}
+use Rattle.basics.proofs.ListLaws.{any-append, empty-append}
+use Rattle.basics.specs.Lists.{isEmpty, any}
+use Rattle.definitions.specs.Load.{Load, noLoad}
 use Rattle.definitions.specs.Sheet.{Break, Sheet, time}
 use Rattle.definitions.specs.Window.{Entry}
 use Rattle.definitions.specs.Limits.{within}
 use Rattle.definitions.specs.Run.{serveAt, ready, Label, start, serve, breakAt, serveAll, Totals, home, load, fits, allowed}
 use Rattle.definitions.specs.Clock.{clock, counts, placeOr}
 use Rattle.definitions.specs.Evaluation.{routeEval, routeFeasible}
-use Rattle.definitions.specs.Visits.{Violation, windowShut, breakNotPlaceable, overCapacity, overDistance, overDuration, readyFor, entered, visited, windowsFrom, lastLabel, unless, buildRoute}
+use Rattle.definitions.specs.Visits.{Violation, windowShut, breakNotPlaceable, overCapacity, overDistance, overDuration, readyFor, entered, visited, windowsFrom, lastLabel, unless, overloads, buildRoute}
 use Rattle.definitions.specs.Lent.{violationRoom}
 use Rattle.theorems.proofs.Legality.{plain, clocked, end, back, labelOf}
 use Rattle.theorems.proofs.Marking.{nothing-mapped}
@@ -71,15 +74,17 @@ module _ (s : Sheet) (place : ℕ) where
       by-test (present (entered s c (readyFor s (breakAt s place k) a c l))) (λ t. rw t (omega arith)) (λ f. rw f (omega arith))
 
   -- a call that fails though the break is not there is reached after due
-  shut : (k a c : ℕ) (l : Label) → s .rest ≡ none → serve s (breakAt s place k) k a c l ≡ none → present (entered s c (readyFor s (breakAt s place k) a c l)) ≡ false
+  shut : (k a c : ℕ) (l : Label) → s .head .rest ≡ none → serve s (breakAt s place k) k a c l ≡ none → present (entered s c (readyFor s (breakAt s place k) a c l)) ≡ false
   unfolding serveAt ready
-  shut k a c l e q = subst (λ (o : Option Break). serve s o k a c l ≡ none → present (entered s c (readyFor s o a c l)) ≡ false) (sym nowhere) (λ r. ap (λ (o : Option Entry). present o) (nothing-mapped (entered s c (l .time + time s a c)) _ r)) q
+  shut k a c l e q =
+      subst (λ (o : Option Break). serve s o k a c l ≡ none → present (entered s c (readyFor s o a c l)) ≡ false) (sym nowhere)
+      (λ r. ap (λ (o : Option Entry). present o) (nothing-mapped (entered s c (l .time + time s a c)) _ r)) q
     where
       nowhere : breakAt s place k ≡ none
       nowhere = rw e (by-test (eqb place k) (λ t. rw t refl) (λ f. rw f refl))
 
   -- without a break on the sheet only a window can fail, and then it is among the violations
-  missed : s .rest ≡ none → (k a : ℕ) (l : Label) (calls : List ℕ) → serveAll s place k a (some l) calls ≡ none → isEmpty (windowsFrom s place k a l calls) ≡ false
+  missed : s .head .rest ≡ none → (k a : ℕ) (l : Label) (calls : List ℕ) → serveAll s place k a (some l) calls ≡ none → isEmpty (windowsFrom s place k a l calls) ≡ false
   unfolding serveAll windowsFrom
   missed e k a l [] q = clash (sym q)
   missed e k a l (c ∷ cs) q = go (serve s (breakAt s place k) k a c l) refl (λ m r. missed e (suc k) c m cs r)
@@ -96,24 +101,40 @@ break-room : (w : List Violation) (p : Bool) (n : ℕ) → length w ≤ suc n �
 break-room [] p n h = let b = one (not (p && true)) breakNotPlaceable in omega arith
 break-room (x ∷ w) p n h = rw (and-false p) (omega arith)
 
+-- ---- the load
+
+-- how many measures there are
+abbrev measures : ℕ
+measures = 1
+
+quiet-load : (p : Violation → Bool) (b : List Violation) (l k : Load) → ((n m : ℕ) → p (overCapacity n m) ≡ false) → any p (b ++ overloads l k) ≡ any p b
+quiet-load p b l k h = quiet p b (leb (l .seats) (k .seats)) _ (h _ _)
+
+few-overloads : (l k : Load) → length (overloads l k) ≤ measures
+few-overloads l k = one (leb (l .seats) (k .seats)) (overCapacity (l .seats) (k .seats))
+
+-- an empty vehicle has none
+none-overloads : (k : Load) → length (overloads noLoad k) ≤ 0
+none-overloads k = rw (le-leb 0 (k .seats) (omega arith)) (le-refl 0)
+
 module _ (s : Sheet) (calls : List ℕ) where
   -- the violations of a run in their order, from the windows missed, whether the break is reported, and the totals
   abbrev ordered : List Violation → Bool → Totals → List Violation
   ordered w q t =
       w
       ++ unless (not q) breakNotPlaceable
-      ++ unless (fits s calls) (overCapacity (load s calls) (s .capacity))
-      ++ unless (within (s .maxDistance) (t .distance)) (overDistance (t .distance) (valueOr 0 (s .maxDistance)))
-      ++ unless (within (s .maxDuration) (t .duration)) (overDuration (t .duration) (valueOr 0 (s .maxDuration)))
+      ++ overloads (load s calls) (s .head .capacity)
+      ++ unless (within (s .head .maxDistance) (t .distance)) (overDistance (t .distance) (valueOr 0 (s .head .maxDistance)))
+      ++ unless (within (s .head .maxDuration) (t .duration)) (overDuration (t .duration) (valueOr 0 (s .head .maxDuration)))
 
   any-ordered : (p : Violation → Bool) → ((n m : ℕ) → (p (overCapacity n m) ≡ false) × (p (overDistance n m) ≡ false) × (p (overDuration n m) ≡ false))
       → (w : List Violation) (q : Bool) (t : Totals) → any p (ordered w q t) ≡ any p w || (q && p breakNotPlaceable)
   any-ordered p h w q t =
       let b = w ++ unless (not q) breakNotPlaceable in
-      let c = b ++ unless (fits s calls) (overCapacity (load s calls) (s .capacity)) in
-      quiet p (c ++ unless (within (s .maxDistance) (t .distance)) (overDistance (t .distance) (valueOr 0 (s .maxDistance)))) (within (s .maxDuration) (t .duration)) _ (h _ _ .2)
-      ∙ quiet p c (within (s .maxDistance) (t .distance)) _ (h _ _ .1)
-      ∙ quiet p b (fits s calls) _ (h _ _ .0)
+      let c = b ++ overloads (load s calls) (s .head .capacity) in
+      quiet p (c ++ unless (within (s .head .maxDistance) (t .distance)) (overDistance (t .distance) (valueOr 0 (s .head .maxDistance)))) (within (s .head .maxDuration) (t .duration)) _ (h _ _ .2)
+      ∙ quiet p c (within (s .head .maxDistance) (t .distance)) _ (h _ _ .1)
+      ∙ quiet-load p b (load s calls) (s .head .capacity) (λ n m. h n m .0)
       ∙ any-append p w (unless (not q) breakNotPlaceable)
       ∙ ap (λ (u : Bool). any p w || u) (on q)
     where
@@ -122,7 +143,7 @@ module _ (s : Sheet) (calls : List ℕ) where
       on false = refl
 
   empty-ordered : (w : List Violation) (q : Bool) (t : Totals)
-      → isEmpty (ordered w q t) ≡ (isEmpty w && not q && fits s calls && within (s .maxDistance) (t .distance) && within (s .maxDuration) (t .duration))
+      → isEmpty (ordered w q t) ≡ (isEmpty w && not q && fits s calls && within (s .head .maxDistance) (t .distance) && within (s .head .maxDuration) (t .duration))
   empty-ordered w q t = simp (empty-append, empty-unless)
 
   -- the three by the clock's answer
@@ -130,7 +151,7 @@ module _ (s : Sheet) (calls : List ℕ) where
   missedBy o = windowsFrom s (placeOr o) 1 0 start calls
 
   abbrev reportedBy : Option Totals → Bool
-  reportedBy o = present (s .rest) && not (present o) && isEmpty (missedBy o)
+  reportedBy o = present (s .head .rest) && not (present o) && isEmpty (missedBy o)
 
   abbrev totalsBy : Option Totals → Totals
   totalsBy o = home s calls (lastLabel s (placeOr o) 1 0 start calls)
@@ -143,10 +164,10 @@ module _ (s : Sheet) (calls : List ℕ) where
   violations-are = refl
 
   -- the break is reported exactly when the sheet has one, the clock has no answer, and no window violation is reported
-  pub break-reported : any isBreak (buildRoute s calls .violations) ≡ (present (s .rest) && not (present (clock s calls)) && not (any isWindow (buildRoute s calls .violations)))
+  pub break-reported : any isBreak (buildRoute s calls .violations) ≡ (present (s .head .rest) && not (present (clock s calls)) && not (any isWindow (buildRoute s calls .violations)))
   break-reported = rw violations-are (go (clock s calls))
     where
-      go : (o : Option Totals) → any isBreak (violationsBy o) ≡ (present (s .rest) && not (present o) && not (any isWindow (violationsBy o)))
+      go : (o : Option Totals) → any isBreak (violationsBy o) ≡ (present (s .head .rest) && not (present o) && not (any isWindow (violationsBy o)))
       go o =
           let w = only-windows s (placeOr o) 1 0 start calls in
           let b = any-ordered isBreak (λ n m. (refl, refl, refl)) (missedBy o) (reportedBy o) (totalsBy o) in
@@ -163,7 +184,7 @@ module _ (s : Sheet) (calls : List ℕ) where
       answered t e = rw e (by-test (allowed s t) (λ t. rw t refl) (λ f. rw f refl))
 
       -- without a break on the sheet a window is missed, and with one the break is reported
-      nowhere : clock s calls ≡ none → (r : Option Break) → s .rest ≡ r → isEmpty (missedBy none) ≡ true → isEmpty (violationsBy none) ≡ false
+      nowhere : clock s calls ≡ none → (r : Option Break) → s .head .rest ≡ r → isEmpty (missedBy none) ≡ true → isEmpty (violationsBy none) ≡ false
       nowhere e (some b) r w = empty-ordered (missedBy none) (reportedBy none) (totalsBy none) ∙ rw (w, ap (λ (o : Option Break). present o) r) refl
       nowhere e none r w = not-both (isEmpty (missedBy none)) w (missed s 0 r 1 0 start calls (none-left (labelOf s calls 0) refl))
         where
@@ -173,38 +194,38 @@ module _ (s : Sheet) (calls : List ℕ) where
 
       go : (o : Option Totals) → clock s calls ≡ o → isEmpty (violationsBy o) ≡ (fits s calls && routeFeasible s calls)
       go none e =
-          by-test (isEmpty (missedBy none)) (λ w. nowhere e (s .rest) refl w)
+          by-test (isEmpty (missedBy none)) (λ w. nowhere e (s .head .rest) refl w)
           (λ w. empty-ordered (missedBy none) (reportedBy none) (totalsBy none) ∙ rw w refl)
           ∙ rw e (sym (and-false (fits s calls)))
       go (some t) e =
           let v = visits-clock s calls t e in
-          ap (λ (w : List Violation). isEmpty (ordered w (present (s .rest) && false && isEmpty w) (totalsBy (some t)))) (v .1)
-          ∙ ap (λ (u : Totals). isEmpty (ordered [] (present (s .rest) && false && true) u)) (sym (ap totalsBy e) ∙ v .0)
-          ∙ empty-ordered [] (present (s .rest) && false && true) t
-          ∙ rw (and-false (present (s .rest))) (and-assoc (fits s calls) _ _ ∙ ap (λ (b : Bool). fits s calls && b) (sym (answered t e)))
+          ap (λ (w : List Violation). isEmpty (ordered w (present (s .head .rest) && false && isEmpty w) (totalsBy (some t)))) (v .1)
+          ∙ ap (λ (u : Totals). isEmpty (ordered [] (present (s .head .rest) && false && true) u)) (sym (ap totalsBy e) ∙ v .0)
+          ∙ empty-ordered [] (present (s .head .rest) && false && true) t
+          ∙ rw (and-false (present (s .head .rest))) (and-assoc (fits s calls) _ _ ∙ ap (λ (b : Bool). fits s calls && b) (sym (answered t e)))
 
   -- how many there are at most: the windows missed, the break or none, the load or none, two limits
   room-ordered : (w : List Violation) (q : Bool) (t : Totals)
-      → length (ordered w q t) ≤ length w + length (unless (not q) breakNotPlaceable) + length (unless (fits s calls) (overCapacity (load s calls) (s .capacity))) + 2
+      → length (ordered w q t) ≤ length w + length (unless (not q) breakNotPlaceable) + length (overloads (load s calls) (s .head .capacity)) + 2
   room-ordered w q t =
-      let d = one (within (s .maxDistance) (t .distance)) (overDistance (t .distance) (valueOr 0 (s .maxDistance))) in
-      let l = one (within (s .maxDuration) (t .duration)) (overDuration (t .duration) (valueOr 0 (s .maxDuration))) in
+      let d = one (within (s .head .maxDistance) (t .distance)) (overDistance (t .distance) (valueOr 0 (s .head .maxDistance))) in
+      let l = one (within (s .head .maxDuration) (t .duration)) (overDuration (t .duration) (valueOr 0 (s .head .maxDuration))) in
       simp length-append (omega arith)
 
   -- where the windows missed are n and one more at most, so are they with the break
-  room-within : (n k : ℕ) → length (missedBy (clock s calls)) ≤ suc n → length (unless (fits s calls) (overCapacity (load s calls) (s .capacity))) ≤ k
+  room-within : (n k : ℕ) → length (missedBy (clock s calls)) ≤ suc n → length (overloads (load s calls) (s .head .capacity)) ≤ k
       → length (buildRoute s calls .violations) ≤ suc n + k + 2
   room-within n k w f =
       let o = clock s calls in
       let r = room-ordered (missedBy o) (reportedBy o) (totalsBy o) in
-      let b = break-room (missedBy o) (present (s .rest) && not (present o)) n w in
+      let b = break-room (missedBy o) (present (s .head .rest) && not (present o)) n w in
       rw violations-are (omega arith)
 
 -- the room that the violations need: three more than the calls
 pub violations-room : (s : Sheet) (calls : List ℕ) → length (buildRoute s calls .violations) ≤ violationRoom (length calls)
 unfolding windowsFrom
-violations-room s [] = room-within s [] 0 0 (omega arith) (rw (le-leb 0 (s .capacity) (omega arith)) (le-refl 0))
+violations-room s [] = let r = room-within s [] 0 0 (omega arith) (none-overloads (s .head .capacity)) in omega arith
 violations-room s (c ∷ cs) =
     let w = windows-room s (placeOr (clock s (c ∷ cs))) 1 0 start (c ∷ cs) in
-    let r = room-within s (c ∷ cs) (length cs) 1 w (one (fits s (c ∷ cs)) (overCapacity (load s (c ∷ cs)) (s .capacity))) in
+    let r = room-within s (c ∷ cs) (length cs) measures w (few-overloads (load s (c ∷ cs)) (s .head .capacity)) in
     omega arith

@@ -6,7 +6,9 @@ use mathlib.Core.List.{List, [], _∷_}
 use mathlib.Core.Option.{Option, none, some}
 use lib.Dec.{eqb·zero-suc}
 use borrow.Author.Tests.{eqb-true}
-use Rattle.basics.specs.Options.{present, valueOr, same, clash, bound}
+use Rattle.basics.specs.Options.{present, valueOr}
+use Rattle.basics.proofs.OptionLaws.{same, clash, bound}
+use Rattle.definitions.specs.Load.{Load, noLoad, plus}
 use Rattle.definitions.specs.Sheet.{Break, Sheet, customer, distance, time}
 use Rattle.definitions.specs.Window.{Entry, begins, enter}
 use Rattle.definitions.specs.Run.{serveAt, ready, Label, start, placeAfter, serve, breakAt, serveAll, distanceFrom, Totals, home, placed}
@@ -67,22 +69,16 @@ module _ (s : Sheet) where
 abbrev pub unrested : Sheet → Sheet
 unrested s =
     record {
-      places = s .places;
-      capacity = s .capacity;
-      fixed = s .fixed;
-      maxDistance = s .maxDistance;
-      maxDuration = s .maxDuration;
-      rest = none;
+      head = record { places = s .head .places; capacity = s .head .capacity; fixed = s .head .fixed; maxDistance = s .head .maxDistance; maxDuration = s .head .maxDuration; rest = none };
       customers = s .customers;
-      distances = s .distances;
-      times = s .times;
+      legs = record { distances = s .legs .distances; times = s .legs .times };
     }
 
 module _ (s : Sheet) where
-  unrested-visits : (k a : ℕ) (l : Label) (n : ℕ) (calls : List ℕ) → visitsFrom s 0 (suc k) a l n calls ≡ visitsFrom (unrested s) 0 (suc k) a l n calls
+  unrested-visits : (k a : ℕ) (l : Label) (n : Load) (calls : List ℕ) → visitsFrom s 0 (suc k) a l n calls ≡ visitsFrom (unrested s) 0 (suc k) a l n calls
   unfolding visitsFrom visited
   unrested-visits k a l n [] = refl
-  unrested-visits k a l n (c ∷ cs) = rw (eqb·zero-suc k, unrested-visits (suc k) c (visited s none (suc k) a c l) (n + customer s c .demand) cs) refl
+  unrested-visits k a l n (c ∷ cs) = rw (eqb·zero-suc k, unrested-visits (suc k) c (visited s none (suc k) a c l) (plus n (customer s c .demand)) cs) refl
 
   unrested-last : (k a : ℕ) (l : Label) (calls : List ℕ) → lastLabel s 0 (suc k) a l calls ≡ lastLabel (unrested s) 0 (suc k) a l calls
   unfolding lastLabel visited
@@ -103,14 +99,15 @@ module _ (s : Sheet) where
 
   -- an unplaceable break is left out: the visits are those of the run with place 0
   pub left-out : (calls : List ℕ) → clock s calls ≡ none
-      → (buildRoute s calls .visits ≡ visitsFrom s 0 1 0 start 0 calls) × (buildRoute s calls .totals ≡ home s calls (lastLabel s 0 1 0 start calls)) × (buildRoute s calls .start ≡ none)
+      → (buildRoute s calls .visits ≡ visitsFrom s 0 1 0 start noLoad calls) × (buildRoute s calls .totals ≡ home s calls (lastLabel s 0 1 0 start calls)) × (buildRoute s calls .start ≡ none)
   unfolding buildRoute startOf
   left-out calls e = rw e (refl, refl, refl)
 
   -- and so those of the sheet without its break
   pub visits-unclocked : (calls : List ℕ) → clock s calls ≡ none
-      → (buildRoute s calls .visits ≡ buildRoute (unrested s) calls .visits) × (buildRoute s calls .totals ≡ buildRoute (unrested s) calls .totals) × (buildRoute s calls .start ≡ buildRoute (unrested s) calls .start)
+      → (buildRoute s calls .visits ≡ buildRoute (unrested s) calls .visits) × (buildRoute s calls .totals ≡ buildRoute (unrested s) calls .totals)
+      × (buildRoute s calls .start ≡ buildRoute (unrested s) calls .start)
   unfolding buildRoute startOf
   visits-unclocked calls e =
       rw (e, unrested-place calls)
-      (unrested-visits 0 0 start 0 calls, rw (unrested-distance 0 calls, unrested-last 0 0 start calls) refl, refl)
+      (unrested-visits 0 0 start noLoad calls, rw (unrested-distance 0 calls, unrested-last 0 0 start calls) refl, refl)

@@ -11,17 +11,22 @@ use lib.Dec.{ltb}
 use borrow.Author.Tests.{ltb-true, ltb-false, lt-ltb, le-ltb}
 use lib.Ieee as Ieee
 use lib.Ieee.{Float, binary64}
-use Rattle.basics.specs.Tests.{by-test}
+use Rattle.basics.proofs.TestLaws.{by-test}
 use Rattle.basics.specs.Lists.{All}
 use Rattle.definitions.specs.Domain.{mostCalls, mostNumber}
 use Rattle.definitions.specs.Sheet.{Sheet, distance}
 use Rattle.definitions.specs.Improver.{Given, givenOf, distanceOf}
 use Rattle.definitions.specs.TwoOpt.{turned}
 use Rattle.theorems.proofs.LegLaws.{final, first, gone, back, reversal-gain}
-use Rattle.bounds.specs.Inside.{Small, Sized, Place, depot-inside, call-inside, all-take, all-drop, distance-small}
-use Rattle.whole.specs.Whole.{fl, limit, fl-add}
-use Rattle.whole.specs.Difference.{diff, diff-same, diff-fl, fl-diff, diff-add, diff-add-fl}
-use Rattle.whole.specs.Gain.{gainFloorF, reversal-test}
+use Rattle.bounds.specs.Sized.{Small, Sized, Place}
+use Rattle.bounds.proofs.Inside.{depot-inside, call-inside, distance-small}
+use Rattle.basics.proofs.ListLaws.{all-take, all-drop}
+use Rattle.whole.specs.Whole.{fl, limit}
+use Rattle.whole.proofs.WholeLaws.{fl-add}
+use Rattle.whole.specs.Difference.{diff}
+use Rattle.whole.proofs.DifferenceLaws.{diff-same, diff-fl, fl-diff, diff-add, diff-add-fl}
+use Rattle.whole.specs.Gain.{gainFloorF}
+use Rattle.whole.proofs.GainLaws.{reversal-test}
 use Rattle.evaluation.specs.Records.{Tables}
 use Rattle.evaluation.specs.Tables.{placeBefore, distanceF}
 use Rattle.evaluation.specs.Image.{Image}

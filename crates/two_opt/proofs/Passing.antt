@@ -6,14 +6,14 @@ use mathlib.Core.Path.{_≡_, refl, sym}
 use mathlib.Core.Bool.{Bool, true, false}
 use mathlib.Core.List.{List, [], _∷_, _++_, reverse}
 use lib.ListN.{take, drop}
-use Rattle.basics.specs.Tests.{by-test}
+use Rattle.basics.proofs.TestLaws.{by-test}
 use Rattle.basics.specs.Lists.{count}
 use Rattle.definitions.specs.TwoOpt.{turned}
 use Rattle.evaluation.specs.Records.{Tables}
 use Rattle.evaluation.specs.Tables.{distanceF}
 use Rattle.evaluation.specs.Route.{feasibleF}
-use Rattle.local_search.specs.Search.{SearchF}
-use Rattle.local_search.proofs.Counting.{count-more, count-done}
+use Rattle.improve_base.specs.Search.{SearchF}
+use Rattle.improve_base.proofs.Counting.{count-more, count-done}
 use Rattle.two_opt.specs.TwoOpt.{State, state, gainsF, allowedF, reversedF, triedF, triedEachF, triedAllF, passFromF, passF, passesF}
 
 module _ (t : Tables) (s : SearchF) where

@@ -7,12 +7,12 @@ use mathlib.Core.Bool.{Bool, true, false, cond}
 use mathlib.Core.List.{List, _++_, reverse, reverse-reverse}
 use lib.ListN.{length, take, drop, length-append, length-take, length-drop, length-reverse, take-append-drop}
 use lib.Seq.{take-at, drop-at, length-take-le}
-use Rattle.basics.specs.Tests.{by-test}
+use Rattle.basics.proofs.TestLaws.{by-test}
 use Rattle.definitions.specs.TwoOpt.{turned}
 use Rattle.evaluation.specs.Records.{Tables}
-use Rattle.local_search.specs.Search.{SearchF}
-use Rattle.local_search.specs.Prefix.{PrefixF, feasibleFromF, Leads}
-use Rattle.local_search.proofs.Leading.{asked}
+use Rattle.improve_base.specs.Search.{SearchF}
+use Rattle.improve_base.specs.Prefix.{PrefixF, feasibleFromF, Leads}
+use Rattle.improve_base.proofs.Leading.{asked}
 use Rattle.two_opt.specs.TwoOpt.{State, state, allowedF, reversedF}
 
 -- ---- the stretch inside the lent list

@@ -10,8 +10,9 @@ use lib.Dec.{ltb}
 use lib.Ieee as Ieee
 use lib.Ieee.{Float}
 use borrow.Author.Tests.{ltb-true, le-ltb}
-use Rattle.basics.specs.Tests.{by-test}
-use Rattle.basics.specs.Lists.{sum, All, count, all-imp}
+use Rattle.basics.proofs.TestLaws.{by-test}
+use Rattle.basics.specs.Lists.{sum, All, count}
+use Rattle.basics.proofs.ListLaws.{all-imp}
 use Rattle.definitions.specs.Domain.{mostCalls}
 use Rattle.definitions.specs.Sheet.{Sheet, distance}
 use Rattle.definitions.specs.Improver.{Given, givenOf, distanceOf, allowed}
@@ -19,21 +20,22 @@ use Rattle.definitions.specs.TwoOpt.{turned, tried, triedAll, passFrom, pass, i
 use Rattle.definitions.specs.Refusals.{Within, WithinCalls}
 use Rattle.definitions.specs.Answers.{twoOpt}
 use Rattle.theorems.proofs.TwoOptLaws.{turned-same, pass-stays, improved-pass, improved-done, improved-same}
-use Rattle.bounds.specs.Inside.{Sized, sized, Place, few-calls, calls-inside, same-inside, distance-small}
-use Rattle.bounds.specs.Bounds.{distance-most}
+use Rattle.bounds.specs.Sized.{Sized, Place}
+use Rattle.bounds.proofs.Inside.{sized, few-calls, calls-inside, same-inside, distance-small}
+use Rattle.bounds.proofs.BoundLaws.{distance-most}
 use Rattle.whole.specs.Whole.{fl}
 use Rattle.whole.specs.Gain.{gainFloorF}
 use Rattle.evaluation.specs.Records.{Tables}
 use Rattle.evaluation.specs.Tables.{distanceF}
 use Rattle.evaluation.specs.Image.{Image}
 use Rattle.evaluation.proofs.ClockExact.{distance-exact}
-use Rattle.evaluation.proofs.RouteExact.{feasible-exact}
+use Rattle.evaluation.proofs.RouteExact.{sized-feasible-exact}
 use Rattle.evaluation.proofs.ChecksExact.{checks-exact}
-use Rattle.local_search.specs.Gain.{scaleF}
-use Rattle.local_search.specs.Search.{searchF, told}
-use Rattle.local_search.specs.Route.{routeDistanceF}
-use Rattle.local_search.proofs.GainExact.{largest, largest-small, largest-exact, symmetric-same}
-use Rattle.local_search.proofs.RouteExact.{route-distance-exact}
+use Rattle.improve_base.specs.Gain.{scaleF}
+use Rattle.improve_base.specs.Search.{searchF, told}
+use Rattle.improve_base.specs.Route.{routeDistanceF}
+use Rattle.improve_base.proofs.GainExact.{largest, largest-small, largest-exact, symmetric-same}
+use Rattle.improve_base.proofs.RouteExact.{route-distance-exact}
 use Rattle.two_opt.specs.Delta.{deltaF}
 use Rattle.two_opt.specs.TwoOpt.{State, state, mostPasses, allowedF, gainsF, reversedF, triedF, triedEachF, triedAllF, passFromF, passF, passesF, improvedF, improvedDistanceF}
 use Rattle.two_opt.proofs.Trying.{length-turned}
@@ -42,8 +44,11 @@ use Rattle.two_opt.proofs.DeltaExact.{gain-exact}
 -- the numbers k, k + 1 and so on, n of them, are from k on and below k + n
 counted : (k n : ℕ) → All (λ (j : ℕ). (k ≤ j) × (j < k + n)) (count k n)
 counted k zero = tt
-counted k (suc n) =
-    ((omega arith, omega arith), all-imp (λ (j : ℕ). (suc k ≤ j) × (j < suc k + n)) (λ (j : ℕ). (k ≤ j) × (j < k + suc n)) (λ j h. (omega (arith, h .0), omega (arith, h .1))) (count (suc k) n) (counted (suc k) n))
+counted k (suc n) = (
+  (omega arith, omega arith),
+  all-imp (λ (j : ℕ). (suc k ≤ j) × (j < suc k + n)) (λ (j : ℕ). (k ≤ j) × (j < k + suc n)) (λ j h. (omega (arith, h .0), omega (arith, h .1)))
+      (count (suc k) n) (counted (suc k) n),
+)
 
 module _ (s : Sheet) (S : Sized s) (t : Tables) (I : Image s t) where
   abbrev G : Given
@@ -55,25 +60,26 @@ module _ (s : Sheet) (S : Sized s) (t : Tables) (I : Image s t) where
 
   -- ---- one reversal
 
-  scale-exact : scaleF (t .distances) ≡ fl (largest 0 (s .distances))
-  scale-exact = ap scaleF (I .distances-are) ∙ largest-exact 0 (s .distances) zero-le (S .distances-small)
+  scale-exact : scaleF (t .distances) ≡ fl (largest 0 (s .legs .distances))
+  scale-exact = ap scaleF (I .distances-are) ∙ largest-exact 0 (s .legs .distances) zero-le (S .distances-small)
 
   same-back : told s t .symmetric ≡ true → (a b : ℕ) → Place s a → Place s b → distance s a b ≡ distance s b a
   unfolding searchF
   same-back e a b p q =
       let in-table : (c : ℕ) → Place s c → c < t .size = λ c h. subst (λ (n : ℕ). c < n) (sym (I .size-is)) h in
       let placed : (c : ℕ) → c < t .size → Place s c = λ c h. subst (λ (n : ℕ). c < n) (I .size-is) h in
-      symmetric-same (distanceF t) (t .size) (distance s) (λ c d. omega (arith, distance-small s S c d)) (λ c d h k. distance-exact s S t I c d (placed c h) (placed d k)) e a b (in-table a p) (in-table b q)
+      symmetric-same (distanceF t) (t .size) (distance s) (λ c d. omega (arith, distance-small s S c d))
+      (λ c d h k. distance-exact s S t I c d (placed c h) (placed d k)) e a b (in-table a p) (in-table b q)
 
   gains-exact : (run : List ℕ) → Fit run → (i j : ℕ) → i < j → j < length run → gainsF (distanceF t) (told s t) i j run ≡ ltb (distanceOf G (turned i j run)) (distanceOf G run)
   unfolding searchF
   gains-exact run f i j h l =
       ap (λ (most : Float). Ieee.lt (deltaF (distanceF t) (told s t .symmetric) i j run) (Ieee.neg (gainFloorF most))) scale-exact
-      ∙ gain-exact s S t I run (f .0) (f .1) i j h l (told s t .symmetric) same-back (largest 0 (s .distances)) (largest-small 0 (s .distances) zero-le (S .distances-small))
+      ∙ gain-exact s S t I run (f .0) (f .1) i j h l (told s t .symmetric) same-back (largest 0 (s .legs .distances)) (largest-small 0 (s .legs .distances) zero-le (S .distances-small))
 
   allowed-exact : (run : List ℕ) → Fit run → allowedF t (told s t) run ≡ allowed G run
   unfolding searchF
-  allowed-exact run f = rw (checks-exact s t I, feasible-exact s S t I run (f .0) (f .1))
+  allowed-exact run f = rw (checks-exact s t I, sized-feasible-exact s S t I run (f .0) (f .1))
 
   turned-fits : (run : List ℕ) → Fit run → (i j : ℕ) → i < j → j < length run → Fit (turned i j run)
   turned-fits run f i j h l = (omega (arith, length-turned i j run h l, f .0), same-inside s run (turned i j run) (λ g. sym (turned-same i j run g)) (f .1))
@@ -157,7 +163,8 @@ module _ (s : Sheet) (S : Sized s) (t : Tables) (I : Image s t) where
       x : State
       x = passF t (told s t) run
 
-      go : ((x .improved ≡ false) × (x .run ≡ run)) ⊎ ((x .improved ≡ true) × (distanceOf G (x .run) < distanceOf G run)) → cond (x .improved) (passesF t (told s t) left (x .run)) (x .run) ≡ improved G run
+      go : ((x .improved ≡ false) × (x .run ≡ run)) ⊎ ((x .improved ≡ true) × (distanceOf G (x .run) < distanceOf G run))
+          → cond (x .improved) (passesF t (told s t) left (x .run)) (x .run) ≡ improved G run
       go (inl e) = rw (e .0) (e .1 ∙ sym (improved-done G run (sym (P .0) ∙ e .1)))
       go (inr e) = rw (e .0) (rest (x .run) (P .1 .fits) (omega (arith, e .1)) ∙ ap (improved G) (P .0) ∙ improved-pass G run)
 

@@ -10,8 +10,8 @@ use Rattle.definitions.specs.TwoOpt.{turned}
 use Rattle.evaluation.specs.Records.{Tables}
 use Rattle.evaluation.specs.Tables.{distanceF}
 use Rattle.evaluation.specs.Route.{feasibleF}
-use Rattle.local_search.specs.Search.{SearchF}
-use Rattle.local_search.specs.Route.{routeDistanceF}
+use Rattle.improve_base.specs.Search.{SearchF}
+use Rattle.improve_base.specs.Route.{routeDistanceF}
 use Rattle.two_opt.specs.Delta.{deltaF}
 
 -- the run, and whether a reversal was taken on the way to it
@@ -22,7 +22,8 @@ pub record State : Type 0 where
 abbrev pub state : List ℕ → Bool → State
 state run improved = record { run = run; improved = improved }
 
--- enough for every sheet: a run is at most 129 legs of 10,000,000 long, and each pass that takes a reversal makes it shorter by 1 at the least
+-- enough for every sheet: a run is at most 129 legs of 10,000,000 long, and each pass that takes a reversal makes it shorter by 1 at the
+-- least
 abbrev pub mostPasses : ℕ
 mostPasses = 1290000000
 

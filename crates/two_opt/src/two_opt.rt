@@ -1,4 +1,5 @@
-// The reversal of stretches of a run (local_search/two_opt.rs): while one lowers the distance and makes a run that is allowed, it is taken. Only sheets without lateness pay come here.
+// The reversal of stretches of a run (local_search/two_opt.rs): while one lowers the distance and makes a run that is
+// allowed, it is taken. Only sheets without lateness pay come here.
 ghost use mathlib.Core.Path.{_≡_};
 ghost use Prim.Native.Nat.{_+_, _<_, _≤_};
 ghost use mathlib.Core.Bool.{true, cond, _&&_};
@@ -6,26 +7,27 @@ ghost use lib.ListN.{length, take};
 ghost use Rattle.definitions.specs.Room.{written};
 ghost use Rattle.distance.specs.Lookup.{lookupF};
 ghost use Rattle.evaluation.specs.Records.{limitsOf, lent};
-ghost use Rattle.local_search.specs.Search.{searchOf};
-ghost use Rattle.local_search.specs.Prefix.{prefixOf, failedF, indexF, feasibleFromF, Leads};
+ghost use Rattle.improve_base.specs.Search.{searchOf};
+ghost use Rattle.improve_base.specs.Prefix.{prefixOf, failedF, indexF, feasibleFromF, Leads};
 ghost use Rattle.two_opt.specs.Delta.{intoF, reversalDeltaF, deltaF};
 ghost use Rattle.two_opt.specs.TwoOpt.{state, gainsF, reversedF, triedAllF, passF, improvedF, improvedDistanceF};
 use crate::reverse::reverse;
+use cut_table::held::write_front;
 use distance::matrix::get;
 use evaluation::route::call_at;
 use evaluation::route::place_before;
 use evaluation::schedule::record_index;
-use local_search::prefix::Prefix;
-use local_search::prefix::feasible_from;
-use local_search::prefix::go_on;
-use local_search::prefix::has_failed;
-use local_search::prefix::set_out;
-use local_search::route::route_distance;
-use local_search::search::Search;
+use improve_base::prefix::Prefix;
+use improve_base::prefix::feasible_from;
+use improve_base::prefix::go_on;
+use improve_base::prefix::has_failed;
+use improve_base::prefix::set_out;
+use improve_base::route::route_distance;
+use improve_base::search::Search;
 use models::customer::Customer;
-use table::held::write_front;
 
-// What turning the segment changes in the length of its own legs: nothing where the distances are symmetric, else each leg back less the leg there.
+// What turning the segment changes in the length of its own legs: nothing where the distances are symmetric, else each
+// leg back less the leg there.
 pub fn reversal_delta(segment: &[usize], distances: &[f64], size: usize, symmetric: bool) -> f64
     ensures { λ r. ⌜ r ≡ reversalDeltaF (lookupF (now (distances .entry)) size) symmetric (now (segment .entry)) ⌝ }
 {
@@ -109,7 +111,10 @@ pub fn is_allowed(
     search: Search,
 ) -> bool
     requires { ⌜ indexF (prefixOf prefix) + length (now calls) < 0xFFFF_FFFF_FFFF_FFFF ⌝ }
-    ensures { λ r. ⌜ r ≡ cond (search .constrained) (feasibleFromF (lent customers (now (distances .entry)) (now (times .entry)) size) (limitsOf (search .limits)) (prefixOf prefix) (now (calls .entry))) true ⌝ }
+    ensures { λ r.
+        let tables = lent customers (now (distances .entry)) (now (times .entry)) size in
+        let feasible = feasibleFromF tables (limitsOf (search .limits)) (prefixOf prefix) (now (calls .entry)) in
+        ⌜ r ≡ cond (search .constrained) feasible true ⌝ }
 {
     if search.constrained {
         let limits = search.limits;
@@ -118,7 +123,8 @@ pub fn is_allowed(
     true
 }
 
-// Turns the calls from i up to and with j, and turns them back where the run is not allowed; `prefix` is where the calls before i leave the bus. Gives whether a reversal is taken, here or before.
+// Turns the calls from i up to and with j, and turns them back where the run is not allowed; `prefix` is where the
+// calls before i leave the bus. Gives whether a reversal is taken, here or before.
 pub fn reverse_if_allowed(
     current: &mut [usize],
     customers: [Customer; 64],
@@ -132,8 +138,12 @@ pub fn reverse_if_allowed(
     improved: bool,
 ) -> bool
     requires { ⌜ (i < j) × (j < length (now current)) ⌝ }
-    requires { ⌜ Leads (lent customers (now distances) (now times) size) (limitsOf (search .limits)) (take i (now current)) (prefixOf prefix) ⌝ }
-    ensures { λ r. ⌜ state (now (current .exit)) r ≡ reversedF (lent customers (now (distances .entry)) (now (times .entry)) size) (searchOf search) i j (state (now (current .entry)) improved) ⌝ }
+    requires { let tables = lent customers (now distances) (now times) size in
+        ⌜ Leads tables (limitsOf (search .limits)) (take i (now current)) (prefixOf prefix) ⌝ }
+    ensures { λ r.
+        let tables = lent customers (now (distances .entry)) (now (times .entry)) size in
+        let old = state (now (current .entry)) improved in
+        ⌜ state (now (current .exit)) r ≡ reversedF tables (searchOf search) i j old ⌝ }
 {
     let end = j + 1;
     reverse(&mut current[i..end]);
@@ -162,7 +172,8 @@ pub fn no_run(search: Search, prefix: Prefix) -> bool
     false
 }
 
-// For the first call i of the stretch, each last call in turn: a reversal that gains is made where it is allowed. The calls before i stay, so where they cannot be served, none is.
+// For the first call i of the stretch, each last call in turn: a reversal that gains is made where it is allowed. The
+// calls before i stay, so where they cannot be served, none is.
 pub fn try_all(
     current: &mut [usize],
     customers: [Customer; 64],
@@ -175,8 +186,12 @@ pub fn try_all(
     improved: bool,
 ) -> bool
     requires { ⌜ i < length (now current) ⌝ }
-    requires { ⌜ Leads (lent customers (now distances) (now times) size) (limitsOf (search .limits)) (take i (now current)) (prefixOf prefix) ⌝ }
-    ensures { λ r. ⌜ state (now (current .exit)) r ≡ triedAllF (lent customers (now (distances .entry)) (now (times .entry)) size) (searchOf search) (length (now (current .entry))) i (state (now (current .entry)) improved) ⌝ }
+    requires { let tables = lent customers (now distances) (now times) size in
+        ⌜ Leads tables (limitsOf (search .limits)) (take i (now current)) (prefixOf prefix) ⌝ }
+    ensures { λ r.
+        let tables = lent customers (now (distances .entry)) (now (times .entry)) size in
+        let old = state (now (current .entry)) improved in
+        ⌜ state (now (current .exit)) r ≡ triedAllF tables (searchOf search) (length (now (current .entry))) i old ⌝ }
     ensures { λ _. ⌜ take i (now (current .exit)) ≡ take i (now (current .entry)) ⌝ }
 {
     if no_run(search, prefix) {
@@ -217,7 +232,9 @@ pub fn pass(
     size: usize,
     search: Search,
 ) -> bool
-    ensures { λ r. ⌜ state (now (current .exit)) r ≡ passF (lent customers (now (distances .entry)) (now (times .entry)) size) (searchOf search) (now (current .entry)) ⌝ }
+    ensures { λ r.
+        let tables = lent customers (now (distances .entry)) (now (times .entry)) size in
+        ⌜ state (now (current .exit)) r ≡ passF tables (searchOf search) (now (current .entry)) ⌝ }
 {
     let mut improved = false;
     let limits = search.limits;
@@ -244,7 +261,8 @@ pub fn pass(
     improved
 }
 
-// Enough passes for every sheet: a run is at most 129 legs of 10,000,000 long, and each pass that takes a reversal makes it shorter by 1 at the least. On other numbers the search ends here.
+// Enough passes for every sheet: a run is at most 129 legs of 10,000,000 long, and each pass that takes a reversal
+// makes it shorter by 1 at the least. On other numbers the search ends here.
 pub const MOST_PASSES: u32 = 1_290_000_000;
 
 // Passes until one takes no reversal.
@@ -256,7 +274,9 @@ pub fn passes(
     size: usize,
     search: Search,
 )
-    ensures { λ _. ⌜ now (current .exit) ≡ improvedF (lent customers (now (distances .entry)) (now (times .entry)) size) (searchOf search) (now (current .entry)) ⌝ }
+    ensures { λ _.
+        let tables = lent customers (now (distances .entry)) (now (times .entry)) size in
+        ⌜ now (current .exit) ≡ improvedF tables (searchOf search) (now (current .entry)) ⌝ }
 {
     let mut left = MOST_PASSES;
     while 0 < left {
@@ -278,8 +298,12 @@ pub fn improve(
     current: &mut [usize],
 ) -> f64
     requires { ⌜ length (now current) ≡ length (now route) ⌝ }
-    ensures { λ r. ⌜ r ≡ improvedDistanceF (lent customers (now (distances .entry)) (now (times .entry)) size) (searchOf search) (now (route .entry)) ⌝ }
-    ensures { λ _. ⌜ now (current .exit) ≡ improvedF (lent customers (now (distances .entry)) (now (times .entry)) size) (searchOf search) (now (route .entry)) ⌝ }
+    ensures { λ r.
+        let tables = lent customers (now (distances .entry)) (now (times .entry)) size in
+        ⌜ r ≡ improvedDistanceF tables (searchOf search) (now (route .entry)) ⌝ }
+    ensures { λ _.
+        let tables = lent customers (now (distances .entry)) (now (times .entry)) size in
+        ⌜ now (current .exit) ≡ improvedF tables (searchOf search) (now (route .entry)) ⌝ }
 {
     write_front(route, &mut *current);
     passes(&mut *current, customers, distances, times, size, search);
@@ -297,8 +321,13 @@ pub fn two_opt_improve(
     current: &mut [usize],
 ) -> f64
     requires { ⌜ length (now route) ≤ length (now current) ⌝ }
-    ensures { λ r. ⌜ r ≡ improvedDistanceF (lent customers (now (distances .entry)) (now (times .entry)) size) (searchOf search) (now (route .entry)) ⌝ }
-    ensures { λ _. ⌜ now (current .exit) ≡ written (improvedF (lent customers (now (distances .entry)) (now (times .entry)) size) (searchOf search) (now (route .entry))) (now (current .entry)) ⌝ }
+    ensures { λ r.
+        let tables = lent customers (now (distances .entry)) (now (times .entry)) size in
+        ⌜ r ≡ improvedDistanceF tables (searchOf search) (now (route .entry)) ⌝ }
+    ensures { λ _.
+        let tables = lent customers (now (distances .entry)) (now (times .entry)) size in
+        let improved = improvedF tables (searchOf search) (now (route .entry)) in
+        ⌜ now (current .exit) ≡ written improved (now (current .entry)) ⌝ }
 {
     let n = route.len();
     improve(

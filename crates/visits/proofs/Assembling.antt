@@ -6,17 +6,19 @@ use mathlib.Core.List.{List}
 use lib.ListN.{length, length-take}
 use lib.Ieee as Ieee
 use lib.Ieee.{Float, binary64}
+use Rattle.definitions.specs.Load.{Load}
+use Rattle.models.specs.Load.{loadOf}
 use Rattle.evaluation.specs.Records.{Tables, LimitsF}
 use Rattle.evaluation.specs.Tables.{distanceF, timeF}
 use Rattle.visits.specs.declared.violation.Violations.{Violations}
 use Rattle.visits.specs.declared.rest.RestAt.{RestAt}
-use Rattle.visits.specs.declared.evaluator.Walked.{Walked}
+use Rattle.visits.specs.declared.evaluator.VisitedRun.{VisitedRun}
 use Rattle.visits.specs.declared.evaluator.Built.{Built}
 use Rattle.visits.specs.Visiting.{restAtOf, restAtF, Walks}
 use Rattle.visits.specs.Violations.{Checked}
 use Rattle.visits.specs.Building.{buildRouteF, builtOf, Builds}
 
-module _ (t : Tables) (capacity : ℕ) (limits : LimitsF) (calls : List ℕ) (at : RestAt) (w : Walked) (f : Violations) (leg back : Float)
+module _ (t : Tables) (capacity : Load) (limits : LimitsF) (calls : List ℕ) (at : RestAt) (w : VisitedRun) (f : Violations) (leg back : Float)
     (er : restAtOf at ≡ restAtF t (limits .rest) calls) (W : Walks t (restAtOf at) calls w) (el : leg ≡ distanceF t (w .trip .prev) 0) (eb : back ≡ timeF t (w .trip .prev) 0) where
   abbrev distance : Float
   distance = Ieee.add binary64 (w .trip .distance) leg
@@ -35,12 +37,12 @@ module _ (t : Tables) (capacity : ℕ) (limits : LimitsF) (calls : List ℕ) (at
         duration = duration;
         lateness = w .trip .label .lateness;
         «lateness_cost» = w .trip .label .cost;
-        load = w .trip .load;
+        load = w .trip .load .seats;
         place = at .place;
         start = at .start;
       }
 
-  module _ (C : Checked (w .windows) (at .missing) (w .trip .load) capacity limits distance duration f) where
+  module _ (C : Checked (w .windows) (at .missing) (loadOf (w .trip .load)) capacity limits distance duration f) where
     assembled : builtOf built ≡ buildRouteF t capacity limits calls
     unfolding buildRouteF
     assembled = rw (← er, C .list-is, W .visits-are, ← W .trip-is, ← W .windows-are, el, eb)

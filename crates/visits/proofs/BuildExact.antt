@@ -6,25 +6,30 @@ use mathlib.Core.Path.{_≡_, refl, sym, ap, _∙_}
 use mathlib.Core.Bool.{Bool, true, false, not, _&&_, Bool·not-not}
 use mathlib.Core.List.{List, [], _∷_, _++_, map, map-append}
 use mathlib.Core.Option.{Option, none, some, Option·map}
-use lib.Dec.{ltb, leb}
+use lib.Dec.{ltb}
 use lib.ListN.{length}
 use lib.Ieee as Ieee
 use lib.Ieee.{binary64}
 use Rattle.basics.specs.Options.{Holds, present, valueOr}
 use Rattle.basics.specs.Lists.{All, isEmpty}
 use Rattle.definitions.specs.Domain.{mostCalls}
+use Rattle.definitions.specs.Load.{Load, noLoad, carried}
 use Rattle.definitions.specs.Sheet.{Break, Sheet, time}
 use Rattle.definitions.specs.Limits.{within}
 use Rattle.definitions.specs.Run as Whole
 use Rattle.definitions.specs.Run.{start, placeAfter, lastOf, distanceFrom, Totals, home, load}
 use Rattle.definitions.specs.Clock.{clock, placeOr, startOf}
-use Rattle.definitions.specs.Visits.{Violation, breakNotPlaceable, overCapacity, overDistance, overDuration, visited, windowsFrom, lastLabel, unless, buildRoute}
+use Rattle.definitions.specs.Visits.{Violation, breakNotPlaceable, overCapacity, overDistance, overDuration, visited, windowsFrom, lastLabel, unless, overloads, buildRoute}
 use Rattle.definitions.specs.Refusals.{Within, WithinCalls}
+use Rattle.definitions.proofs.LoadLaws.{none-plus}
 use Rattle.theorems.proofs.Visiting.{visits-clock}
-use Rattle.bounds.specs.Inside.{Small, Sized, sized, Place, few-calls, calls-inside, depot-inside, last-inside, time-small}
-use Rattle.bounds.specs.Bounds.{Early, start-early, distance-most, last-most, start-most}
-use Rattle.whole.specs.Whole.{fl, limit, fl-add, fl-lt}
-use Rattle.whole.specs.Numbers.{not-ltb}
+use Rattle.bounds.specs.Sized.{Small, Sized, Place}
+use Rattle.bounds.proofs.Inside.{sized, few-calls, calls-inside, depot-inside, last-inside, time-small}
+use Rattle.bounds.specs.Bounds.{Early}
+use Rattle.bounds.proofs.BoundLaws.{start-early, distance-most, last-most, start-most}
+use Rattle.whole.specs.Whole.{fl, limit}
+use Rattle.whole.proofs.WholeLaws.{fl-add, fl-lt}
+use Rattle.whole.proofs.Numbers.{not-ltb}
 use Rattle.models.specs.Image.{flBreak}
 use Rattle.models.proofs.Exact.{limit-exact}
 use Rattle.clock.specs.Image.{flTotals}
@@ -39,7 +44,7 @@ use Rattle.visits.specs.Violations.{overF, when, checkedF}
 use Rattle.visits.specs.Building.{builtF, buildRouteF}
 use Rattle.visits.specs.Image.{flViolation, flRoute}
 use Rattle.visits.proofs.Resting.{lengthOf, nowhere, no-place, agrees}
-use Rattle.visits.proofs.VisitsExact.{tripOf, flRest, Onward, visits-exact, windows-exact, trip-exact}
+use Rattle.visits.proofs.VisitsExact.{flTrip, flRest, Onward, visits-exact, windows-exact, trip-exact}
 
 -- ---- the violations
 
@@ -56,23 +61,23 @@ empty-map : (l : List Violation) → isEmpty (map flViolation l) ≡ isEmpty l
 empty-map [] = refl
 empty-map (v ∷ l) = refl
 
-module _ (s : Sheet) (S : Sized s) (windows : List Violation) (missing : Bool) (load distance duration : ℕ) (far : distance ≤ limit) (long : duration ≤ limit) where
-  checked-exact : checkedF (map flViolation windows) missing load (s .capacity) (flLimits s) (fl distance) (fl duration)
+module _ (s : Sheet) (S : Sized s) (windows : List Violation) (missing : Bool) (load : Load) (distance duration : ℕ) (far : distance ≤ limit) (long : duration ≤ limit) where
+  checked-exact : checkedF (map flViolation windows) missing load (s .head .capacity) (flLimits s) (fl distance) (fl duration)
       ≡ map flViolation (windows
       ++ unless (not (missing && isEmpty windows)) breakNotPlaceable
-      ++ unless (leb load (s .capacity)) (overCapacity load (s .capacity))
-      ++ unless (within (s .maxDistance) distance) (overDistance distance (valueOr 0 (s .maxDistance)))
-      ++ unless (within (s .maxDuration) duration) (overDuration duration (valueOr 0 (s .maxDuration))))
+      ++ overloads load (s .head .capacity)
+      ++ unless (within (s .head .maxDistance) distance) (overDistance distance (valueOr 0 (s .head .maxDistance)))
+      ++ unless (within (s .head .maxDuration) duration) (overDuration duration (valueOr 0 (s .head .maxDuration))))
   unfolding checkedF
   checked-exact =
       rw (
         empty-map windows,
-        limit-exact (s .maxDistance),
-        limit-exact (s .maxDuration),
+        limit-exact (s .head .maxDistance),
+        limit-exact (s .head .maxDuration),
         when-exact (missing && isEmpty windows) (not (missing && isEmpty windows)) breakNotPlaceable (sym (Bool·not-not (missing && isEmpty windows))),
-        when-exact _ (leb load (s .capacity)) (overCapacity load (s .capacity)) refl,
-        when-exact _ (within (s .maxDistance) distance) (overDistance distance (valueOr 0 (s .maxDistance))) (over-exact (s .maxDistance) distance (S .far-small) far),
-        when-exact _ (within (s .maxDuration) duration) (overDuration duration (valueOr 0 (s .maxDuration))) (over-exact (s .maxDuration) duration (S .long-small) long),
+        when-exact _ (carried load (s .head .capacity)) (overCapacity (load .seats) (s .head .capacity .seats)) refl,
+        when-exact _ (within (s .head .maxDistance) distance) (overDistance distance (valueOr 0 (s .head .maxDistance))) (over-exact (s .head .maxDistance) distance (S .far-small) far),
+        when-exact _ (within (s .head .maxDuration) duration) (overDuration duration (valueOr 0 (s .head .maxDuration))) (over-exact (s .head .maxDuration) duration (S .long-small) long),
       )
       (sym (simp map-append))
 
@@ -83,13 +88,13 @@ module _ (s : Sheet) (S : Sized s) (t : Tables) (I : Image s t) (calls : List �
   place = placeOr (clock s calls)
 
   abbrev missing : Bool
-  missing = present (s .rest) && not (present (clock s calls))
+  missing = present (s .head .rest) && not (present (clock s calls))
 
   abbrev began : Option ℕ
   began = startOf s (record { calls = calls; place = place })
 
   -- the place, and whether there is none
-  placed-exact : (r : Option Break) → s .rest ≡ r
+  placed-exact : (r : Option Break) → s .head .rest ≡ r
       → (placeOf (placedF t (Option·map flBreak r) calls) ≡ place) × (missingF (Option·map flBreak r) (placedF t (Option·map flBreak r) calls) ≡ present r && not (present (clock s calls)))
   unfolding placedF
   placed-exact none e = (go (clock s calls) refl, refl)
@@ -107,9 +112,9 @@ module _ (s : Sheet) (S : Sized s) (t : Tables) (I : Image s t) (calls : List �
   length-exact none = refl
   length-exact (some b) = refl
 
-  rest-exact : restAtF t (Option·map flBreak (s .rest)) calls ≡ flRest s place began missing
+  rest-exact : restAtF t (Option·map flBreak (s .head .rest)) calls ≡ flRest s place began missing
   unfolding restAtF
-  rest-exact = let p = placed-exact (s .rest) refl in rw (p .1, p .0, length-exact (s .rest), start-exact s S t I calls few i place)
+  rest-exact = let p = placed-exact (s .head .rest) refl in rw (p .1, p .0, length-exact (s .head .rest), start-exact s S t I calls few i place)
 
   -- ---- the totals
 
@@ -163,18 +168,18 @@ module _ (s : Sheet) (S : Sized s) (t : Tables) (I : Image s t) (calls : List �
   set-out : Onward s place began 0 1 0 start calls
   set-out = record { few = omega arith; from-inside = depot-inside s S; calls-inside = i; early = start-early; agreed = agrees s calls }
 
-  trip-home : tripF t (flRest s place began missing) 1 startTrip calls ≡ tripOf (legsF t (fl 0) 0 calls) last (load s calls) (lastOf 0 calls)
+  trip-home : tripF t (flRest s place began missing) 1 startTrip calls ≡ flTrip (legsF t (fl 0) 0 calls) last (load s calls) (lastOf 0 calls)
   trip-home =
-      trip-exact s S t I place began missing began-fits 0 1 0 (fl 0) start 0 calls set-out
-      ∙ ap (λ (n : ℕ). tripOf (legsF t (fl 0) 0 calls) last n (lastOf 0 calls)) (zero-add (load s calls))
+      trip-exact s S t I place began missing began-fits 0 1 0 (fl 0) start noLoad calls set-out
+      ∙ ap (λ (n : Load). flTrip (legsF t (fl 0) 0 calls) last n (lastOf 0 calls)) (none-plus (load s calls))
 
-  pub build-exact : buildRouteF t (s .capacity) (flLimits s) calls ≡ flRoute (buildRoute s calls)
+  pub build-exact : buildRouteF t (s .head .capacity) (flLimits s) calls ≡ flRoute (buildRoute s calls)
   unfolding buildRouteF buildRoute
   build-exact =
-      ap (builtF t (s .capacity) (flLimits s) calls) rest-exact
+      ap (builtF t (s .head .capacity) (flLimits s) calls) rest-exact
       ∙ rw (
-        visits-exact s S t I place began missing began-fits 0 1 0 (fl 0) start 0 calls set-out,
-        windows-exact s S t I place began missing began-fits 0 1 0 (fl 0) start 0 calls set-out,
+        visits-exact s S t I place began missing began-fits 0 1 0 (fl 0) start noLoad calls set-out,
+        windows-exact s S t I place began missing began-fits 0 1 0 (fl 0) start noLoad calls set-out,
         trip-home,
         distance-exact,
         duration-exact,
@@ -186,5 +191,5 @@ module _ (s : Sheet) (S : Sized s) (t : Tables) (I : Image s t) (calls : List �
 
 -- the answer on floats is that of the definitions, each figure held in a float
 pub built-exact : (s : Sheet) → Within s → (t : Tables) → Image s t → (calls : List ℕ) → WithinCalls s calls
-    → buildRouteF t (s .capacity) (flLimits s) calls ≡ flRoute (buildRoute s calls)
+    → buildRouteF t (s .head .capacity) (flLimits s) calls ≡ flRoute (buildRoute s calls)
 built-exact s W t I calls C = build-exact s (sized s W) t I calls (few-calls s calls C) (calls-inside s calls C)

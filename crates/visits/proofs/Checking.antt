@@ -8,10 +8,10 @@ use lib.Dec.{eqb}
 use lib.ListN.{length, take}
 use borrow.Author.Tests.{eqb-true, eq-eqb, ne-eqb}
 use lib.Ieee.{Float}
-use Rattle.basics.specs.Tests.{and-right}
+use Rattle.basics.proofs.TestLaws.{and-right}
 use Rattle.basics.specs.Lists.{isEmpty}
+use Rattle.definitions.specs.Load.{Load, carried}
 use Rattle.models.specs.Limits.{limitF}
-use Rattle.models.specs.Load.{fitsLoad}
 use Rattle.evaluation.specs.Records.{LimitsF}
 use Rattle.visits.specs.declared.visit.ViolationType.the-variants.{BreakNotPlaceable, CapacityExceeded, MaxDistanceExceeded, MaxDurationExceeded}
 use Rattle.visits.specs.declared.visit.Violation.{Violation}
@@ -41,9 +41,9 @@ break-room n m missing true eb e h = let z = eqb-true n 0 (and-right missing (eq
 break-room n m missing false eb e h = omega arith
 
 -- f is what is found before, and p, l, n and r with the break, the load, the distance and the duration
-module _ (f p l n r : Violations) (missing : Bool) (load capacity : ℕ) (limits : LimitsF) (distance duration : Float) (long : length (f .list) ≡ 131) (few : f .count ≤ 128)
+module _ (f p l n r : Violations) (missing : Bool) (load capacity : Load) (limits : LimitsF) (distance duration : Float) (long : length (f .list) ≡ 131) (few : f .count ≤ 128)
     (b : Bool) (eb : b ≡ (missing && eqb (f .count) 0)) (P : Pushed f b (record { kind = BreakNotPlaceable }) p)
-    (c : Bool) (ec : c ≡ not (fitsLoad load capacity)) (L : Pushed p c (record { kind = CapacityExceeded load capacity }) l)
+    (c : Bool) (ec : c ≡ not (carried load capacity)) (L : Pushed p c (record { kind = CapacityExceeded (load .seats) (capacity .seats) }) l)
     (d : Bool) (far : Float) (ed : d ≡ overF (limits .maxDistance) distance) (ef : far ≡ limitF (limits .maxDistance)) (N : Pushed l d (record { kind = MaxDistanceExceeded distance far }) n)
     (t : Bool) (late : Float) (et : t ≡ overF (limits .maxDuration) duration) (el : late ≡ limitF (limits .maxDuration)) (R : Pushed n t (record { kind = MaxDurationExceeded duration late }) r) where
   pub all-checked : Checked f missing load capacity limits distance duration r

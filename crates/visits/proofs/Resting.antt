@@ -8,8 +8,9 @@ use mathlib.Core.Option.{Option, none, some}
 use lib.Dec.{eqb}
 use lib.ListN.{getD, take}
 use borrow.Author.Tests.{eq-eqb, ne-eqb, eqb-true}
-use Rattle.basics.specs.Tests.{by-test}
-use Rattle.basics.specs.Options.{_>>=_, valueOr, same, clash, bound}
+use Rattle.basics.proofs.TestLaws.{by-test}
+use Rattle.basics.specs.Options.{_>>=_, valueOr}
+use Rattle.basics.proofs.OptionLaws.{same, clash, bound}
 use Rattle.definitions.specs.Sheet.{Break, Sheet, time}
 use Rattle.definitions.specs.Run.{breakStart, tooLate, ready, Label, start, serveAt, serve, breakAt, serveAll, lastOf, Totals, placed}
 use Rattle.definitions.specs.Clock.{clock, placeOr, startOf}
@@ -25,7 +26,7 @@ lengthOf (some b) = b .duration
 
 -- readiness at call number k by the break's place and start
 abbrev pub readyAt : Sheet → ℕ → Option ℕ → ℕ → ℕ → ℕ
-readyAt s place o k arrival = valueOr arrival (o >>= λ from. cond (eqb place k) (some (from + lengthOf (s .rest))) none)
+readyAt s place o k arrival = valueOr arrival (o >>= λ from. cond (eqb place k) (some (from + lengthOf (s .head .rest))) none)
 
 -- it is that of the visits, at each call from number k on
 abbrev pub Agrees : Sheet → ℕ → Option ℕ → ℕ → ℕ → Label → List ℕ → Type 0
@@ -73,7 +74,7 @@ module _ (s : Sheet) (place : ℕ) (o : Option ℕ) where
       apart : place ≡ k → ⊥
       apart e = omega arith
 
-  module _ (b : Break) (rest-is : s .rest ≡ some b) where
+  module _ (b : Break) (rest-is : s .head .rest ≡ some b) where
     -- the start of a break m calls on from here, where the calls before it are served
     abbrev startAfter : ℕ → ℕ → ℕ → Option Label → List ℕ → Option ℕ
     startAfter m k a x calls = serveAll s 0 k a x (take m calls) >>= λ n. some (breakStart b (n .time + time s (lastOf a (take m calls)) (getD calls m 0)))
@@ -110,12 +111,12 @@ module _ (s : Sheet) (calls : List ℕ) where
   startAt place = startOf s (record { calls = calls; place = place })
 
   -- on a sheet with no break there is no place
-  pub no-place : s .rest ≡ none → (t : Totals) → clock s calls ≡ some t → t .place ≡ 0
+  pub no-place : s .head .rest ≡ none → (t : Totals) → clock s calls ≡ some t → t .place ≡ 0
   unfolding placed
   no-place e t q = eqb-true (t .place) 0 (rw e at (clock-own s calls t q .1))
 
   -- at a place from 1 on
-  agrees-at : (k : ℕ) (t : Totals) → clock s calls ≡ some t → t .place ≡ suc k → (r : Option Break) → s .rest ≡ r → Agrees s (suc k) (startAt (suc k)) 1 0 start calls
+  agrees-at : (k : ℕ) (t : Totals) → clock s calls ≡ some t → t .place ≡ suc k → (r : Option Break) → s .head .rest ≡ r → Agrees s (suc k) (startAt (suc k)) 1 0 start calls
   unfolding startOf
   agrees-at k t q e none r = let z = no-place r t q in absurd (none-there (suc k) (omega arith) (omega arith))
     where
@@ -131,7 +132,7 @@ module _ (s : Sheet) (calls : List ℕ) where
     where
       go : (p : ℕ) → t .place ≡ p → Agrees s (t .place) (startAt (t .place)) 1 0 start calls
       go zero e = agrees-past s (t .place) (startAt (t .place)) 1 0 start calls (omega arith)
-      go (suc k) e = subst (λ (p : ℕ). Agrees s p (startAt p) 1 0 start calls) (sym e) (agrees-at k t q e (s .rest) refl)
+      go (suc k) e = subst (λ (p : ℕ). Agrees s p (startAt p) 1 0 start calls) (sym e) (agrees-at k t q e (s .head .rest) refl)
 
   pub agrees : Agrees s (placeOr (clock s calls)) (startAt (placeOr (clock s calls))) 1 0 start calls
   agrees = agrees-by (clock s calls) refl

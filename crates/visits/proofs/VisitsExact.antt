@@ -1,8 +1,8 @@
 -- On a sheet within the limits, held in floats, the calls of a run are visited as in crates/definitions. Assumes nothing.
 use Prim.Native.Nat.{ℕ, suc, _+_, _-_, _≤_, _<_, max}
 use native.Mathlib.Omega.{arith}
-use native.Mathlib.Nat.{add-assoc, add-zero}
-use mathlib.Core.Path.{_≡_, refl}
+use native.Mathlib.Nat.{add-zero}
+use mathlib.Core.Path.{_≡_, refl, sym, ap, _∙_}
 use mathlib.Core.Bool.{Bool, not}
 use mathlib.Core.List.{List, [], _∷_, map}
 use mathlib.Core.Option.{Option, none, some, Option·map}
@@ -10,18 +10,23 @@ use lib.Dec.{eqb}
 use lib.ListN.{length}
 use lib.Ieee as Ieee
 use lib.Ieee.{Float, binary64}
-use Rattle.basics.specs.Tests.{by-test}
+use Rattle.basics.proofs.TestLaws.{by-test}
 use Rattle.basics.specs.Options.{_>>=_, Holds, present, valueOr}
 use Rattle.basics.specs.Lists.{All}
 use Rattle.definitions.specs.Domain.{mostCalls}
+use Rattle.definitions.specs.Load.{Load, plus}
 use Rattle.definitions.specs.Sheet.{Window, Break, Customer, Sheet, customer, distance, time}
 use Rattle.definitions.specs.Window.{dueOf, begins, Entry, enter}
 use Rattle.definitions.specs.Run as Whole
 use Rattle.definitions.specs.Run.{breakAt, lastOf, load}
 use Rattle.definitions.specs.Visits.{windowShut, readyFor, entered, visited, visitsFrom, windowsFrom, lastLabel}
-use Rattle.bounds.specs.Inside.{Small, SmallWindow, SmallBreak, SmallCustomer, Sized, Place, time-small, customer-small, break-small}
-use Rattle.bounds.specs.Bounds.{Early, readyBy, begins-most, enter-most, readiness-most, visited-early}
-use Rattle.whole.specs.Whole.{fl, limit, fl-add}
+use Rattle.definitions.proofs.LoadLaws.{plus-none, plus-assoc}
+use Rattle.bounds.specs.Sized.{Small, SmallWindow, SmallBreak, SmallCustomer, Sized, Place}
+use Rattle.bounds.proofs.Inside.{time-small, customer-small, break-small}
+use Rattle.bounds.specs.Bounds.{Early, readyBy}
+use Rattle.bounds.proofs.BoundLaws.{begins-most, enter-most, readiness-most, visited-early}
+use Rattle.whole.specs.Whole.{fl, limit}
+use Rattle.whole.proofs.WholeLaws.{fl-add}
 use Rattle.models.specs.Image.{flWindow, flCustomer}
 use Rattle.models.proofs.Exact.{waiting-exact, due-exact}
 use Rattle.clock.specs.Image.{flLabel}
@@ -30,8 +35,7 @@ use Rattle.evaluation.specs.Records.{Tables}
 use Rattle.evaluation.specs.Tables.{distanceF, legsF}
 use Rattle.evaluation.specs.Image.{Image}
 use Rattle.evaluation.proofs.ClockExact.{record-exact, time-exact}
-use Rattle.visits.specs.declared.trip.Trip.{Trip}
-use Rattle.visits.specs.Visiting.{RestF, readyAtF, beginF, servedBy, servedF, stopF, stopAtF, visitsF, windowsF, tripF}
+use Rattle.visits.specs.Visiting.{RestF, TripF, readyAtF, beginF, servedBy, servedF, visitF, visitAtF, visitsF, windowsF, tripF}
 use Rattle.visits.specs.Image.{flVisit, flViolation}
 use Rattle.visits.proofs.Resting.{lengthOf, readyAt, Agrees}
 
@@ -40,12 +44,12 @@ abbrev unplaced : Whole.Label → Whole.Label
 unplaced l = record { time = l .time; lateness = l .lateness; pay = l .pay; place = 0 }
 
 -- a trip so far, with the distance as travelled
-abbrev pub tripOf : Float → Whole.Label → ℕ → ℕ → Trip
-tripOf far l carried a = record { label = flLabel (unplaced l); distance = far; load = carried; prev = a }
+abbrev pub flTrip : Float → Whole.Label → Load → ℕ → TripF
+flTrip far l carried a = record { label = flLabel (unplaced l); distance = far; load = carried; prev = a }
 
 -- the break by its place and start
 abbrev pub flRest : Sheet → ℕ → Option ℕ → Bool → RestF
-flRest s place o missing = record { place = place; start = Option·map fl o; duration = fl (lengthOf (s .rest)); missing = missing }
+flRest s place o missing = record { place = place; start = Option·map fl o; duration = fl (lengthOf (s .head .rest)); missing = missing }
 
 length-small : (o : Option Break) → Holds SmallBreak o → Small (lengthOf o)
 length-small none B = omega arith
@@ -56,7 +60,7 @@ ready-exact : (s : Sheet) → Sized s → (place : ℕ) (o : Option ℕ) (missin
 unfolding readyAtF
 ready-exact s S place none missing O k arrival = refl
 ready-exact s S place (some from) missing O k arrival =
-    by-test (eqb place k) (λ y. rw (y, fl-add from (lengthOf (s .rest)) O (omega (arith, length-small (s .rest) (S .rest-small))))) (λ n. rw n)
+    by-test (eqb place k) (λ y. rw (y, fl-add from (lengthOf (s .head .rest)) O (omega (arith, length-small (s .head .rest) (S .rest-small))))) (λ n. rw n)
 
 -- ---- a call after k others
 
@@ -78,11 +82,13 @@ module _ (k : ℕ) (few : k < mostCalls) where
     served-exact : servedF (flCustomer c) (fl r) (flLabel (unplaced l)) ≡ record { label = flLabel (left (enter (c .window) (c .penalty) r)); shut = not (present (enter (c .window) (c .penalty) r)) }
     unfolding servedF
     served-exact =
-        rw (enter-exact k few (unplaced l) (record { time-most = E .time-most; lateness-most = E .lateness-most; pay-most = E .pay-most }) r h (c .window) (C .window-small) (c .penalty) (C .penalty-small))
+        let F : Early k (unplaced l) = record { time-most = E .time-most; lateness-most = E .lateness-most; pay-most = E .pay-most } in
+        rw (enter-exact k few (unplaced l) F r h (c .window) (C .window-small) (c .penalty) (C .penalty-small))
         (go (enter (c .window) (c .penalty) r) refl)
       where
         go : (o : Option Entry) → enter (c .window) (c .penalty) r ≡ o
-            → servedBy (flCustomer c) (fl r) (flLabel (unplaced l)) (Option·map (λ (e : Entry). flLabel (record { time = e .start; lateness = l .lateness + e .lateness; pay = l .pay + e .pay; place = 0 })) o)
+            → servedBy (flCustomer c) (fl r) (flLabel (unplaced l))
+            (Option·map (λ (e : Entry). flLabel (record { time = e .start; lateness = l .lateness + e .lateness; pay = l .pay + e .pay; place = 0 })) o)
             ≡ record { label = flLabel (left o); shut = not (present o) }
         go none q =
             let z = begins-most (c .window) (C .window-small) k r h in
@@ -123,16 +129,16 @@ module _ (s : Sheet) (S : Sized s) (t : Tables) (I : Image s t) (place : ℕ) (o
           agreed = H .agreed .1;
         }
 
-    stop-exact : (far : Float) (carried : ℕ)
-        → stopAtF t R j (tripOf far l carried a) c
+    visit-exact : (far : Float) (carried : Load)
+        → visitAtF t R j (flTrip far l carried a) c
         ≡ record {
-          trip = tripOf (Ieee.add binary64 far (distanceF t a c)) next (carried + customer s c .demand) c;
-          visit = flVisit (record { customer = c; arrival = l .time + time s a c; departure = next .time; load = carried + customer s c .demand });
+          trip = flTrip (Ieee.add binary64 far (distanceF t a c)) next (plus carried (customer s c .demand)) c;
+          visit = flVisit (record { customer = c; arrival = l .time + time s a c; departure = next .time; load = plus carried (customer s c .demand) });
           violation = flViolation (windowShut c readiness (dueOf (customer s c .window)));
           shut = not (present (entered s c readiness));
         }
-    unfolding stopF visited
-    stop-exact far carried =
+    unfolding visitF visited
+    visit-exact far carried =
         let few : k < mostCalls = omega arith in
         let E = H .early in
         rw (
@@ -142,27 +148,32 @@ module _ (s : Sheet) (S : Sized s) (t : Tables) (I : Image s t) (place : ℕ) (o
           ready-exact s S place o missing O j (l .time + time s a c),
           H .agreed .0,
         )
-        (rw (served-exact k few (customer s c) (customer-small s S c) l E readiness (readiness-most s S k few (breakAt s place j) (break-small s S place j) j a c l E), due-exact (customer s c .window)))
+        (let most = readiness-most s S k few (breakAt s place j) (break-small s S place j) j a c l E in
+        rw (served-exact k few (customer s c) (customer-small s S c) l E readiness most, due-exact (customer s c .window)))
 
-  pub visits-exact : (k j a : ℕ) (far : Float) (l : Whole.Label) (carried : ℕ) (calls : List ℕ) → Onward s place o k j a l calls
-      → visitsF t R j (tripOf far l carried a) calls ≡ map flVisit (visitsFrom s place j a l carried calls)
+  pub visits-exact : (k j a : ℕ) (far : Float) (l : Whole.Label) (carried : Load) (calls : List ℕ) → Onward s place o k j a l calls
+      → visitsF t R j (flTrip far l carried a) calls ≡ map flVisit (visitsFrom s place j a l carried calls)
   unfolding visitsF visitsFrom
   visits-exact k j a far l carried [] H = refl
   visits-exact k j a far l carried (c ∷ cs) H =
-      rw (stop-exact k j a l c cs H far carried, visits-exact (suc k) (suc j) c (Ieee.add binary64 far (distanceF t a c)) (next k j a l c cs H) (carried + customer s c .demand) cs (onward k j a l c cs H))
+      let farther = Ieee.add binary64 far (distanceF t a c) in
+      let rest = visits-exact (suc k) (suc j) c farther (next k j a l c cs H) (plus carried (customer s c .demand)) cs (onward k j a l c cs H) in
+      rw (visit-exact k j a l c cs H far carried, rest)
 
-  pub windows-exact : (k j a : ℕ) (far : Float) (l : Whole.Label) (carried : ℕ) (calls : List ℕ) → Onward s place o k j a l calls
-      → windowsF t R j (tripOf far l carried a) calls ≡ map flViolation (windowsFrom s place j a l calls)
+  pub windows-exact : (k j a : ℕ) (far : Float) (l : Whole.Label) (carried : Load) (calls : List ℕ) → Onward s place o k j a l calls
+      → windowsF t R j (flTrip far l carried a) calls ≡ map flViolation (windowsFrom s place j a l calls)
   unfolding windowsF windowsFrom
   windows-exact k j a far l carried [] H = refl
   windows-exact k j a far l carried (c ∷ cs) H =
-      rw (stop-exact k j a l c cs H far carried, windows-exact (suc k) (suc j) c (Ieee.add binary64 far (distanceF t a c)) (next k j a l c cs H) (carried + customer s c .demand) cs (onward k j a l c cs H))
+      let farther = Ieee.add binary64 far (distanceF t a c) in
+      let rest = windows-exact (suc k) (suc j) c farther (next k j a l c cs H) (plus carried (customer s c .demand)) cs (onward k j a l c cs H) in
+      rw (visit-exact k j a l c cs H far carried, rest)
       (by-test (present (entered s c (readiness k j a l c cs H))) (λ y. rw y) (λ n. rw n))
 
-  pub trip-exact : (k j a : ℕ) (far : Float) (l : Whole.Label) (carried : ℕ) (calls : List ℕ) → Onward s place o k j a l calls
-      → tripF t R j (tripOf far l carried a) calls ≡ tripOf (legsF t far a calls) (lastLabel s place j a l calls) (carried + load s calls) (lastOf a calls)
+  pub trip-exact : (k j a : ℕ) (far : Float) (l : Whole.Label) (carried : Load) (calls : List ℕ) → Onward s place o k j a l calls
+      → tripF t R j (flTrip far l carried a) calls ≡ flTrip (legsF t far a calls) (lastLabel s place j a l calls) (plus carried (load s calls)) (lastOf a calls)
   unfolding tripF lastLabel legsF
-  trip-exact k j a far l carried [] H = rw (add-zero carried)
+  trip-exact k j a far l carried [] H = ap (λ (n : Load). flTrip far l n a) (sym (plus-none carried))
   trip-exact k j a far l carried (c ∷ cs) H =
-      rw (stop-exact k j a l c cs H far carried, ← add-assoc carried (customer s c .demand) (load s cs))
-      (trip-exact (suc k) (suc j) c (Ieee.add binary64 far (distanceF t a c)) (next k j a l c cs H) (carried + customer s c .demand) cs (onward k j a l c cs H))
+      rw (visit-exact k j a l c cs H far carried, ← plus-assoc carried (customer s c .demand) (load s cs))
+      (trip-exact (suc k) (suc j) c (Ieee.add binary64 far (distanceF t a c)) (next k j a l c cs H) (plus carried (customer s c .demand)) cs (onward k j a l c cs H))

@@ -12,7 +12,13 @@ use Rattle.visits.specs.declared.visit.Violation.{Violation}
 use Rattle.visits.specs.Building.{RouteF}
 
 abbrev pub flVisit : Whole.Visit → Visit
-flVisit v = record { «customer_id» = v .customer; «arrival_time» = fl (v .arrival); «departure_time» = fl (v .departure); «load_after» = v .load }
+flVisit v =
+    record {
+      «customer_id» = v .customer;
+      «arrival_time» = fl (v .arrival);
+      «departure_time» = fl (v .departure);
+      «load_after» = v .load .seats;
+    }
 
 abbrev pub flKind : Whole.Violation → ViolationType
 flKind (windowShut customer readiness due) = TimeWindowViolated customer (fl readiness) (fl due)
@@ -29,7 +35,7 @@ flRoute r =
     record {
       visits = map flVisit (r .visits);
       totals = flTotals (r .totals);
-      load = r .load;
+      load = r .load .seats;
       start = Option·map fl (r .start);
       violations = map flViolation (r .violations);
     }

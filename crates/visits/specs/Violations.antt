@@ -8,8 +8,8 @@ use lib.ListN.{length}
 use lib.Ieee as Ieee
 use lib.Ieee.{Float}
 use Rattle.basics.specs.Lists.{isEmpty}
+use Rattle.definitions.specs.Load.{Load, carried}
 use Rattle.models.specs.Limits.{limitF}
-use Rattle.models.specs.Load.{fitsLoad}
 use Rattle.evaluation.specs.Records.{LimitsF}
 use Rattle.visits.specs.declared.visit.ViolationType.the-variants.{BreakNotPlaceable, CapacityExceeded, MaxDistanceExceeded, MaxDurationExceeded}
 use Rattle.visits.specs.declared.visit.Violation.{Violation}
@@ -26,11 +26,11 @@ abbrev pub when : Bool → Violation → List Violation
 when b v = cond b (v ∷ []) []
 
 -- the windows violated, and after them the break, capacity, distance and duration
-unfoldable pub checkedF : List Violation → Bool → ℕ → ℕ → LimitsF → Float → Float → List Violation
+unfoldable pub checkedF : List Violation → Bool → Load → Load → LimitsF → Float → Float → List Violation
 checkedF windows missing load capacity limits distance duration =
     windows
     ++ when (missing && isEmpty windows) (record { kind = BreakNotPlaceable })
-    ++ when (not (fitsLoad load capacity)) (record { kind = CapacityExceeded load capacity })
+    ++ when (not (carried load capacity)) (record { kind = CapacityExceeded (load .seats) (capacity .seats) })
     ++ when (overF (limits .maxDistance) distance) (record { kind = MaxDistanceExceeded distance (limitF (limits .maxDistance)) })
     ++ when (overF (limits .maxDuration) duration) (record { kind = MaxDurationExceeded duration (limitF (limits .maxDuration)) })
 
@@ -41,7 +41,8 @@ pub record Pushed (f : Violations) (test : Bool) (v : Violation) (r : Violations
   pub count-is : r .count ≡ f .count + cond test 1 0
   pub long : length (r .list) ≡ 131
 
-pub record Checked (f : Violations) (missing : Bool) (load capacity : ℕ) (limits : LimitsF) (distance duration : Float) (r : Violations) : Type 0 where
+pub record Checked (f : Violations) (missing : Bool) (load capacity : Load) (limits : LimitsF) (distance duration : Float) (r : Violations)
+    : Type 0 where
   pub list-is : listed r ≡ checkedF (listed f) missing load capacity limits distance duration
   pub room : r .count ≤ 131
   pub long : length (r .list) ≡ 131

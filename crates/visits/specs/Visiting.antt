@@ -9,8 +9,10 @@ use lib.ListN.{length, take}
 use lib.Ieee as Ieee
 use lib.Ieee.{Float, binary64}
 use Rattle.basics.specs.Options.{_>>=_, present, valueOr}
+use Rattle.definitions.specs.Load.{Load, noLoad, plus}
 use Rattle.definitions.specs.Sheet.{WindowOf, BreakOf, CustomerOf}
 use Rattle.whole.specs.Whole.{fl}
+use Rattle.models.specs.Load.{loadOf}
 use Rattle.models.specs.Window.{waitingF, dueF}
 use Rattle.clock.specs.declared.schedule.Label.{Label}
 use Rattle.clock.specs.declared.schedule.Scheduled.{Scheduled}
@@ -26,8 +28,8 @@ use Rattle.visits.specs.declared.violation.Violations.{Violations}
 use Rattle.visits.specs.declared.rest.RestAt.{RestAt}
 use Rattle.visits.specs.declared.trip.Served.{Served}
 use Rattle.visits.specs.declared.trip.Trip.{Trip}
-use Rattle.visits.specs.declared.trip.Stop.{Stop}
-use Rattle.visits.specs.declared.evaluator.Walked.{Walked}
+use Rattle.visits.specs.declared.trip.VisitedCall.{VisitedCall}
+use Rattle.visits.specs.declared.evaluator.VisitedRun.{VisitedRun}
 
 -- ---- the break
 
@@ -59,14 +61,20 @@ missingF rest placed = present rest && not (present placed)
 -- with a placing, and with the best one
 abbrev pub restByF : Tables → Option (BreakOf Float) → List ℕ → Option Scheduled → RestF
 restByF t rest calls placed =
-    record { place = placeOf placed; start = startF t rest (placeOf placed) calls; duration = durationF rest; missing = missingF rest placed }
+    record {
+      place = placeOf placed;
+      start = startF t rest (placeOf placed) calls;
+      duration = durationF rest;
+      missing = missingF rest placed;
+    }
 
 unfoldable pub restAtF : Tables → Option (BreakOf Float) → List ℕ → RestF
 restAtF t rest calls = restByF t rest calls (placedF t rest calls)
 
 -- at the call that the break comes before, the service can start only after it
 unfoldable pub readyAtF : RestF → ℕ → Float → Float
-readyAtF r k arrival = valueOr arrival (r .start >>= λ from. cond (eqb (r .place) k) (some (Ieee.add binary64 from (r .duration))) none)
+readyAtF r k arrival =
+    valueOr arrival (r .start >>= λ from. cond (eqb (r .place) k) (some (Ieee.add binary64 from (r .duration))) none)
 
 -- ---- a call
 
@@ -81,61 +89,84 @@ stayF c readiness l o = valueOr (atTime (beginF (c .window) readiness) l) o
 
 -- by the label that the window gives, if it does
 abbrev pub servedBy : CustomerOf Float → Float → Label → Option Label → Served
-servedBy c readiness l o = let m = stayF c readiness l o in record { label = leaveF (c .service) (m .place) m; shut = not (present o) }
+servedBy c readiness l o =
+    let m = stayF c readiness l o in
+    record { label = leaveF (c .service) (m .place) m; shut = not (present o) }
 
 unfoldable pub servedF : CustomerOf Float → Float → Label → Served
 servedF c readiness l = servedBy c readiness l (enterF (c .window) (c .penalty) readiness l)
 
-abbrev pub startTrip : Trip
-startTrip = record { label = startLabel; distance = fl 0; load = 0; prev = 0 }
+-- some way through the calls: the label, the distance travelled, the load, and the last place
+pub record TripF : Type 0 where
+  pub label : Label
+  pub distance : Float
+  pub load : Load
+  pub prev : ℕ
 
--- call number k, customer cid, a distance and a travel time away, ready from `readiness` on and left as served
-abbrev pub stopBy : Trip → ℕ → CustomerOf Float → Float → Float → Float → Served → Stop
-stopBy x cid c leg arrival readiness m =
+abbrev pub tripOf : Trip → TripF
+tripOf x = record { label = x .label; distance = x .distance; load = loadOf (x .load); prev = x .prev }
+
+abbrev pub startTrip : TripF
+startTrip = record { label = startLabel; distance = fl 0; load = noLoad; prev = 0 }
+
+-- a call visited: the trip with it, the visit, and the violation of its window, which counts where that is shut
+pub record VisitedF : Type 0 where
+  pub trip : TripF
+  pub visit : Visit
+  pub violation : Violation
+  pub shut : Bool
+
+abbrev pub visitedOf : VisitedCall → VisitedF
+visitedOf v = record { trip = tripOf (v .trip); visit = v .visit; violation = v .violation; shut = v .shut }
+
+-- customer cid, reached at `arrival`, ready from `readiness` on and left as served, with this load
+abbrev pub visitBy : TripF → ℕ → CustomerOf Float → Float → Float → Float → Served → Load → VisitedF
+visitBy x cid c distance arrival readiness m load =
     record {
-      trip = record { label = m .label; distance = Ieee.add binary64 (x .distance) leg; load = x .load + c .demand; prev = cid };
-      visit = record { «customer_id» = cid; «arrival_time» = arrival; «departure_time» = m .label .time; «load_after» = x .load + c .demand };
+      trip = record { label = m .label; distance = Ieee.add binary64 (x .distance) distance; load = load; prev = cid };
+      visit = record { «customer_id» = cid; «arrival_time» = arrival; «departure_time» = m .label .time; «load_after» = load .seats };
       violation = record { kind = TimeWindowViolated cid readiness (dueF (c .window)) };
       shut = m .shut;
     }
 
-unfoldable pub stopF : Trip → RestF → ℕ → ℕ → CustomerOf Float → Float → Float → Stop
-stopF x r k cid c leg travel =
+-- call number k, customer cid, a distance and a travel time away
+unfoldable pub visitF : TripF → RestF → ℕ → ℕ → CustomerOf Float → Float → Float → VisitedF
+visitF x r k cid c distance travel =
     let arrival = Ieee.add binary64 (x .label .time) travel in
     let readiness = readyAtF r k arrival in
-    stopBy x cid c leg arrival readiness (servedF c readiness (x .label))
+    visitBy x cid c distance arrival readiness (servedF c readiness (x .label)) (plus (x .load) (c .demand))
 
 -- ---- the walk
 
 -- call number k, looked up in the tables
-abbrev pub stopAtF : Tables → RestF → ℕ → Trip → ℕ → Stop
-stopAtF t r k x c = stopF x r k c (recordF t c) (distanceF t (x .prev) c) (timeF t (x .prev) c)
+abbrev pub visitAtF : Tables → RestF → ℕ → TripF → ℕ → VisitedF
+visitAtF t r k x c = visitF x r k c (recordF t c) (distanceF t (x .prev) c) (timeF t (x .prev) c)
 
 -- the calls from number k on
 module _ (t : Tables) (r : RestF) where
-  unfoldable pub visitsF : ℕ → Trip → List ℕ → List Visit
+  unfoldable pub visitsF : ℕ → TripF → List ℕ → List Visit
   visitsF k x [] = []
-  visitsF k x (c ∷ cs) = stopAtF t r k x c .visit ∷ visitsF (suc k) (stopAtF t r k x c .trip) cs
+  visitsF k x (c ∷ cs) = visitAtF t r k x c .visit ∷ visitsF (suc k) (visitAtF t r k x c .trip) cs
 
-  unfoldable pub windowsF : ℕ → Trip → List ℕ → List Violation
+  unfoldable pub windowsF : ℕ → TripF → List ℕ → List Violation
   windowsF k x [] = []
   windowsF k x (c ∷ cs) =
-      let rest = windowsF (suc k) (stopAtF t r k x c .trip) cs in
-      cond (stopAtF t r k x c .shut) (stopAtF t r k x c .violation ∷ rest) rest
+      let rest = windowsF (suc k) (visitAtF t r k x c .trip) cs in
+      cond (visitAtF t r k x c .shut) (visitAtF t r k x c .violation ∷ rest) rest
 
-  unfoldable pub tripF : ℕ → Trip → List ℕ → Trip
+  unfoldable pub tripF : ℕ → TripF → List ℕ → TripF
   tripF k x [] = x
-  tripF k x (c ∷ cs) = tripF (suc k) (stopAtF t r k x c .trip) cs
+  tripF k x (c ∷ cs) = tripF (suc k) (visitAtF t r k x c .trip) cs
 
 -- the first ones, so many as are counted
 abbrev pub listed : Violations → List Violation
 listed f = take (f .count) (f .list)
 
 -- what the code has of the walk
-pub record Walks (t : Tables) (r : RestF) (calls : List ℕ) (w : Walked) : Type 0 where
+pub record Walks (t : Tables) (r : RestF) (calls : List ℕ) (w : VisitedRun) : Type 0 where
   pub visits-are : take (length calls) (w .visits) ≡ visitsF t r 1 startTrip calls
   pub windows-are : listed (w .windows) ≡ windowsF t r 1 startTrip calls
-  pub trip-is : w .trip ≡ tripF t r 1 startTrip calls
+  pub trip-is : tripOf (w .trip) ≡ tripF t r 1 startTrip calls
   pub few : w .windows .count ≤ length calls
   pub long : length (w .windows .list) ≡ 131
 

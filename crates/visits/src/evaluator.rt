@@ -3,6 +3,7 @@ ghost use mathlib.Core.Path.{_≡_};
 ghost use mathlib.Core.Bool.{cond};
 ghost use Prim.Native.Nat.{_+_, _≤_};
 ghost use lib.ListN.{length, replicate};
+ghost use Rattle.models.specs.Load.{spaceOf};
 ghost use Rattle.evaluation.specs.Records.{lent, limitsOf};
 ghost use Rattle.visits.specs.Visiting.{restAtOf, Walks, blankVisit, blankViolation};
 ghost use Rattle.visits.specs.Building.{Builds};
@@ -13,21 +14,21 @@ use crate::violation::Violations;
 use crate::visit::Violation;
 use crate::visit::ViolationType;
 use crate::visit::Visit;
-use distance::matrix::get;
-use distance::matrix::travel_time;
+use distance::leg::leg_between;
 use evaluation::route::Start;
 use evaluation::schedule::record_index;
 use models::customer::Customer;
 use models::limits::RouteLimits;
+use models::load::Space;
 
 // All calls visited: the visits stand first in their array.
-pub struct Walked {
+pub struct VisitedRun {
     pub visits: [Visit; 128],
     pub windows: Violations,
     pub trip: Trip,
 }
 
-// A run with its visits and violations, which stand first in their arrays. The place is that of the break, from 1, or 0.
+// A run with its visits and violations, which stand first in their arrays. The place is the break's, from 1, or 0.
 pub struct Built {
     pub visits: [Visit; 128],
     pub count: usize,
@@ -80,9 +81,11 @@ pub fn walk(
     times: &[f64],
     size: usize,
     rest: RestAt,
-) -> Walked
+) -> VisitedRun
     requires { ⌜ length (now route) ≤ 128 ⌝ }
-    ensures { λ r. ⌜ Walks (lent customers (now (distances .entry)) (now (times .entry)) size) (restAtOf rest) (now (route .entry)) r ⌝ }
+    ensures { λ r.
+        let tables = lent customers (now (distances .entry)) (now (times .entry)) size in
+        ⌜ Walks tables (restAtOf rest) (now (route .entry)) r ⌝ }
 {
     let mut visits = blank_visits();
     let mut list = blank_violations();
@@ -92,19 +95,18 @@ pub fn walk(
     while i < route.len() {
         let cid = route[i];
         let prev = trip.prev;
-        let leg = get(distances, size, prev, cid);
-        let travel = travel_time(distances, times, size, prev, cid);
+        let leg = leg_between(distances, times, size, prev, cid);
         let index = record_index(cid);
-        let stop = trip.visit(rest, i + 1, cid, customers[index], leg, travel);
-        let visit = stop.visit;
+        let call = trip.visit(rest, i + 1, cid, customers[index], leg);
+        let visit = call.visit;
         visits[i] = visit;
-        let violation = stop.violation;
+        let violation = call.violation;
         list[count] = violation;
-        count = counted(count, stop.shut);
-        trip = stop.trip;
+        count = counted(count, call.shut);
+        trip = call.trip;
         i += 1;
     }
-    Walked {
+    VisitedRun {
         visits,
         windows: Violations { list, count },
         trip,
@@ -118,11 +120,13 @@ pub fn build_route(
     distances: &[f64],
     times: &[f64],
     size: usize,
-    capacity: u32,
+    capacity: Space,
     limits: RouteLimits,
 ) -> Built
     requires { ⌜ length (now route) ≤ 128 ⌝ }
-    ensures { λ r. ⌜ Builds (lent customers (now (distances .entry)) (now (times .entry)) size) capacity (limitsOf limits) (now (route .entry)) r ⌝ }
+    ensures { λ r.
+        let tables = lent customers (now (distances .entry)) (now (times .entry)) size in
+        ⌜ Builds tables (spaceOf capacity) (limitsOf limits) (now (route .entry)) r ⌝ }
 {
     let rest = limits.rest;
     let at = rest_at(route, customers, distances, times, size, rest);
@@ -130,10 +134,12 @@ pub fn build_route(
     let trip = calls.trip;
     let label = trip.label;
     let prev = trip.prev;
-    let distance = trip.distance + get(distances, size, prev, 0);
-    let duration = label.time + travel_time(distances, times, size, prev, 0);
+    let back = leg_between(distances, times, size, prev, 0);
+    let distance = trip.distance + back.distance;
+    let duration = label.time + back.time;
     let windows = calls.windows;
-    let found = windows.checked(at.missing, trip.load, capacity, limits, distance, duration);
+    let load = trip.load;
+    let found = windows.checked(at.missing, load, capacity, limits, distance, duration);
     let visits = calls.visits;
     let violations = found.list;
     let start = at.start;
@@ -146,7 +152,7 @@ pub fn build_route(
         duration,
         lateness: label.lateness,
         lateness_cost: label.cost,
-        load: trip.load,
+        load: load.seats,
         place: at.place,
         start,
     }

@@ -9,7 +9,9 @@ use lending::fitting;
 
 // The first n visits written at the front, as far as there is room; the rest stays.
 pub fn scattered_visits(records: [Visit; 128], n: usize, visits: &mut [Visit])
-    ensures { λ _. ⌜ now (visits .exit) ≡ written (take (min n (length (now (visits .entry)))) records) (now (visits .entry)) ⌝ }
+    ensures { λ _.
+        let lent = now (visits .entry) in
+        ⌜ now (visits .exit) ≡ written (take (min n (length lent)) records) lent ⌝ }
 {
     let m = fitting(n, 128, visits.len());
     let mut i = 0;
@@ -21,7 +23,9 @@ pub fn scattered_visits(records: [Visit; 128], n: usize, visits: &mut [Visit])
 
 // The same of violations.
 pub fn scattered_violations(records: [Violation; 131], n: usize, violations: &mut [Violation])
-    ensures { λ _. ⌜ now (violations .exit) ≡ written (take (min n (length (now (violations .entry)))) records) (now (violations .entry)) ⌝ }
+    ensures { λ _.
+        let lent = now (violations .entry) in
+        ⌜ now (violations .exit) ≡ written (take (min n (length lent)) records) lent ⌝ }
 {
     let m = fitting(n, 131, violations.len());
     let mut i = 0;

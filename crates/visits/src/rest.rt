@@ -11,7 +11,8 @@ use evaluation::schedule::schedule;
 use models::customer::Customer;
 use models::vehicle::Rest;
 
-// The break as the visits have it: the number of the call that it comes before, from 1, or 0; its start and its length; and whether it has no place though there is one.
+// The break as the visits have it: the number of the call that it comes before, from 1, or 0; its start and its length;
+// and whether it has no place though there is one.
 pub struct RestAt {
     pub place: usize,
     pub start: Start,
@@ -28,7 +29,9 @@ pub fn placed(
     size: usize,
     rest: Rest,
 ) -> Finished
-    ensures { λ r. ⌜ finishedOf r ≡ placedF (lent customers (now (distances .entry)) (now (times .entry)) size) (restOf rest) (now (route .entry)) ⌝ }
+    ensures { λ r.
+        let tables = lent customers (now (distances .entry)) (now (times .entry)) size in
+        ⌜ finishedOf r ≡ placedF tables (restOf rest) (now (route .entry)) ⌝ }
 {
     match rest {
         Rest::Unbroken => Finished::Impossible,
@@ -75,7 +78,9 @@ pub fn rest_at(
     size: usize,
     rest: Rest,
 ) -> RestAt
-    ensures { λ r. ⌜ restAtOf r ≡ restAtF (lent customers (now (distances .entry)) (now (times .entry)) size) (restOf rest) (now (route .entry)) ⌝ }
+    ensures { λ r.
+        let tables = lent customers (now (distances .entry)) (now (times .entry)) size in
+        ⌜ restAtOf r ≡ restAtF tables (restOf rest) (now (route .entry)) ⌝ }
 {
     let found = placed(route, customers, distances, times, size, rest);
     let place = place_of(found);

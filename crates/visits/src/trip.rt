@@ -1,8 +1,9 @@
 // One call of a run visited, also where it is reached too late.
 ghost use mathlib.Core.Path.{_≡_};
-ghost use Prim.Native.Nat.{_+_, _≤_};
+ghost use Prim.Native.Nat.{ℕ, _+_};
+ghost use Rattle.models.specs.Load.{loadOf, UpTo, Countable};
 ghost use Rattle.models.specs.Records.{openingOf, customerOf};
-ghost use Rattle.visits.specs.Visiting.{restAtOf, beginF, servedF, startTrip, stopF};
+ghost use Rattle.visits.specs.Visiting.{restAtOf, tripOf, visitedOf, beginF, servedF, startTrip, visitF};
 use crate::rest::RestAt;
 use crate::visit::Violation;
 use crate::visit::ViolationType;
@@ -10,10 +11,11 @@ use crate::visit::Visit;
 use clock::schedule::Label;
 use clock::schedule::Reached;
 use clock::schedule::enter;
+use distance::leg::Leg;
 use models::customer::Customer;
 use models::customer::Opening;
 use models::customer::due_or_zero;
-use models::load::wide;
+use models::load::Load;
 
 // A call as it is left, and whether it was reached after due without a penalty.
 pub struct Served {
@@ -25,12 +27,12 @@ pub struct Served {
 pub struct Trip {
     pub label: Label,
     pub distance: f64,
-    pub load: u64,
+    pub load: Load,
     pub prev: usize,
 }
 
 // A call visited: the trip with it, the visit, and the violation of its window, which counts where that is shut.
-pub struct Stop {
+pub struct VisitedCall {
     pub trip: Trip,
     pub visit: Visit,
     pub violation: Violation,
@@ -77,40 +79,43 @@ pub fn attend(customer: Customer, ready: f64, label: Label) -> Served
 
 impl Trip {
     pub fn start() -> Trip
-        ensures { λ r. ⌜ r ≡ startTrip ⌝ }
+        ensures { λ r. ⌜ tripOf r ≡ startTrip ⌝ }
     {
         Trip {
             label: Label::start(),
             distance: 0.0,
-            load: 0,
+            load: Load::none(),
             prev: 0,
         }
     }
 
-    // Call number `index`, `leg` and `travel` away.
+    // Call number `index`, a leg away.
     pub fn visit(
         self,
         rest: RestAt,
         index: usize,
         cid: usize,
         customer: Customer,
-        leg: f64,
-        travel: f64,
-    ) -> Stop
-        requires { ⌜ self .load ≤ 0xFFFF_FFFF_0000_0000 ⌝ }
-        ensures { λ r. ⌜ (r ≡ stopF self (restAtOf rest) index cid (customerOf customer) leg travel) × (r .trip .load ≤ self .load + 0xFFFF_FFFF) ⌝ }
+        leg: Leg,
+    ) -> VisitedCall
+        requires { ⌜ Countable (loadOf (self .load)) ⌝ }
+        ensures call { λ r.
+            let c = customerOf customer in
+            ⌜ visitedOf r ≡ visitF (tripOf self) (restAtOf rest) index cid c (leg .distance) (leg .time) ⌝ }
+        ensures counted { λ r. ⌜ ((k : ℕ) → UpTo k (loadOf (self .load)) → UpTo (k + 1) (loadOf (r .trip .load))) ⌝ }
     {
         let before = self.label;
         let opening = customer.time_window;
-        let arrival = before.time + travel;
+        let arrival = before.time + leg.time;
         let ready = rest.ready_at(index, arrival);
         let call = attend(customer, ready, before);
         let label = call.label;
-        let load = self.load + wide(customer.demand);
-        Stop {
+        let carried = self.load;
+        let load = carried.plus(customer.demand);
+        VisitedCall {
             trip: Trip {
                 label,
-                distance: self.distance + leg,
+                distance: self.distance + leg.distance,
                 load,
                 prev: cid,
             },
@@ -118,7 +123,7 @@ impl Trip {
                 customer_id: cid,
                 arrival_time: arrival,
                 departure_time: label.time,
-                load_after: load,
+                load_after: load.seats,
             },
             violation: Violation {
                 kind: ViolationType::TimeWindowViolated {

@@ -4,6 +4,7 @@ ghost use mathlib.Core.Bool.{_&&_};
 ghost use Prim.Native.Nat.{_<_, _≤_};
 ghost use lib.Dec.{eqb};
 ghost use lib.ListN.{length};
+ghost use Rattle.models.specs.Load.{spaceOf, loadOf};
 ghost use Rattle.models.specs.Records.{limitOf};
 ghost use Rattle.evaluation.specs.Records.{limitsOf};
 ghost use Rattle.visits.specs.Violations.{Pushed, Checked, overF};
@@ -12,7 +13,8 @@ use crate::visit::ViolationType;
 use models::limits::Limit;
 use models::limits::RouteLimits;
 use models::limits::limit_or_zero;
-use models::load::fits;
+use models::load::Load;
+use models::load::Space;
 
 // The first `count` of the list.
 pub struct Violations {
@@ -59,14 +61,14 @@ impl Violations {
     pub fn checked(
         self,
         missing: bool,
-        load: u64,
-        capacity: u32,
+        load: Load,
+        capacity: Space,
         limits: RouteLimits,
         distance: f64,
         duration: f64,
     ) -> Violations
         requires { ⌜ (length (self .list) ≡ 131) × (self .count ≤ 128) ⌝ }
-        ensures { λ r. ⌜ Checked self missing load capacity (limitsOf limits) distance duration r ⌝ }
+        ensures { λ r. ⌜ Checked self missing (loadOf load) (spaceOf capacity) (limitsOf limits) distance duration r ⌝ }
     {
         let max_distance = limits.max_distance;
         let max_duration = limits.max_duration;
@@ -77,9 +79,12 @@ impl Violations {
             },
         );
         let loaded = placed.pushed(
-            !fits(load, capacity),
+            !load.fits(capacity),
             Violation {
-                kind: ViolationType::CapacityExceeded { load, capacity },
+                kind: ViolationType::CapacityExceeded {
+                    load: load.seats,
+                    capacity: capacity.seats,
+                },
             },
         );
         let near = loaded.pushed(

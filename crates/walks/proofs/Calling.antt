@@ -1,6 +1,6 @@
 -- A call in a walk by hand, as one step.
---     calls-said       the callee's tokens and what its parameters own stand at the head. Once the call has returned u: the result's denotation r, what the `ensures` states of it (φ), its relation, and in the context
---                      what the result owns, the tokens, and what says the parameters' last values
+--     calls-said       the callee's tokens and what its parameters own stand at the head. Once the call has returned u: the result's denotation r, what the `ensures` states
+--                      of it (φ), its relation, and in the context what the result owns, the tokens, and what says the parameters' last values
 --     calls-plain      the same of a callee with no lifetimes whose parameters own only facts: nothing is taken from the context and nothing is put into it
 -- In both the `requires` is shown from nothing (`asked`, `asked-none`), and the `ensures` is a fact, which `(λ r e. id⊢ 𝓤 _)` shows. Of several `ensures`:
 --     heard-both       the facts of two are one fact.        told-both     they are shown from nothing
@@ -51,9 +51,11 @@ says-all {𝓤 = 𝓤} t {P} {E} e = step (λ s. record { prf = via 𝓤 P (s .p
 abbrev pub Met : {M : Type 1} (𝓤 : URA M) (H : Heap 𝓤) (A : Atoms 𝓤) (T : Ended) → Clauses 𝓤 T → Contract 𝓤
 Met 𝓤 H A T c = tripleOf 𝓤 H A (T .signature) (closing 𝓤 H A T c)
 
-module _ {M : Type 1} {𝓤 : URA M} {H : Heap 𝓤} {A : Atoms 𝓤} {K : Type 0} {W : Given 𝓤 H A} {Γ : List (Item 𝓤)} {E : Env 𝓤 H} {C : Calls 𝓤 H} {Λ : Loops 𝓤 H} {q : Post 𝓤 H} {f : Name} {xs : List Operand} {d : Place} {rest : Body} where
+module _ {M : Type 1} {𝓤 : URA M} {H : Heap 𝓤} {A : Atoms 𝓤} {K : Type 0} {W : Given 𝓤 H A} {Γ : List (Item 𝓤)} {E : Env 𝓤 H} {C : Calls 𝓤 H} {Λ : Loops 𝓤 H} {q : Post 𝓤 H} {f : Name}
+    {xs : List Operand} {d : Place} {rest : Body} where
   pub calls-said : K → FmC 𝓤 H (W .laws) C → (T : Ended) (c : Clauses 𝓤 T) → Triple 𝓤 (C f) (Met 𝓤 H A T c)
-      → (κs : Lfts (T .signature .lifetimes)) (qs : Shares (T .signature .lifetimes)) (bs : AllOutlive (T .signature .lifetimes) (T .signature .outlives) κs) (a : Args (T .signature) κs) (vss : Vals (T .signature) κs) (g : c κs a .ghost)
+      → (κs : Lfts (T .signature .lifetimes)) (qs : Shares (T .signature .lifetimes)) (bs : AllOutlive (T .signature .lifetimes) (T .signature .outlives) κs) (a : Args (T .signature) κs)
+      (vss : Vals (T .signature) κs) (g : c κs a .ghost)
       → ent 𝓤 (emp 𝓤) (c κs a .requires g)
       → (φ : Res (T .signature) κs → AtExit T κs → Type 0) → ((r : Res (T .signature) κs) (e : AtExit T κs) → ent 𝓤 (c κs a .ensures g r e) (fact 𝓤 (φ r e)))
       → Opds K W (raw (Met 𝓤 H A T c .pre ((κs, qs, bs, a, vss), g)) ∷ Γ) E xs (passed 𝓤 H A (T .signature) (κs, qs, bs, a, vss))
@@ -64,14 +66,18 @@ module _ {M : Type 1} {𝓤 : URA M} {H : Heap 𝓤} {A : Atoms 𝓤} {K : Type 
       use2 W (raw (Met 𝓤 H A T c .pre ((κs, qs, bs, a, vss), g)))
       (qed W (raw (alive 𝓤 H A (T .signature) κs qs) ∷ ‵ (owns (typesAt (T .signature .params) κs) a vss) ∷ []) ∵ use0 W (raw (c κs a .requires g)) req $ move ! (1 ∷ 2 ∷ []) $ join ! $ done !) $
       calls-at t fm (Met 𝓤 H A T c) met ((κs, qs, bs, a, vss), g) os (λ u.
-      use1 W (later (some (λ (r : Res (T .signature) κs). (raw (alive 𝓤 H A (T .signature) κs qs) ⊛ ‵ (typeAt (T .signature .result) κs .own r (u ∷ []))) ⊛ raw (ensured 𝓤 H A T c κs a g r)))) (id⊢ 𝓤 _) $ await t tt $ pick t (λ r.
+      use1 W (later (some (λ (r : Res (T .signature) κs). (raw (alive 𝓤 H A (T .signature) κs qs) ⊛ ‵ (typeAt (T .signature .result) κs .own r (u ∷ []))) ⊛ raw (ensured 𝓤 H A T c κs a g r))))
+      (id⊢ 𝓤 _) $ await t tt $ pick t (λ r.
       split t $ move t (1 ∷ []) $ use1 W (some (λ (ws : Lasts T κs a). ‵ (lasts T κs a ws) ⊛ raw (c κs a .ensures g r (atExit T κs a ws)))) (id⊢ 𝓤 _) $ pick t (λ ws.
       split t $ move t (1 ∷ []) $ use1 W (raw (fact 𝓤 (φ r (atExit T κs a ws)))) (ens r (atExit T κs a ws)) $ heard t (φ r (atExit T κs a ws)) (λ e.
-      move t (1 ∷ []) $ split t $ move t (1 ∷ []) $ peeks t (typeAt (T .signature .result) κs) (Is (typeAt (T .signature .result) κs)) (shows 𝓤 H A (typeAt (T .signature .result) κs)) r (u ∷ []) (λ is. k u r ws e is)))))
+      move t (1 ∷ []) $ split t $ move t (1 ∷ []) $ peeks t (typeAt (T .signature .result) κs) (Is (typeAt (T .signature .result) κs)) (shows 𝓤 H A (typeAt (T .signature .result) κs)) r (u ∷ [])
+      (λ is. k u r ws e is)))))
 
   pub calls-plain : K → FmC 𝓤 H (W .laws) C → (T : Ended) (c : Clauses 𝓤 T) → Triple 𝓤 (C f) (Met 𝓤 H A T c)
-      → (κs : Lfts (T .signature .lifetimes)) (qs : Shares (T .signature .lifetimes)) (bs : AllOutlive (T .signature .lifetimes) (T .signature .outlives) κs) (a : Args (T .signature) κs) (vss : Vals (T .signature) κs) (g : c κs a .ghost)
-      → ent 𝓤 (emp 𝓤) (alive 𝓤 H A (T .signature) κs qs) → Makess 𝓤 H A (typesAt (T .signature .params) κs) (Ises (typesAt (T .signature .params) κs)) → Are (typesAt (T .signature .params) κs) (Ises (typesAt (T .signature .params) κs)) a vss
+      → (κs : Lfts (T .signature .lifetimes)) (qs : Shares (T .signature .lifetimes)) (bs : AllOutlive (T .signature .lifetimes) (T .signature .outlives) κs) (a : Args (T .signature) κs)
+      (vss : Vals (T .signature) κs) (g : c κs a .ghost)
+      → ent 𝓤 (emp 𝓤) (alive 𝓤 H A (T .signature) κs qs) → Makess 𝓤 H A (typesAt (T .signature .params) κs) (Ises (typesAt (T .signature .params) κs))
+      → Are (typesAt (T .signature .params) κs) (Ises (typesAt (T .signature .params) κs)) a vss
       → ent 𝓤 (emp 𝓤) (c κs a .requires g)
       → (φ : Res (T .signature) κs → AtExit T κs → Type 0) → ((r : Res (T .signature) κs) (e : AtExit T κs) → ent 𝓤 (c κs a .ensures g r e) (fact 𝓤 (φ r e)))
       → Opds K W (raw (Met 𝓤 H A T c .pre ((κs, qs, bs, a, vss), g)) ∷ Γ) E xs (passed 𝓤 H A (T .signature) (κs, qs, bs, a, vss))

@@ -173,9 +173,11 @@ module _ {M : Type 1} (𝓤 : URA M) (H : Heap 𝓤) (A : Atoms 𝓤) where
         subst (λ (y : Cell). ent 𝓤 (mean 𝓤 H A (locals (c ∷ σ))) (sep 𝓤 (mean 𝓤 H A (cell y)) (all 𝓤 (Back (c ∷ σ) zero y)))) e
         (qed W (locals (c ∷ σ) ∷ []) ∵ split ! $ split ! $ frame ! $ each ! (Back (c ∷ σ) zero c) (λ u. assume ! (‵ (fat fullShare (typeOf c) (blockOf c) 0 u)) $ join ! $ join ! $ done !))
     out (c ∷ σ) (suc i) x e =
-        qed W (locals (c ∷ σ) ∷ []) ∵ split ! $ move ! (1 ∷ []) $ use1 W (cell x ⊛ raw (all 𝓤 (Back σ i x))) (out σ i x e) $ split ! $ frame ! $ each ! (Back (c ∷ σ) (suc i) x) (λ u. assume ! (‵ (fat fullShare (typeOf x) (blockOf x) 0 u)) $
+        qed W (locals (c ∷ σ) ∷ []) ∵ split ! $ move ! (1 ∷ []) $ use1 W (cell x ⊛ raw (all 𝓤 (Back σ i x))) (out σ i x e) $ split ! $ frame ! $
+        each ! (Back (c ∷ σ) (suc i) x) (λ u. assume ! (‵ (fat fullShare (typeOf x) (blockOf x) 0 u)) $
         -- [the local's cell with u; the way back to the others; the first local]
-        move ! (1 ∷ []) $ use1 W (raw (Back σ i x u)) (allE 𝓤 (Back σ i x) u) $ move ! (1 ∷ 0 ∷ []) $ use2 W (locals (setAt σ i u)) (apply∗ 𝓤 (H .at fullShare (typeOf x) (blockOf x) 0 u) (mean 𝓤 H A (locals (setAt σ i u)))) $ move ! (1 ∷ 0 ∷ []) $ join ! $ done !)
+        move ! (1 ∷ []) $ use1 W (raw (Back σ i x u)) (allE 𝓤 (Back σ i x) u) $ move ! (1 ∷ 0 ∷ []) $
+        use2 W (locals (setAt σ i u)) (apply∗ 𝓤 (H .at fullShare (typeOf x) (blockOf x) 0 u) (mean 𝓤 H A (locals (setAt σ i u)))) $ move ! (1 ∷ 0 ∷ []) $ join ! $ done !)
 
 module _ {M : Type 1} {𝓤 : URA M} {H : Heap 𝓤} {A : Atoms 𝓤} {K : Type 0} {W : Given 𝓤 H A} where
   pub held : K → (σ : List Cell) (i : ℕ) {τ : Ty} {b : ℕ} {v : Val} → Here σ i (holds τ b v) → Part K W (locals 𝓤 H A σ) fullShare τ b 0 v (λ u. locals 𝓤 H A (setAt σ i u))
@@ -183,7 +185,8 @@ module _ {M : Type 1} {𝓤 : URA M} {H : Heap 𝓤} {A : Atoms 𝓤} {K : Type 
 
   module _ {Γ : List (Item 𝓤)} where
     -- the place of a local, and of a part of it
-    pub finds : K → {E : Env 𝓤 H} (σ : List Cell) (i : ℕ) (x : Cell) {st : List PStep} {sp : Spot 𝓤 H} → envAt 𝓤 H A σ ≡ E → Here σ i x → Steps K W Γ E (typeOf x, blockOf x, 0) st sp → Finds K W Γ E (place i st) sp
+    pub finds : K → {E : Env 𝓤 H} (σ : List Cell) (i : ℕ) (x : Cell) {st : List PStep} {sp : Spot 𝓤 H} → envAt 𝓤 H A σ ≡ E → Here σ i x → Steps K W Γ E (typeOf x, blockOf x, 0) st sp
+        → Finds K W Γ E (place i st) sp
     finds t {E} σ i x {st} {sp} env e w =
         from t (subst (λ (s₀ : Spot 𝓤 H). Steps K W Γ E s₀ st sp) (sym (ap (λ (F : Env 𝓤 H). spotOf 𝓤 H F i) (sym env) ∙ spot 𝓤 H A σ i x e)) w)
 
@@ -197,7 +200,8 @@ module _ {M : Type 1} {𝓤 : URA M} {H : Heap 𝓤} {A : Atoms 𝓤} {K : Type 
         load t (finds t σ i (holds (f .ty) (f .block) v) env (f .here) (stop t)) (reads t n σ at (held t σ i (f .here)))
 
     -- the locals of those numbers as operands
-    pub args : K → {E : Env 𝓤 H} (n : ℕ) (σ : List Cell) (is : List ℕ) {vs : List Val} → nth 𝓤 H A n Γ ≡ locals 𝓤 H A σ → envAt 𝓤 H A σ ≡ E → map (valueAt σ) is ≡ map some vs → Opds K W Γ E (map (λ i. copy (place i [])) is) vs
+    pub args : K → {E : Env 𝓤 H} (n : ℕ) (σ : List Cell) (is : List ℕ) {vs : List Val} → nth 𝓤 H A n Γ ≡ locals 𝓤 H A σ → envAt 𝓤 H A σ ≡ E → map (valueAt σ) is ≡ map some vs
+        → Opds K W Γ E (map (λ i. copy (place i [])) is) vs
     args t n σ [] {vs = []} at env e = no-more t
     args t n σ [] {vs = v ∷ vs} at env e = let z : _≡_ {A = ℕ} 0 1 = cc in absurd (omega arith)
     args t n σ (i ∷ is) {vs = []} at env e = let z : _≡_ {A = ℕ} 0 1 = cc in absurd (omega arith)
@@ -206,22 +210,26 @@ module _ {M : Type 1} {𝓤 : URA M} {H : Heap 𝓤} {A : Atoms 𝓤} {K : Type 
         let others : map (valueAt σ) is ≡ map some vs = cc in
         and-then t (arg t n σ i at env first) (args t n σ is at env others)
 
-    pub set : K → (n : ℕ) (σ : List Cell) (i : ℕ) {τ : Ty} {b : ℕ} {v : Val} → nth 𝓤 H A n Γ ≡ locals 𝓤 H A σ → Here σ i (unset τ b) → T (hasTy τ v) × WT v → Writes K W Γ τ b 0 v (put 𝓤 H A n (locals 𝓤 H A (setAt σ i v)) Γ)
+    pub set : K → (n : ℕ) (σ : List Cell) (i : ℕ) {τ : Ty} {b : ℕ} {v : Val} → nth 𝓤 H A n Γ ≡ locals 𝓤 H A σ → Here σ i (unset τ b) → T (hasTy τ v) × WT v
+        → Writes K W Γ τ b 0 v (put 𝓤 H A n (locals 𝓤 H A (setAt σ i v)) Γ)
     set t n σ i {τ} {b} {v} at e wt = record {
       go = λ P h.
           via 𝓤 (sep 𝓤 (H .room τ b 0) (wand 𝓤 (H .at fullShare τ b 0 v) P))
           (via 𝓤 (sep 𝓤 (mean 𝓤 H A (locals 𝓤 H A σ)) (⋆ 𝓤 H A (del 𝓤 H A n Γ))) (subst (λ (j : Item 𝓤). ent 𝓤 (⋆ 𝓤 H A Γ) (sep 𝓤 (mean 𝓤 H A j) (⋆ 𝓤 H A (del 𝓤 H A n Γ)))) at (pull 𝓤 H A n Γ))
           (via 𝓤 (sep 𝓤 (sep 𝓤 (H .room τ b 0) (all 𝓤 (Back 𝓤 H A W σ i (unset τ b)))) (⋆ 𝓤 H A (del 𝓤 H A n Γ))) (monoL 𝓤 (⋆ 𝓤 H A (del 𝓤 H A n Γ)) (out 𝓤 H A W σ i (unset τ b) e))
-          (via 𝓤 (sep 𝓤 (H .room τ b 0) (sep 𝓤 (all 𝓤 (Back 𝓤 H A W σ i (unset τ b))) (⋆ 𝓤 H A (del 𝓤 H A n Γ)))) (assoc∗ 𝓤 (H .room τ b 0) (all 𝓤 (Back 𝓤 H A W σ i (unset τ b))) (⋆ 𝓤 H A (del 𝓤 H A n Γ)))
+          (via 𝓤 (sep 𝓤 (H .room τ b 0) (sep 𝓤 (all 𝓤 (Back 𝓤 H A W σ i (unset τ b))) (⋆ 𝓤 H A (del 𝓤 H A n Γ))))
+          (assoc∗ 𝓤 (H .room τ b 0) (all 𝓤 (Back 𝓤 H A W σ i (unset τ b))) (⋆ 𝓤 H A (del 𝓤 H A n Γ)))
           (monoR 𝓤 (H .room τ b 0) (wandI 𝓤 (sep 𝓤 (all 𝓤 (Back 𝓤 H A W σ i (unset τ b))) (⋆ 𝓤 H A (del 𝓤 H A n Γ))) (H .at fullShare τ b 0 v) P
           (via 𝓤 (sep 𝓤 (mean 𝓤 H A (locals 𝓤 H A (setAt σ i v))) (⋆ 𝓤 H A (del 𝓤 H A n Γ)))
           (qed W ((raw (all 𝓤 (Back 𝓤 H A W σ i (unset τ b))) ⊛ raw (⋆ 𝓤 H A (del 𝓤 H A n Γ))) ∷ ‵ (fat fullShare τ b 0 v) ∷ []) ∵ split ! $
-          use1 W (raw (Back 𝓤 H A W σ i (unset τ b) v)) (allE 𝓤 (Back 𝓤 H A W σ i (unset τ b)) v) $ move ! (2 ∷ 0 ∷ []) $ use2 W (locals 𝓤 H A (setAt σ i v)) (apply∗ 𝓤 (H .at fullShare τ b 0 v) (mean 𝓤 H A (locals 𝓤 H A (setAt σ i v)))) $ done !)
+          use1 W (raw (Back 𝓤 H A W σ i (unset τ b) v)) (allE 𝓤 (Back 𝓤 H A W σ i (unset τ b)) v) $ move ! (2 ∷ 0 ∷ []) $
+          use2 W (locals 𝓤 H A (setAt σ i v)) (apply∗ 𝓤 (H .at fullShare τ b 0 v) (mean 𝓤 H A (locals 𝓤 H A (setAt σ i v)))) $ done !)
           (via 𝓤 (⋆ 𝓤 H A (put 𝓤 H A n (locals 𝓤 H A (setAt σ i v)) Γ)) (fill 𝓤 H A n (locals 𝓤 H A (setAt σ i v)) Γ) h)))))))
           (guardI 𝓤 (T (hasTy τ v) × WT v) (sep 𝓤 (H .room τ b 0) (wand 𝓤 (H .at fullShare τ b 0 v) P)) wt);
     }
 
-  pub opens : K → {Γ : List (Item 𝓤)} (ls : List Local) {Kt : Env 𝓤 H → Goal 𝓤 H} → ((bs : Blocks ls) → Seq K W (locals 𝓤 H A (unsetOf ls bs) ∷ Γ) (Kt (envAt 𝓤 H A (unsetOf ls bs)))) → Seq K W Γ (allocs ls Kt)
+  pub opens : K → {Γ : List (Item 𝓤)} (ls : List Local) {Kt : Env 𝓤 H → Goal 𝓤 H} → ((bs : Blocks ls) → Seq K W (locals 𝓤 H A (unsetOf ls bs) ∷ Γ) (Kt (envAt 𝓤 H A (unsetOf ls bs))))
+      → Seq K W Γ (allocs ls Kt)
   unfolding locals
   opens t [] k = alloc0 t $ nothing t $ k tt
   opens t (local τ h ∷ ls) k = alloc1 t (λ b. opens t ls (λ bs. move t (1 ∷ 2 ∷ []) $ join t $ join t $ k (b, bs)))
@@ -235,7 +243,8 @@ module _ {M : Type 1} {𝓤 : URA M} {H : Heap 𝓤} {A : Atoms 𝓤} {K : Type 
       split t $ split t $ pass1 t (init t 0 refl (w .0)) $ join t $ move t (1 ∷ []) $ takes t σ vs (w .1) (move t (1 ∷ 0 ∷ []) $ join t $ s)
 
   -- the parameters are the locals after the result
-  pub passed-in : K → {Γ : List (Item 𝓤)} {G : Goal 𝓤 H} (c : Cell) (σ : List Cell) (vs : List Val) → Takes σ vs → Step K W (locals 𝓤 H A (c ∷ passTo σ vs) ∷ Γ) G (locals 𝓤 H A (c ∷ σ) ∷ Γ) (params′ (envAt 𝓤 H A (c ∷ σ)) vs G)
+  pub passed-in : K → {Γ : List (Item 𝓤)} {G : Goal 𝓤 H} (c : Cell) (σ : List Cell) (vs : List Val) → Takes σ vs
+      → Step K W (locals 𝓤 H A (c ∷ passTo σ vs) ∷ Γ) G (locals 𝓤 H A (c ∷ σ) ∷ Γ) (params′ (envAt 𝓤 H A (c ∷ σ)) vs G)
   unfolding locals
   passed-in t c σ vs w = step (λ s. params1 t $ split t $ move t (1 ∷ []) $ takes t σ vs w (move t (1 ∷ 0 ∷ []) $ join t $ s))
 

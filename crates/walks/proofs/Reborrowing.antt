@@ -47,7 +47,8 @@ pub record Lent (σ : List Cell) (x : Again) : Type 0 where
 
 -- of a reference
 abbrev pub lends : {X : Type 0} (σ : List Cell) (x : Again) (ℓ : Lifetime) (l : RefT (List X)) → length (l .now) < 2 ^ 64 → (b b′ b″ : ℕ)
-    → Here σ (x .list) (holds (sliceTy (tyRef ℓ mut (x .pointed))) b (sliceVal (l .ptr) (length (l .now)))) → Here σ (x .into) (unset (tyRef erased mut (x .pointed)) b′) → Here σ (suc (x .into)) (unset (sliceTy (tyRef erased mut (x .pointed))) b″) → Lent σ x
+    → Here σ (x .list) (holds (sliceTy (tyRef ℓ mut (x .pointed))) b (sliceVal (l .ptr) (length (l .now)))) → Here σ (x .into) (unset (tyRef erased mut (x .pointed)) b′)
+    → Here σ (suc (x .into)) (unset (sliceTy (tyRef erased mut (x .pointed))) b″) → Lent σ x
 lends σ x ℓ l fits b b′ b″ listed free behind =
     record { lifetime = ℓ; at = l .ptr; size = length (l .now); fits = record { fits = fits }; block = b; block′ = b′; block″ = b″; listed = listed; free = free; behind = behind }
 
@@ -81,11 +82,15 @@ module _ {M : Type 1} (𝓤 : URA M) (H : Heap 𝓤) (A : Atoms 𝓤) where
   same-after σ (x ∷ xs) l = same-after (borrowed σ x (l .0)) xs (l .1) ∙ same-borrowed σ x (l .0)
 
 module _ {M : Type 1} {𝓤 : URA M} {H : Heap 𝓤} {A : Atoms 𝓤} {K : Type 0} {W : Given 𝓤 H A} {F : Item 𝓤} {Δ : List (Item 𝓤)} {E : Env 𝓤 H} {C : Calls 𝓤 H} {Λ : Loops 𝓤 H} {q : Post 𝓤 H} where
-  borrows : K → (σ : List Cell) (x : Again) (l : Lent σ x) {rest : Body} → envAt 𝓤 H A σ ≡ E → Step K W (F ∷ locals 𝓤 H A (borrowed σ x l) ∷ Δ) (runs C Λ E rest q) (F ∷ locals 𝓤 H A σ ∷ Δ) (runs C Λ E (reborrow x rest) q)
+  borrows : K → (σ : List Cell) (x : Again) (l : Lent σ x) {rest : Body} → envAt 𝓤 H A σ ≡ E
+      → Step K W (F ∷ locals 𝓤 H A (borrowed σ x l) ∷ Δ) (runs C Λ E rest q) (F ∷ locals 𝓤 H A σ ∷ Δ) (runs C Λ E (reborrow x rest) q)
   borrows t σ x l env =
       step (λ s.
-      assigns t (addr t (finds t σ (x .list) _ env (l .listed) (fld t refl (hop t (reads t 1 σ refl (sub t 0 refl (held t σ (x .list) (l .listed)))) (stop t))))) (finds t σ (x .into) _ env (l .free) (stop t)) (set t 1 σ (x .into) refl (l .free) (tt, tt)) $
-      assigns t (agg t (and-then t (arg t 1 σ′ (x .into) refl env′ address) (and-then t (load t (finds t σ′ (x .list) _ env′ still (fld t refl (stop t))) (reads t 1 σ′ refl (sub t 1 refl (held t σ′ (x .list) still)))) (no-more t)))) (finds t σ′ (suc (x .into)) _ env′ behind (stop t))
+      assigns t (addr t (finds t σ (x .list) _ env (l .listed) (fld t refl (hop t (reads t 1 σ refl (sub t 0 refl (held t σ (x .list) (l .listed)))) (stop t)))))
+      (finds t σ (x .into) _ env (l .free) (stop t)) (set t 1 σ (x .into) refl (l .free) (tt, tt)) $
+      assigns t (agg t (and-then t (arg t 1 σ′ (x .into) refl env′ address)
+      (and-then t (load t (finds t σ′ (x .list) _ env′ still (fld t refl (stop t))) (reads t 1 σ′ refl (sub t 1 refl (held t σ′ (x .list) still)))) (no-more t))))
+      (finds t σ′ (suc (x .into)) _ env′ behind (stop t))
       (set t 1 σ′ (suc (x .into)) refl behind (tt, (tt, (l .fits, tt)))) $ s)
     where
       -- with the address
@@ -104,6 +109,7 @@ module _ {M : Type 1} {𝓤 : URA M} {H : Heap 𝓤} {A : Atoms 𝓤} {K : Type 
       behind : Here σ′ (suc (x .into)) (unset (sliceTy (tyRef erased mut (x .pointed))) (l .block″))
       behind = here-other σ (suc (x .into)) (x .into) _ _ (λ p. omega arith) (l .behind)
 
-  pub borrows-all : K → (σ : List Cell) (xs : List Again) (l : Lents σ xs) {rest : Body} → envAt 𝓤 H A σ ≡ E → Step K W (F ∷ locals 𝓤 H A (afterAll σ xs l) ∷ Δ) (runs C Λ E rest q) (F ∷ locals 𝓤 H A σ ∷ Δ) (runs C Λ E (reborrows xs rest) q)
+  pub borrows-all : K → (σ : List Cell) (xs : List Again) (l : Lents σ xs) {rest : Body} → envAt 𝓤 H A σ ≡ E
+      → Step K W (F ∷ locals 𝓤 H A (afterAll σ xs l) ∷ Δ) (runs C Λ E rest q) (F ∷ locals 𝓤 H A σ ∷ Δ) (runs C Λ E (reborrows xs rest) q)
   borrows-all t σ [] l env = step (λ s. s)
   borrows-all t σ (x ∷ xs) l env = step (λ s. borrows t σ x (l .0) env $ borrows-all t (borrowed σ x (l .0)) xs (l .1) (same-borrowed 𝓤 H A σ x (l .0) ∙ env) $ s)

@@ -21,7 +21,11 @@ module _ {M : Type 1} (𝓤 : URA M) (A : Atoms 𝓤) (κ κ′ : Lft) (q q′ :
 
 module _ {M : Type 1} (𝓤 : URA M) (H : Heap 𝓤) (A : Atoms 𝓤) (W : Given 𝓤 H A) (κ : Lft) (q : Share) where
   pub halved : ent 𝓤 (toks 𝓤 A 1 (κ, tt) (q, tt)) (toks 𝓤 A 2 (κ, (κ, tt)) (PosShare·left q, (PosShare·right q, tt)))
-  halved = via 𝓤 (sep 𝓤 (sep 𝓤 (A .lft κ (PosShare·left q)) (A .lft κ (PosShare·right q))) (emp 𝓤)) (monoL 𝓤 (emp 𝓤) (W .lfts .lft-split κ q)) (assoc∗ 𝓤 (A .lft κ (PosShare·left q)) (A .lft κ (PosShare·right q)) (emp 𝓤))
+  halved =
+      via 𝓤 (sep 𝓤 (sep 𝓤 (A .lft κ (PosShare·left q)) (A .lft κ (PosShare·right q))) (emp 𝓤)) (monoL 𝓤 (emp 𝓤) (W .lfts .lft-split κ q))
+      (assoc∗ 𝓤 (A .lft κ (PosShare·left q)) (A .lft κ (PosShare·right q)) (emp 𝓤))
 
   pub joined : ent 𝓤 (toks 𝓤 A 2 (κ, (κ, tt)) (PosShare·left q, (PosShare·right q, tt))) (toks 𝓤 A 1 (κ, tt) (q, tt))
-  joined = via 𝓤 (sep 𝓤 (sep 𝓤 (A .lft κ (PosShare·left q)) (A .lft κ (PosShare·right q))) (emp 𝓤)) (assoc′ 𝓤 (A .lft κ (PosShare·left q)) (A .lft κ (PosShare·right q)) (emp 𝓤)) (monoL 𝓤 (emp 𝓤) (W .lfts .lft-join κ q))
+  joined =
+      via 𝓤 (sep 𝓤 (sep 𝓤 (A .lft κ (PosShare·left q)) (A .lft κ (PosShare·right q))) (emp 𝓤)) (assoc′ 𝓤 (A .lft κ (PosShare·left q)) (A .lft κ (PosShare·right q)) (emp 𝓤))
+      (monoL 𝓤 (emp 𝓤) (W .lfts .lft-join κ q))

@@ -1,15 +1,9 @@
--- The laws of whole numbers in an `f64`.
-pub mod Numbers
-pub mod Values
+-- Whole numbers in an `f64`, and what stands beside them.
 pub mod Whole
-pub mod Bits
 pub mod Value
 pub mod Larger
 pub mod Infinity
 pub mod Order
-pub mod LessThan
-pub mod Monotone
-pub mod Integers
 pub mod Signed
 pub mod Difference
 pub mod Half

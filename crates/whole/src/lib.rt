@@ -14,7 +14,8 @@ pub fn infinity() -> f64
     1.0 / 0.0
 }
 
-// Whether x is one of the whole numbers 0 to `max`. A NaN, an infinity, a fraction, a negative number and -0.0 are none.
+// Whether x is one of the whole numbers 0 to `max`. A NaN, an infinity, a fraction, a negative number and -0.0 are
+// none.
 pub fn is_whole(x: f64, max: u32) -> bool
     ensures { λ r. ⌜ r ≡ holds (value x) (λ n. leb n max) ⌝ }
 {

@@ -1,4 +1,4 @@
-//! The marks of the worked sheets, beside those that the program crates/marks says, and recorded marks, beside those of the oracle's own marker.
+//! The marks of the worked sheets, beside those that the program crates/test_marks says, and recorded marks, beside those of the oracle's own marker.
 mod common;
 use common::recorded_marks::{recorded_marks, Recorded};
 use common::worked::marked;
@@ -81,7 +81,7 @@ fn said(verdict: Verdict) -> String {
 
 #[test]
 fn marks_are_those_of_the_proved_program() {
-    let proved = std::fs::read_to_string(kept("crates/marks/stdout")).expect("the marks");
+    let proved = std::fs::read_to_string(kept("crates/test_marks/stdout")).expect("the marks");
     let said: String = marked()
         .iter()
         .map(|cut| {

@@ -84,13 +84,15 @@ module _ {M : Type 1} (𝓤 : URA M) (H : Heap 𝓤) (A : Atoms 𝓤) (W : Given
       nothing ! $ move ! (1 ∷ 0 ∷ []) $ join ! $ frame ! $ fjoin ! $ frame ! $ owned ! R (Is R) (rows.makes 𝓤 H A) elem _ g $ done !
 
   module _ (C : Calls 𝓤 H) (Λ : Loops 𝓤 H) where
-    walk : Is (ShrSlice (named 0) κ R) s (v ∷ []) → i < 2 ^ 64 → i < length ys → ent 𝓤 (onEntry 𝓤 H A at′.signature (κ, tt) (q, tt) (s, (i, tt)) at) (WpFn 𝓤 H C Λ code.function (v ∷ vint w64 i ∷ []) Post)
+    walk : Is (ShrSlice (named 0) κ R) s (v ∷ []) → i < 2 ^ 64 → i < length ys
+        → ent 𝓤 (onEntry 𝓤 H A at′.signature (κ, tt) (q, tt) (s, (i, tt)) at) (WpFn 𝓤 H C Λ code.function (v ∷ vint w64 i ∷ []) Post)
     walk p gi l =
         qed W ((‵ (flft κ q) ⊛ ‵ ftrue) ∷ ‵ (owns (ShrSlice (named 0) κ R ∷ usize ∷ []) (s, (i, tt)) at) ∷ []) ∵ enter ! C Λ code.function (v ∷ vint w64 i ∷ []) _ $
         alloc1 ! (λ l₀. alloc1 ! (λ l₁. alloc1 ! (λ l₂. alloc1 ! (λ l₃. alloc1 ! (λ l₄. alloc1 ! (λ l₅. alloc0 ! $ params1 ! $
         pass1 ! (init ! 8 refl (shr-slice-lawful 𝓤 H A W (named 0) κ R .typed s (v ∷ []) p .0)) $ pass1 ! (init ! 6 refl (tt, record { fits = gi })) $ pass0 ! $
         -- [_5; …; _4; …; _3; …; _2; …; _1; …; _0; …; the token; what cs and i own]
-        assigns ! (bin ! (load ! (from ! (stop !)) (look ! 6 refl)) (lit ! tt) (record { fits = place-fits i (length ys) 56 l (p .0 .1 .1) })) (from ! (stop !)) (init ! 4 refl (tt, record { fits = place-fits i (length ys) 56 l (p .0 .1 .1) })) $
+        assigns ! (bin ! (load ! (from ! (stop !)) (look ! 6 refl)) (lit ! tt) (record { fits = place-fits i (length ys) 56 l (p .0 .1 .1) }))
+        (from ! (stop !)) (init ! 4 refl (tt, record { fits = place-fits i (length ys) 56 l (p .0 .1 .1) })) $
         assigns ! (bin ! (load ! (from ! (fld ! refl (stop !))) (look-in ! 8 (sub ! 0 refl (whole !)))) (load ! (from ! (stop !)) (look ! 4 refl)) tt) (from ! (stop !)) (init ! 2 refl (tt, tt)) $
         rewrite ! 2 (λ (p′ : ℕ). ‵ (fat fullShare tyPtr l₄ 0 (vptr b p′))) (sym (place-is 56 o i)) refl $
         -- the reference is Copy: one copy of what it owns is kept for the exit, and of the other the fractured borrow is kept
@@ -104,17 +106,22 @@ module _ {M : Type 1} (𝓤 : URA M) (H : Heap 𝓤) (A : Atoms 𝓤) (W : Given
         elem-back ! R q′ ys i depotRecord (mach elem ∷ []) b o l $ shuts-slice ! tt R q′ ys b o $
         -- [the token; the fractured borrow; true; what cs owns; i's; _5; …; _4; …; _3; …; _2; …; _1; …; _0; …]
         returns ! (look ! 15 refl) $ forget ! 5 refl $ forget ! 7 refl $ forget ! 9 refl $ forget ! 11 refl $ forget ! 13 refl $ forget ! 15 refl $
-        move ! (15 ∷ 16 ∷ []) $ free1 ! $ move ! (13 ∷ 14 ∷ []) $ free1 ! $ move ! (11 ∷ 12 ∷ []) $ free1 ! $ move ! (9 ∷ 10 ∷ []) $ free1 ! $ move ! (7 ∷ 8 ∷ []) $ free1 ! $ move ! (5 ∷ 6 ∷ []) $ free1 ! $ free0 ! $
+        move ! (15 ∷ 16 ∷ []) $ free1 ! $ move ! (13 ∷ 14 ∷ []) $ free1 ! $ move ! (11 ∷ 12 ∷ []) $ free1 ! $ move ! (9 ∷ 10 ∷ []) $ free1 ! $
+        move ! (7 ∷ 8 ∷ []) $ free1 ! $ move ! (5 ∷ 6 ∷ []) $ free1 ! $ free0 ! $
         keep ! (0 ∷ 3 ∷ 4 ∷ []) $ by ! (exits g)))))))))
 
 module _ {M : Type 1} (𝓤 : URA M) (H : Heap 𝓤) (A : Atoms 𝓤) (W : Given 𝓤 H A) (mem : Memory → SProp 𝓤) (run : Routine → Fun 𝓤) where
   customer-at-walks : (C : Calls 𝓤 H) (Λ : Loops 𝓤 H) → Walks 𝓤 H A at′.ended stayed (WpFn 𝓤 H C Λ code.function) (at′.clauses 𝓤 H A mem run)
-  customer-at-walks C Λ = walked 𝓤 H A at′.ended stayed (at′.clauses 𝓤 H A mem run) (WpFn 𝓤 H C Λ code.function) (λ κs. (slice-vals, (uint-vals w64, tt))) (λ κs. (shr-slice-tells (named 0) (κs .0) R, (uint-tells w64, tt)))
+  customer-at-walks C Λ = walked 𝓤 H A at′.ended stayed (at′.clauses 𝓤 H A mem run) (WpFn 𝓤 H C Λ code.function)
+      (λ κs. (slice-vals, (uint-vals w64, tt))) (λ κs. (shr-slice-tells (named 0) (κs .0) R, (uint-tells w64, tt)))
       (λ κs qs bounds a g are. needs 𝓤 _ _ (walk 𝓤 H A W mem run (κs .0) (qs .0) (a .0) (a .1 .0) C Λ (are .0) (are .1 .0 .1)))
 
 customer-at-meets : {M : Type 1} (𝓤 : URA M) (H : Heap 𝓤) (A : Atoms 𝓤) → Given 𝓤 H A → (mem : Memory → SProp 𝓤) (run : Routine → Fun 𝓤) (𝓣 : Tables 𝓤 H)
     → Meets 𝓤 H A at′.signature (WpFn 𝓤 H (𝓣 .C) (𝓣 .Λ) code.function) (at′.spec 𝓤 H A mem run)
-customer-at-meets 𝓤 H A W mem run 𝓣 = walk-meets 𝓤 H A at′.ended stayed W (goes-none-slice 𝓤 H A W 1 (0 ∷ []) tt (plain (λ _. R)) yes, (goes-none 𝓤 H A W 1 (λ _. usize) yes (λ κs x f. refl), tt)) (at′.clauses 𝓤 H A mem run) (WpFn 𝓤 H (𝓣 .C) (𝓣 .Λ) code.function) (WpFn-mono 𝓤 H (W .laws) 𝓣 code.function) (customer-at-walks 𝓤 H A W mem run (𝓣 .C) (𝓣 .Λ))
+customer-at-meets 𝓤 H A W mem run 𝓣 = walk-meets 𝓤 H A at′.ended stayed W
+    (goes-none-slice 𝓤 H A W 1 (0 ∷ []) tt (plain (λ _. R)) yes, (goes-none 𝓤 H A W 1 (λ _. usize) yes (λ κs x f. refl), tt))
+    (at′.clauses 𝓤 H A mem run) (WpFn 𝓤 H (𝓣 .C) (𝓣 .Λ) code.function) (WpFn-mono 𝓤 H (W .laws) 𝓣 code.function)
+    (customer-at-walks 𝓤 H A W mem run (𝓣 .C) (𝓣 .Λ))
 
 pub customer-at-spec : {M : Type 1} → stated.statement M
 unfolding code.routine tablesOf

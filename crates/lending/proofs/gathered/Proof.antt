@@ -1,5 +1,7 @@
--- `lending::gathered` meets its contract: a walk of its MIR, by hand, with a loop. A turn calls `customer_at` and stores the record in the array; all that the proof knows of it, of `fewer` and of `depots` is that each meets its contract.
--- The loop is `Types/Run.antt`'s `loops`. Its variant is a number i up to n with the array's machine value u, and that u is the machine value of the first i records padded to 64. An array of records owns only facts, so
+-- `lending::gathered` meets its contract: a walk of its MIR, by hand, with a loop. A turn calls `customer_at` and stores the record in the
+-- array; all that the proof knows of it, of `fewer` and of `depots` is that each meets its contract.
+-- The loop is `Types/Run.antt`'s `loops`. Its variant is a number i up to n with the array's machine value u, and that u is the machine
+-- value of the first i records padded to 64. An array of records owns only facts, so
 -- the context has nothing of it but its cell: what it owns is made anew where a record is taken out (`record-out`).
 -- Assumes nothing.
 use mathlib.Core.Path.{_≡_, refl, sym, ap, subst, _∙_}
@@ -86,7 +88,8 @@ module _ {M : Type 1} (𝓤 : URA M) (H : Heap 𝓤) (A : Atoms 𝓤) (mem : Mem
       Triple 𝓤 (C #lending·customer-at) (Met 𝓤 H A at′.ended (at′.clauses 𝓤 H A mem run))
       × Triple 𝓤 (C #fewer) (Met 𝓤 H A fewer′.ended (fewer′.clauses 𝓤 H A mem run)) × Triple 𝓤 (C #depots) (Met 𝓤 H A depots′.ended (depots′.clauses 𝓤 H A mem run))
 
-module _ {M : Type 1} (𝓤 : URA M) (H : Heap 𝓤) (A : Atoms 𝓤) (W : Given 𝓤 H A) (mem : Memory → SProp 𝓤) (run : Routine → Fun 𝓤) (κ : Lft) (q : Share) (s : RefT (List Customer)) (len-fits : length (s .now) < 2 ^ 64) where
+module _ {M : Type 1} (𝓤 : URA M) (H : Heap 𝓤) (A : Atoms 𝓤) (W : Given 𝓤 H A) (mem : Memory → SProp 𝓤) (run : Routine → Fun 𝓤) (κ : Lft) (q : Share)
+    (s : RefT (List Customer)) (len-fits : length (s .now) < 2 ^ 64) where
   abbrev ys : List Customer
   ys = s .now
 
@@ -124,9 +127,11 @@ module _ {M : Type 1} (𝓤 : URA M) (H : Heap 𝓤) (A : Atoms 𝓤) (W : Given
       En = (τ 0, l₀) ∷ (τ 1, l₁) ∷ (τ 2, l₂) ∷ (τ 3, l₃) ∷ (τ 4, l₄) ∷ (τ 5, l₅) ∷ (τ 6, l₆) ∷ (τ 7, l₇) ∷ (τ 8, l₈) ∷ (τ 9, l₉) ∷ (τ 10, l₁₀) ∷ (τ 11, l₁₁) ∷ []
 
       abbrev At : Upto → List (Item 𝓤)
-      At t = Tok ∷ ‵ Own ∷ ‵ (froom (τ 11) l₁₁ 0) ∷ ‵ (fdies (τ 11) l₁₁) ∷ ‵ (froom (τ 10) l₁₀ 0) ∷ ‵ (fdies (τ 10) l₁₀) ∷ ‵ (froom (τ 9) l₉ 0) ∷ ‵ (fdies (τ 9) l₉) ∷ ‵ (froom (τ 8) l₈ 0) ∷ ‵ (fdies (τ 8) l₈)
+      At t = Tok ∷ ‵ Own ∷ ‵ (froom (τ 11) l₁₁ 0) ∷ ‵ (fdies (τ 11) l₁₁) ∷ ‵ (froom (τ 10) l₁₀ 0) ∷ ‵ (fdies (τ 10) l₁₀) ∷ ‵ (froom (τ 9) l₉ 0)
+          ∷ ‵ (fdies (τ 9) l₉) ∷ ‵ (froom (τ 8) l₈ 0) ∷ ‵ (fdies (τ 8) l₈)
           ∷ ‵ (froom (τ 7) l₇ 0) ∷ ‵ (fdies (τ 7) l₇) ∷ ‵ (fat fullShare (τ 6) l₆ 0 (vint w64 (length ys))) ∷ ‵ (fdies (τ 6) l₆) ∷ ‵ (froom (τ 5) l₅ 0) ∷ ‵ (fdies (τ 5) l₅)
-          ∷ ‵ (fat fullShare (τ 4) l₄ 0 (vint w64 (t .0))) ∷ ‵ (fdies (τ 4) l₄) ∷ ‵ (fat fullShare (τ 3) l₃ 0 (t .2)) ∷ ‵ (fdies (τ 3) l₃) ∷ ‵ (fat fullShare (τ 2) l₂ 0 (vint w64 n)) ∷ ‵ (fdies (τ 2) l₂)
+          ∷ ‵ (fat fullShare (τ 4) l₄ 0 (vint w64 (t .0))) ∷ ‵ (fdies (τ 4) l₄) ∷ ‵ (fat fullShare (τ 3) l₃ 0 (t .2)) ∷ ‵ (fdies (τ 3) l₃)
+          ∷ ‵ (fat fullShare (τ 2) l₂ 0 (vint w64 n)) ∷ ‵ (fdies (τ 2) l₂)
           ∷ ‵ (fat fullShare (τ 1) l₁ 0 v) ∷ ‵ (fdies (τ 1) l₁) ∷ ‵ (froom (τ 0) l₀ 0) ∷ ‵ (fdies (τ 0) l₀) ∷ []
 
       -- a turn's postcondition: it ends nearer to n, or the loop is left and the rest of the body runs
@@ -142,7 +147,9 @@ module _ {M : Type 1} (𝓤 : URA M) (H : Heap 𝓤) (A : Atoms 𝓤) (W : Given
           leaves-loop ! (load ! (from ! (stop !)) (look ! 8 refl)) $ exec ! (𝓣 .C) (𝓣 .Λ) En mir′.t-7 (atRet En Post) $
           assigns ! (of-opd ! (load ! (from ! (stop !)) (look ! 18 refl))) (from ! (stop !)) (init ! 24 refl (rows.all-lawful 𝓤 H A W .typed (padded 64 (take (t .0) ys)) _ (t .3) .0)) $
           returns ! (look ! 24 refl) $ forget ! 8 refl $ forget ! 12 refl $ forget ! 16 refl $ forget ! 18 refl $ forget ! 20 refl $ forget ! 22 refl $ forget ! 24 refl $
-          move ! (24 ∷ 25 ∷ []) $ free1 ! $ move ! (22 ∷ 23 ∷ []) $ free1 ! $ move ! (20 ∷ 21 ∷ []) $ free1 ! $ move ! (18 ∷ 19 ∷ []) $ free1 ! $ move ! (16 ∷ 17 ∷ []) $ free1 ! $ move ! (14 ∷ 15 ∷ []) $ free1 ! $ move ! (12 ∷ 13 ∷ []) $ free1 ! $ move ! (10 ∷ 11 ∷ []) $ free1 ! $ move ! (8 ∷ 9 ∷ []) $ free1 ! $ move ! (6 ∷ 7 ∷ []) $ free1 ! $ move ! (4 ∷ 5 ∷ []) $ free1 ! $ move ! (2 ∷ 3 ∷ []) $ free1 ! $ free0 ! $
+          move ! (24 ∷ 25 ∷ []) $ free1 ! $ move ! (22 ∷ 23 ∷ []) $ free1 ! $ move ! (20 ∷ 21 ∷ []) $ free1 ! $ move ! (18 ∷ 19 ∷ []) $ free1 ! $
+          move ! (16 ∷ 17 ∷ []) $ free1 ! $ move ! (14 ∷ 15 ∷ []) $ free1 ! $ move ! (12 ∷ 13 ∷ []) $ free1 ! $ move ! (10 ∷ 11 ∷ []) $ free1 ! $
+          move ! (8 ∷ 9 ∷ []) $ free1 ! $ move ! (6 ∷ 7 ∷ []) $ free1 ! $ move ! (4 ∷ 5 ∷ []) $ free1 ! $ move ! (2 ∷ 3 ∷ []) $ free1 ! $ free0 ! $
           by ! (exits (padded 64 (take (t .0) ys)) (t .2) (padded-all 64 (t .0) ys (omega (arith, over, n-is))) (t .3))
       turn t (yes less) =
           assigns ! (bin ! (load ! (from ! (stop !)) (look ! 16 refl)) (load ! (from ! (stop !)) (look ! 20 refl)) tt) (from ! (stop !)) (init ! 8 refl (tt, tt)) $
@@ -151,7 +158,8 @@ module _ {M : Type 1} (𝓤 : URA M) (H : Heap 𝓤) (A : Atoms 𝓤) (W : Given
           -- `customer_at`: the reference is Copy
           move ! (1 ∷ []) $ use1 W (‵ Own ⊛ ‵ Own) (shr-slice-copy 𝓤 H A W (named 0) κ R .twice s (v ∷ [])) $ split ! $
           nothing ! $ owned ! usize (Is usize) (uint-makes 𝓤 H A W w64) i _ (refl, i-fits) $ fjoin ! $ move ! (1 ∷ 0 ∷ []) $ fjoin ! $ move ! (2 ∷ 0 ∷ []) $
-          calls-said ! (fmOf 𝓤 H (W .laws) 𝓣) at′.ended (at′.clauses 𝓤 H A mem run) (known .0) (κ, tt) (q, tt) tt (s, (i, tt)) (v ∷ [], (vint w64 i ∷ [], tt)) tt (asked 𝓤 within) (λ r _. r ≡ getD ys i depotRecord) (λ r e. id⊢ 𝓤 _)
+          calls-said ! (fmOf 𝓤 H (W .laws) 𝓣) at′.ended (at′.clauses 𝓤 H A mem run) (known .0) (κ, tt) (q, tt) tt (s, (i, tt))
+          (v ∷ [], (vint w64 i ∷ [], tt)) tt (asked 𝓤 within) (λ r _. r ≡ getD ys i depotRecord) (λ r e. id⊢ 𝓤 _)
           (and-then ! (load ! (from ! (stop !)) (look ! 22 refl)) (and-then ! (load ! (from ! (stop !)) (look ! 16 refl)) (no-more !))) (λ w c ws e is. drop ! $ move ! (1 ∷ []) $ drop ! $
           land ! (from ! (stop !)) (init ! 14 refl (rows.lawful 𝓤 H A W .typed c _ is .0)) $
           -- the record stored at i
@@ -165,7 +173,9 @@ module _ {M : Type 1} (𝓤 : URA M) (H : Heap 𝓤) (A : Atoms 𝓤) (W : Given
           move ! (1 ∷ []) $ drop ! $ owned ! R (Is R) (rows.makes 𝓤 H A) c _ is $ move ! (1 ∷ 0 ∷ []) $ elem-put ! R fullShare xs i c (w ∷ []) l₃ 0 i-in $
           array-again T.the-type T′.the-laws T′.the-plain 64 ! (set xs i c) l₃ (length-set xs i c ∙ padded-length 64 (take i ys)) (λ u us.
           move ! (1 ∷ 2 ∷ 3 ∷ 4 ∷ 5 ∷ 6 ∷ 7 ∷ 8 ∷ 9 ∷ 10 ∷ 11 ∷ 12 ∷ 13 ∷ 14 ∷ 15 ∷ 16 ∷ 17 ∷ 18 ∷ 0 ∷ []) $
-          assigns-last ! (bin ! (load ! (from ! (stop !)) (look ! 16 refl)) (lit ! tt) (record { fits = next-fits })) (from ! (stop !)) (store ! 16 refl (tt, record { fits = next-fits })) $ forget ! 2 refl $ forget ! 4 refl $ forget ! 6 refl $ forget ! 8 refl $ forget ! 14 refl $
+          assigns-last ! (bin ! (load ! (from ! (stop !)) (look ! 16 refl)) (lit ! tt) (record { fits = next-fits })) (from ! (stop !))
+          (store ! 16 refl (tt, record { fits = next-fits })) $ forget ! 2 refl $ forget ! 4 refl $ forget ! 6 refl $ forget ! 8 refl $
+          forget ! 14 refl $
           again ! Nearer At t (i + 1, omega (arith, less), u, subst (λ (l : List Customer). Is Rs l (u ∷ [])) (ap (set xs i) e ∙ padded-more 64 i ys i-few within) us) (omega (arith, less)))))
         where
           i : ℕ
@@ -196,29 +206,42 @@ module _ {M : Type 1} (𝓤 : URA M) (H : Heap 𝓤) (A : Atoms 𝓤) (W : Given
       → Is (ShrSlice (named 0) κ R) s (v ∷ []) → ent 𝓤 (onEntry 𝓤 H A gathered′.signature (κ, tt) (q, tt) (s, tt) (v ∷ [], tt)) (WpFn 𝓤 H (𝓣 .C) (𝓣 .Λ) code.function (v ∷ []) Post)
   walk 𝓣 known p =
       qed W (Tok ∷ ‵ (owns (ShrSlice (named 0) κ R ∷ []) (s, tt) (v ∷ [], tt)) ∷ []) ∵ enter ! (𝓣 .C) (𝓣 .Λ) code.function (v ∷ []) _ $
-      alloc1 ! (λ l₀. alloc1 ! (λ l₁. alloc1 ! (λ l₂. alloc1 ! (λ l₃. alloc1 ! (λ l₄. alloc1 ! (λ l₅. alloc1 ! (λ l₆. alloc1 ! (λ l₇. alloc1 ! (λ l₈. alloc1 ! (λ l₉. alloc1 ! (λ l₁₀. alloc1 ! (λ l₁₁. alloc0 ! $ params1 ! $ pass1 ! (init ! 20 refl (shr-slice-lawful 𝓤 H A W (named 0) κ R .typed s (v ∷ []) p .0)) $ pass0 ! $
+      alloc1 ! (λ l₀. alloc1 ! (λ l₁. alloc1 ! (λ l₂.
+      alloc1 ! (λ l₃. alloc1 ! (λ l₄. alloc1 ! (λ l₅.
+      alloc1 ! (λ l₆. alloc1 ! (λ l₇. alloc1 ! (λ l₈.
+      alloc1 ! (λ l₉. alloc1 ! (λ l₁₀. alloc1 ! (λ l₁₁. alloc0 ! $ params1 ! $
+      pass1 ! (init ! 20 refl (shr-slice-lawful 𝓤 H A W (named 0) κ R .typed s (v ∷ []) p .0)) $ pass0 ! $
       -- [_11; …; _10; …; _9; …; _8; …; _7; …; _6; …; _5; …; _4; …; _3; …; _2; …; _1; …; _0; …; the token; what cs owns]
       assigns ! (of-opd ! (load ! (from ! (fld ! refl (stop !))) (look-in ! 20 (sub ! 1 refl (whole !))))) (from ! (stop !)) (init ! 10 refl (tt, record { fits = len-fits })) $
-      calls-plain ! (fmOf 𝓤 H (W .laws) 𝓣) fewer′.ended (fewer′.clauses 𝓤 H A mem run) (known .1) tt tt tt (length ys, (64, tt)) (vint w64 (length ys) ∷ [], (vint w64 64 ∷ [], tt)) tt (id⊢ 𝓤 _) (uint-makes 𝓤 H A W w64, (uint-makes 𝓤 H A W w64, tt)) ((refl, len-fits), ((refl, lit< tt), tt)) (asked-none 𝓤) (λ r _. r ≡ min (length ys) 64) (λ r e. id⊢ 𝓤 _)
-      (and-then ! (load ! (from ! (stop !)) (look ! 11 refl)) (and-then ! (lit ! tt) (no-more !))) (λ u n ws e is. land ! (from ! (stop !)) (init ! 18 refl (uint-lawful 𝓤 H A W w64 .typed n _ is .0)) $ rewrite ! 18 (λ (z : Val). ‵ (fat fullShare (τ 2) l₂ 0 z)) (ap only (is .0)) refl $
-      calls-plain ! (fmOf 𝓤 H (W .laws) 𝓣) depots′.ended (depots′.clauses 𝓤 H A mem run) (known .2) tt tt tt tt tt tt (id⊢ 𝓤 _) tt tt (asked-none 𝓤) (λ r _. r ≡ lib.ListN.replicate 64 depotRecord) (λ r e. id⊢ 𝓤 _)
+      calls-plain ! (fmOf 𝓤 H (W .laws) 𝓣) fewer′.ended (fewer′.clauses 𝓤 H A mem run) (known .1) tt tt tt (length ys, (64, tt))
+      (vint w64 (length ys) ∷ [], (vint w64 64 ∷ [], tt)) tt (id⊢ 𝓤 _) (uint-makes 𝓤 H A W w64, (uint-makes 𝓤 H A W w64, tt))
+      ((refl, len-fits), ((refl, lit< tt), tt)) (asked-none 𝓤) (λ r _. r ≡ min (length ys) 64) (λ r e. id⊢ 𝓤 _)
+      (and-then ! (load ! (from ! (stop !)) (look ! 11 refl)) (and-then ! (lit ! tt) (no-more !)))
+      (λ u n ws e is. land ! (from ! (stop !)) (init ! 18 refl (uint-lawful 𝓤 H A W w64 .typed n _ is .0)) $
+      rewrite ! 18 (λ (z : Val). ‵ (fat fullShare (τ 2) l₂ 0 z)) (ap only (is .0)) refl $
+      calls-plain ! (fmOf 𝓤 H (W .laws) 𝓣) depots′.ended (depots′.clauses 𝓤 H A mem run) (known .2) tt tt tt tt tt tt (id⊢ 𝓤 _) tt tt (asked-none 𝓤)
+      (λ r _. r ≡ lib.ListN.replicate 64 depotRecord) (λ r e. id⊢ 𝓤 _)
       (no-more !) (λ u₂ xs ws₂ e₂ is₂. land ! (from ! (stop !)) (init ! 8 refl (rows.all-lawful 𝓤 H A W .typed xs _ is₂ .0)) $
       assigns ! (of-opd ! (load ! (from ! (stop !)) (look ! 8 refl))) (from ! (stop !)) (init ! 16 refl (rows.all-lawful 𝓤 H A W .typed xs _ is₂ .0)) $
       assigns ! (of-opd ! (lit ! tt)) (from ! (stop !)) (init ! 14 refl (tt, record { fits = lit< tt })) $ forget ! 8 refl $
       move ! (25 ∷ []) $ fsplit ! $ move ! (26 ∷ 0 ∷ []) $ keep ! (0 ∷ 1 ∷ 3 ∷ 4 ∷ 5 ∷ 6 ∷ 7 ∷ 8 ∷ 9 ∷ 10 ∷ 11 ∷ 12 ∷ 13 ∷ 14 ∷ 15 ∷ 16 ∷ 17 ∷ 18 ∷ 19 ∷ 20 ∷ 21 ∷ 22 ∷ 23 ∷ 24 ∷ 25 ∷ 26 ∷ []) $
-      first ! $ blocks ! $ loops ! 𝓣 (Nearer n e) (Nearer-wf n e) (At n e 𝓣 known l₀ l₁ l₂ l₃ l₄ l₅ l₆ l₇ l₈ l₉ l₁₀ l₁₁) (λ t. turn n e 𝓣 known l₀ l₁ l₂ l₃ l₄ l₅ l₆ l₇ l₈ l₉ l₁₀ l₁₁ t (decLt (t .0) n))
+      first ! $ blocks ! $ loops ! 𝓣 (Nearer n e) (Nearer-wf n e) (At n e 𝓣 known l₀ l₁ l₂ l₃ l₄ l₅ l₆ l₇ l₈ l₉ l₁₀ l₁₁)
+      (λ t. turn n e 𝓣 known l₀ l₁ l₂ l₃ l₄ l₅ l₆ l₇ l₈ l₉ l₁₀ l₁₁ t (decLt (t .0) n))
       (0, omega arith, u₂, subst (λ (l : List Customer). Is Rs l (u₂ ∷ [])) (e₂ ∙ padded-none 64) is₂)))))))))))))))
 
 module _ {M : Type 1} (𝓤 : URA M) (H : Heap 𝓤) (A : Atoms 𝓤) (W : Given 𝓤 H A) (mem : Memory → SProp 𝓤) (run : Routine → Fun 𝓤) where
   gathered-walks : (𝓣 : Tables 𝓤 H) → Known 𝓤 H A mem run (𝓣 .C)
       → Walks 𝓤 H A gathered′.ended stayed (WpFn 𝓤 H (𝓣 .C) (𝓣 .Λ) code.function) (gathered′.clauses 𝓤 H A mem run)
-  gathered-walks 𝓣 known = walked 𝓤 H A gathered′.ended stayed (gathered′.clauses 𝓤 H A mem run) (WpFn 𝓤 H (𝓣 .C) (𝓣 .Λ) code.function) (λ κs. (slice-vals, tt)) (λ κs. (shr-slice-tells (named 0) (κs .0) R, tt))
+  gathered-walks 𝓣 known = walked 𝓤 H A gathered′.ended stayed (gathered′.clauses 𝓤 H A mem run) (WpFn 𝓤 H (𝓣 .C) (𝓣 .Λ) code.function)
+      (λ κs. (slice-vals, tt)) (λ κs. (shr-slice-tells (named 0) (κs .0) R, tt))
       (λ κs qs bounds a g are. via 𝓤 _ (fst∗ 𝓤 _ (emp 𝓤)) (walk 𝓤 H A W mem run (κs .0) (qs .0) (a .0) (are .0 .0 .1 .0) 𝓣 known (are .0)))
 
 gathered-meets : {M : Type 1} (𝓤 : URA M) (H : Heap 𝓤) (A : Atoms 𝓤) → Given 𝓤 H A → (mem : Memory → SProp 𝓤) (run : Routine → Fun 𝓤) (𝓣 : Tables 𝓤 H)
     → Known 𝓤 H A mem run (𝓣 .C)
     → Meets 𝓤 H A gathered′.signature (WpFn 𝓤 H (𝓣 .C) (𝓣 .Λ) code.function) (gathered′.spec 𝓤 H A mem run)
-gathered-meets 𝓤 H A W mem run 𝓣 known = walk-meets 𝓤 H A gathered′.ended stayed W (goes-none-slice 𝓤 H A W 1 (0 ∷ []) tt (plain (λ _. R)) kept, tt) (gathered′.clauses 𝓤 H A mem run) (WpFn 𝓤 H (𝓣 .C) (𝓣 .Λ) code.function) (WpFn-mono 𝓤 H (W .laws) 𝓣 code.function) (gathered-walks 𝓤 H A W mem run 𝓣 known)
+gathered-meets 𝓤 H A W mem run 𝓣 known = walk-meets 𝓤 H A gathered′.ended stayed W (goes-none-slice 𝓤 H A W 1 (0 ∷ []) tt (plain (λ _. R)) kept, tt)
+    (gathered′.clauses 𝓤 H A mem run) (WpFn 𝓤 H (𝓣 .C) (𝓣 .Λ) code.function) (WpFn-mono 𝓤 H (W .laws) 𝓣 code.function)
+    (gathered-walks 𝓤 H A W mem run 𝓣 known)
 
 pub gathered-spec : {M : Type 1} → stated.statement M
 unfolding code.routine tablesOf

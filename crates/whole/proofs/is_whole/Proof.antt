@@ -10,11 +10,13 @@ use lib.IntN.{pos}
 use lib.Ieee.{Float, fin, binary64, fits, ofBits, neg, toUnsigned, toBits, lt}
 use borrow.Author.Tests.{eqb-true, eq-eqb}
 use denote.Floats.{passes}
-use Rattle.basics.specs.Tests.{same-test}
+use Rattle.basics.proofs.TestLaws.{same-test}
 use Rattle.basics.specs.Options.{holds}
-use Rattle.whole.specs.Whole.{fl, limit, fl-fits}
-use Rattle.whole.specs.Bits.{fl-in, fl-back, fl-not-nan, lt-not-nan, bits-inj, minus-one-lt, lt-top}
-use Rattle.whole.specs.Value.{value, stored, within, outside}
+use Rattle.whole.specs.Whole.{fl, limit}
+use Rattle.whole.proofs.WholeLaws.{fl-fits}
+use Rattle.whole.proofs.Bits.{fl-in, fl-back, fl-not-nan, lt-not-nan, bits-inj, minus-one-lt, lt-top}
+use Rattle.whole.specs.Value.{value}
+use Rattle.whole.proofs.ValueLaws.{stored, within, outside}
 use Rattle.whole.proofs.is_whole.Statement.{statement}
 use Rattle.whole.proofs.is_whole.Tie as tie
 

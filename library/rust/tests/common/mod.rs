@@ -23,7 +23,7 @@ pub fn sample(name: &str) -> Vec<u8> {
 
 /// Each question of this kind with its answer: those in the repository and, where LIZSOMDUR_RECORDS names a file, those in it.
 pub fn records(kind: u8) -> Vec<(Vec<u8>, String)> {
-    let files = ["crates/replay/stdin", "library/rust/tests/marks.recorded"];
+    let files = ["crates/test_replay/stdin", "library/rust/tests/marks.recorded"];
     let files = files.map(|file| std::fs::read(kept(file)).expect("recorded answers"));
     let mut bytes = files.concat();
     if let Some(more) = std::env::var_os("LIZSOMDUR_RECORDS") {

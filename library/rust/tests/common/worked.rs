@@ -1,9 +1,9 @@
-//! The worked sheets and the cuttings of their calls that crates/marks marks.
+//! The worked sheets and the cuttings of their calls that crates/test_marks marks.
 use super::sheets::{Customer, Sheet};
 
 /// A cutting to be marked.
 pub struct Marked {
-    /// As in crates/marks/stdout.
+    /// As in crates/test_marks/stdout.
     pub name: &'static str,
     pub sheet: Vec<u8>,
     /// The calls and the break place of each run.
@@ -164,7 +164,7 @@ fn of_full() -> Vec<Marked> {
     ]
 }
 
-/// All of them, in the order of crates/marks/stdout.
+/// All of them, in the order of crates/test_marks/stdout.
 pub fn marked() -> Vec<Marked> {
     [of_base(), of_full()].into_iter().flatten().collect()
 }

@@ -26,15 +26,20 @@ lateness-requires c κs = search needs
 returns-2 : tie.Need-returns-2
 unfolding chargeF
 returns-2 c =
-    let e : c .before .before .before .before .args .penalty ≡ Hard = search needs in
-    rw (sym (c .before .before .before .is-violated .ensures) ∙ not-false (c .before .before .before .is-violated .result) (c .before .before .if1 .left), e)
+    let asked = c .before .before .before in
+    let late = sym (asked .is-violated .ensures) ∙ not-false (asked .is-violated .result) (c .before .before .if1 .left) in
+    let e : asked .before .args .penalty ≡ Hard = search needs in
+    rw (late, e)
 
 returns-3 : tie.Need-returns-3
 unfolding chargeF
 returns-3 c =
-    let e : c .before .before .before .before .before .before .before .before .args .penalty ≡ Soft (c .before .before .before .before .penalty .given .0 .0) = search needs in
-    rw (sym (c .before .before .before .before .before .before .before .is-violated .ensures) ∙ not-false (c .before .before .before .before .before .before .before .is-violated .result) (c .before .before .before .before .before .before .if1 .left), e)
-    (rw (← c .before .before .lateness .ensures))
+    let known = c .before .before .before .before in
+    let tested = known .before .before in
+    let asked = tested .before in
+    let late = sym (asked .is-violated .ensures) ∙ not-false (asked .is-violated .result) (tested .if1 .left) in
+    let e : asked .before .args .penalty ≡ Soft (known .penalty .given .0 .0) = search needs in
+    rw (late, e) (rw (← c .before .before .lateness .ensures))
 
 pub charge-spec : {M : Type 1} → statement M
 charge-spec =

@@ -25,9 +25,11 @@ enum-told-2 c = search needs
 returns : tie.Need-returns
 unfolding enterF
 returns c =
-    let e : c .before .before .before .before .before .before .args .customer .«time_window» ≡ Window (c .before .before .before .before .opening .given .0 .0) = search needs in
-    let f : c .before .before .charge .result ≡ Nowhere = search needs in
-    rw (e, ← c .before .before .charge .ensures, f)
+    let charged = c .before .before in
+    let known = charged .before .before in
+    let e : known .before .before .args .customer .«time_window» ≡ Window (known .opening .given .0 .0) = search needs in
+    let f : charged .charge .result ≡ Nowhere = search needs in
+    rw (e, ← charged .charge .ensures, f)
 
 waiting-time-requires : tie.Need-waiting-time-requires
 waiting-time-requires c κs = search needs
@@ -39,9 +41,12 @@ returns-2 c = let e : c .before .before .args .customer .«time_window» ≡ Alw
 returns-3 : tie.Need-returns-3
 unfolding enterF
 returns-3 c =
-    let e : c .before .before .before .before .before .before .before .before .args .customer .«time_window» ≡ Window (c .before .before .before .before .before .before .opening .given .0 .0) = search needs in
-    let f : c .before .before .before .before .charge .result ≡ At (c .before .before .l .given .0 .0) = search needs in
-    rw (e, ← c .before .before .before .before .charge .ensures, f) (rw (← c .waiting-time .ensures))
+    let entered = c .before .before in
+    let charged = entered .before .before in
+    let known = charged .before .before in
+    let e : known .before .before .args .customer .«time_window» ≡ Window (known .opening .given .0 .0) = search needs in
+    let f : charged .charge .result ≡ At (entered .l .given .0 .0) = search needs in
+    rw (e, ← charged .charge .ensures, f) (rw (← c .waiting-time .ensures))
 
 pub enter-spec : {M : Type 1} → statement M
 enter-spec =

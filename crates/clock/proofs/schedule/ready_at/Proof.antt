@@ -22,14 +22,18 @@ returns c = let e : c .before .before .args .rest ≡ Unbroken = search needs in
 returns-2 : tie.Need-returns-2
 unfolding readyF
 returns-2 c =
-    let e : c .before .before .before .before .before .before .args .rest ≡ Break (c .before .before .before .before .rest .given .0 .0) = search needs in
-    rw (e, ← c .before .before .break-start-at .ensures, c .if1 .taken)
+    let started = c .before .before in
+    let known = started .before .before in
+    let e : known .before .before .args .rest ≡ Break (known .rest .given .0 .0) = search needs in
+    rw (e, ← started .break-start-at .ensures, c .if1 .taken)
 
 returns-3 : tie.Need-returns-3
 unfolding readyF
 returns-3 c =
-    let e : c .before .before .before .before .before .before .before .args .rest ≡ Break (c .before .before .before .before .before .rest .given .0 .0) = search needs in
-    rw (e, ← c .before .before .before .break-start-at .ensures, c .before .if1 .left)
+    let started = c .before .before .before in
+    let known = started .before .before in
+    let e : known .before .before .args .rest ≡ Break (known .rest .given .0 .0) = search needs in
+    rw (e, ← started .break-start-at .ensures, c .before .if1 .left)
 
 pub ready-at-spec : {M : Type 1} → statement M
 ready-at-spec =

@@ -37,16 +37,24 @@ enum-told-2 c = search needs
 returns-2 : tie.Need-returns-2
 unfolding serveF
 returns-2 c =
-    let e : c .before .before .before .before .before .before .before .ready-at .result ≡ From (c .before .before .before .before .before .ready .given .0 .0) = search needs in
-    let f : c .before .before .enter .result ≡ Nowhere = search needs in
-    rw (← c .before .before .before .before .before .before .before .ready-at .ensures, e) (rw (← c .before .before .enter .ensures, f))
+    let entered = c .before .before in
+    let known = entered .before .before .before in
+    let readied = known .before .before in
+    let e : readied .ready-at .result ≡ From (known .ready .given .0 .0) = search needs in
+    let f : entered .enter .result ≡ Nowhere = search needs in
+    rw (← readied .ready-at .ensures, e) (rw (← entered .enter .ensures, f))
 
 returns-3 : tie.Need-returns-3
 unfolding serveF
 returns-3 c =
-    let e : c .before .before .before .before .before .before .before .before .before .before .ready-at .result ≡ From (c .before .before .before .before .before .before .before .before .ready .given .0 .0) = search needs in
-    let f : c .before .before .before .before .before .enter .result ≡ At (c .before .before .before .l .given .0 .0) = search needs in
-    rw (← c .before .before .before .before .before .before .before .before .before .before .ready-at .ensures, e) (rw (← c .before .before .before .before .before .enter .ensures, f) (rw (c .before .before .before .before .before .before .place-after .ensures)))
+    let served = c .before .before .before in
+    let entered = served .before .before in
+    let placed = entered .before in
+    let known = placed .before .before in
+    let readied = known .before .before in
+    let e : readied .ready-at .result ≡ From (known .ready .given .0 .0) = search needs in
+    let f : entered .enter .result ≡ At (served .l .given .0 .0) = search needs in
+    rw (← readied .ready-at .ensures, e) (rw (← entered .enter .ensures, f) (rw (placed .place-after .ensures)))
 
 pub serve-spec : {M : Type 1} → statement M
 serve-spec =

@@ -1,4 +1,5 @@
--- `matrix::get` meets its contract: a walk of its MIR, by hand. A view is made whose times are the distances again, and its `get` is called. The one lifetime serves as both of the view's, with a half of its token each. Assumes nothing.
+-- `matrix::get` meets its contract: a walk of its MIR, by hand. A view is made whose times are the distances again, and its `get` is called. The one lifetime serves as
+-- both of the view's, with a half of its token each. Assumes nothing.
 use mathlib.Core.Path.{_≡_, refl}
 use Prim.Native.Nat.{ℕ}
 use mathlib.Core.List.{[], _∷_}
@@ -81,34 +82,42 @@ module _ {M : Type 1} (𝓤 : URA M) (H : Heap 𝓤) (A : Atoms 𝓤) (W : Given
 
   module _ (C : Calls 𝓤 H) (Λ : Loops 𝓤 H) (fm : FmC 𝓤 H (W .laws) C) (known : Triple 𝓤 (C #view-get) (Met 𝓤 H A view.ended (view.clauses 𝓤 H A mem run))) where
     walk : Are (typesAt (get.signature .params) (κ, tt)) (Ises (typesAt (get.signature .params) (κ, tt))) a at
-        → ent 𝓤 (onEntry 𝓤 H A get.signature (κ, tt) (q, tt) a at) (WpFn 𝓤 H C Λ code.function (slice-val (d .distances) ∷ vint w64 (d .size) ∷ vint w64 f ∷ vint w64 t ∷ []) (walkOf 𝓤 H A get.ended (all-left (get.signature .params) (get.ended .kept)) (get.clauses 𝓤 H A mem run) .post (((κ, tt), (q, tt), tt, a, at), tt)))
+        → ent 𝓤 (onEntry 𝓤 H A get.signature (κ, tt) (q, tt) a at) (WpFn 𝓤 H C Λ code.function (slice-val (d .distances) ∷ vint w64 (d .size) ∷ vint w64 f ∷ vint w64 t ∷ [])
+        (walkOf 𝓤 H A get.ended (all-left (get.signature .params) (get.ended .kept)) (get.clauses 𝓤 H A mem run) .post (((κ, tt), (q, tt), tt, a, at), tt)))
     walk are =
         let wt₁ = shr-slice-lawful 𝓤 H A W (named 0) κ f64 .typed (d .distances) _ (are .0) .0 in
         let wt = in-local d (wt₁ .1) (wt₁ .1) (are .1 .0 .1) in
         qed W (Tok ∷ ‵ (owns (typesAt (get.signature .params) (κ, tt)) a at) ∷ []) ∵ enter ! C Λ code.function (slice-val (d .distances) ∷ vint w64 (d .size) ∷ vint w64 f ∷ vint w64 t ∷ []) _ $
         alloc1 ! (λ l₀. alloc1 ! (λ l₁. alloc1 ! (λ l₂. alloc1 ! (λ l₃. alloc1 ! (λ l₄. alloc1 ! (λ l₅. alloc1 ! (λ l₆. alloc0 ! $ params1 ! $
-        pass1 ! (init ! 10 refl wt₁) $ pass1 ! (init ! 8 refl (tt, record { fits = are .1 .0 .1 })) $ pass1 ! (init ! 6 refl (tt, record { fits = are .1 .1 .0 .1 })) $ pass1 ! (init ! 4 refl (tt, record { fits = are .1 .1 .1 .0 .1 })) $ pass0 ! $
+        pass1 ! (init ! 10 refl wt₁) $ pass1 ! (init ! 8 refl (tt, record { fits = are .1 .0 .1 })) $ pass1 ! (init ! 6 refl (tt, record { fits = are .1 .1 .0 .1 })) $
+        pass1 ! (init ! 4 refl (tt, record { fits = are .1 .1 .1 .0 .1 })) $ pass0 ! $
         -- [_6; …; _5; …; _4; …; _3; …; _2; …; _1; …; _0; …; the token; what the parameters own]
-        assigns ! (agg ! (and-then ! (load ! (from ! (stop !)) (look ! 10 refl)) (and-then ! (load ! (from ! (stop !)) (look ! 10 refl)) (and-then ! (load ! (from ! (stop !)) (look ! 8 refl)) (no-more !))))) (from ! (stop !)) (init ! 2 refl wt) $
+        assigns ! (agg ! (and-then ! (load ! (from ! (stop !)) (look ! 10 refl))
+        (and-then ! (load ! (from ! (stop !)) (look ! 10 refl)) (and-then ! (load ! (from ! (stop !)) (look ! 8 refl)) (no-more !))))) (from ! (stop !)) (init ! 2 refl wt) $
         assigns ! (of-opd ! (load ! (from ! (stop !)) (look ! 2 refl))) (from ! (stop !)) (init ! 0 refl wt) $
-        move ! (15 ∷ []) $ fsplit ! $ use1 W (‵ (Distances κs d) ⊛ ‵ (Times κs d)) (shr-slice-copy 𝓤 H A W (named 0) κ f64 .twice (d .distances) (slice-vals (d .distances))) $ split ! $ move ! (2 ∷ []) $ fsplit ! $ drop ! $
+        move ! (15 ∷ []) $ fsplit ! $ use1 W (‵ (Distances κs d) ⊛ ‵ (Times κs d)) (shr-slice-copy 𝓤 H A W (named 0) κ f64 .twice (d .distances) (slice-vals (d .distances))) $ split ! $
+        move ! (2 ∷ []) $ fsplit ! $ drop ! $
         -- [the places'; what the distances own; the same; _6; …; the token]
         move ! (1 ∷ 2 ∷ []) $ use2 W (‵ (Own κs d)) (made 𝓤 H A W κs d (are .1 .0 .1)) $ fjoin ! $ move ! (15 ∷ []) $ use1 W Toks (halved 𝓤 H A W κ q) $
         calls-said ! fm view.ended (view.clauses 𝓤 H A mem run) known κs qs tt (d, a .1 .1) (mach d ∷ [], at .1 .1) tt (asked-none 𝓤) (λ x _. x ≡ found) (λ x e. id⊢ 𝓤 _)
-        (and-then ! (load ! (from ! (stop !)) (look ! 1 refl)) (and-then ! (load ! (from ! (stop !)) (look ! 7 refl)) (and-then ! (load ! (from ! (stop !)) (look ! 5 refl)) (no-more !)))) (λ u x ws e is.
+        (and-then ! (load ! (from ! (stop !)) (look ! 1 refl)) (and-then ! (load ! (from ! (stop !)) (look ! 7 refl)) (and-then ! (load ! (from ! (stop !)) (look ! 5 refl)) (no-more !))))
+        (λ u x ws e is.
         -- [the result; the halves; what is said of the last values; _6; …; _5; …; _4; …; _3; …; _2; …; _1; …; _0; …]
         land ! (from ! (stop !)) (init ! 15 refl (float-lawful 𝓤 H A W binary64 .typed x _ is .0)) $
         returns ! (look ! 15 refl) $ forget ! 3 refl $ forget ! 5 refl $ forget ! 7 refl $ forget ! 9 refl $ forget ! 11 refl $ forget ! 13 refl $ forget ! 15 refl $
-        move ! (15 ∷ 16 ∷ []) $ free1 ! $ move ! (13 ∷ 14 ∷ []) $ free1 ! $ move ! (11 ∷ 12 ∷ []) $ free1 ! $ move ! (9 ∷ 10 ∷ []) $ free1 ! $ move ! (7 ∷ 8 ∷ []) $ free1 ! $ move ! (5 ∷ 6 ∷ []) $ free1 ! $ move ! (3 ∷ 4 ∷ []) $ free1 ! $ free0 ! $
+        move ! (15 ∷ 16 ∷ []) $ free1 ! $ move ! (13 ∷ 14 ∷ []) $ free1 ! $ move ! (11 ∷ 12 ∷ []) $ free1 ! $ move ! (9 ∷ 10 ∷ []) $ free1 ! $ move ! (7 ∷ 8 ∷ []) $ free1 ! $ move ! (5 ∷ 6 ∷ []) $
+        free1 ! $ move ! (3 ∷ 4 ∷ []) $ free1 ! $ free0 ! $
         keep ! (1 ∷ 0 ∷ []) $ use1 W Tok (joined 𝓤 H A W κ q) $ move ! (1 ∷ []) $
-        by ! (leaves-plain 𝓤 H A W get.ended (get.clauses 𝓤 H A mem run) (((κ, tt), (q, tt), tt, a, at), tt) u x (tt, (tt, (tt, (tt, tt)))) (tt, (tt, (tt, (tt, tt)))) (tt, (tt, (tt, (tt, tt)))) (asked 𝓤 e))))))))))
+        by ! (leaves-plain 𝓤 H A W get.ended (get.clauses 𝓤 H A mem run) (((κ, tt), (q, tt), tt, a, at), tt) u x (tt, (tt, (tt, (tt, tt)))) (tt, (tt, (tt, (tt, tt)))) (tt, (tt, (tt, (tt, tt))))
+        (asked 𝓤 e))))))))))
 
 pub get-spec : {M : Type 1} → stated.statement M
 unfolding code.routine tablesOf
 get-spec 𝓤 H 𝓜 𝓖 𝓡 =
     let W = givenOf 𝓤 H 𝓜 𝓖 in
     let 𝓣 = tablesOf 𝓤 H 𝓜 (tables 𝓤 H 𝓜 𝓡 code.env) in
-    let met = cited 𝓤 H (Met 𝓤 H (𝓖 .A) view.ended (view.clauses 𝓤 H (𝓖 .A) (𝓜 .mem) (𝓡 .run))) 𝓜 𝓡 code.env #view-get view-def.routine code.calls-distance·matrix·DistanceMatrix·get (view-thm.met 𝓤 H 𝓜 𝓖 𝓡) in
+    let met =
+    cited 𝓤 H (Met 𝓤 H (𝓖 .A) view.ended (view.clauses 𝓤 H (𝓖 .A) (𝓜 .mem) (𝓡 .run))) 𝓜 𝓡 code.env #view-get view-def.routine code.calls-distance·matrix·DistanceMatrix·get (view-thm.met 𝓤 H 𝓜 𝓖 𝓡) in
     entered 𝓤 H (tripleOf 𝓤 H (𝓖 .A) get.signature (get.spec 𝓤 H (𝓖 .A) (𝓜 .mem) (𝓡 .run)))
     (tables 𝓤 H 𝓜 𝓡 code.env .C) (tables 𝓤 H 𝓜 𝓡 code.env .Λ) #get code.function (code.unfolded 𝓤 H 𝓜 𝓡)
     (all-meet 𝓤 H (𝓖 .A) W get.ended (get.clauses 𝓤 H (𝓖 .A) (𝓜 .mem) (𝓡 .run)) 𝓣 code.function

@@ -39,7 +39,8 @@ infinity-requires-3 c κs = search needs
 
 returns-4 : tie.Need-returns-4
 returns-4 c =
-    let a = c .before .before .before .before .before .before .args in
+    let reckoned = c .before .before in
+    let a = reckoned .before .before .before .before .args in
     c .infinity3 .ensures ∙ past-end (a .table .now) (a .size) (a .from) (a .to) (omega arith)
 
 mul-result : tie.Need-mul-result
@@ -50,7 +51,8 @@ shared-slice-read-result c = search needs
 
 returns-5 : tie.Need-returns-5
 returns-5 c =
-    let a = c .before .before .before .before .before .before .args in
+    let reckoned = c .before .before in
+    let a = reckoned .before .before .before .before .args in
     inside (a .table .now) (a .size) (a .from) (a .to) _ (omega arith) (omega arith) (omega arith)
 
 pub lookup-spec : {M : Type 1} → statement M

@@ -33,10 +33,14 @@ has-window-requires c κs = search needs
 
 returns : tie.Need-returns Inv-loop μ-loop
 returns c =
-    let s = c .before .before .before .before .before .before in
-    let end = c .before .before .before .before .before .fewer in
-    let l = c .before .before .before .before .loop in
-    sym (some-window (s .args .n) (s .args .t1) (end .result) (end .ensures) (s .good .0 .1 .0 .1) _ (l .k) (c .before .before .before .loop-test .taken) (sym (c .before .has-window .ensures) ∙ c .if1 .taken)) ∙ l .inv
+    let asked = c .before in
+    let in-loop = asked .before .before in
+    let l = in-loop .before .loop in
+    let counted = in-loop .before .before in
+    let s = counted .before in
+    let end = counted .fewer in
+    let here = sym (asked .has-window .ensures) ∙ c .if1 .taken in
+    sym (some-window (s .args .n) (s .args .t1) (end .result) (end .ensures) (s .good .0 .1 .0 .1) _ (l .k) (in-loop .loop-test .taken) here) ∙ l .inv
 
 add-k : tie.Need-add-k Inv-loop μ-loop
 add-k c = search needs
@@ -46,10 +50,14 @@ loop-less c = search needs
 
 loop-again : tie.Need-loop-again Inv-loop μ-loop
 loop-again c =
-    let s = c .before .before .before .before .before .before in
-    let end = c .before .before .before .before .before .fewer in
-    let l = c .before .before .before .before .loop in
-    sym (no-window (s .args .n) (s .args .t1) (end .result) (end .ensures) (s .good .0 .1 .0 .1) _ (l .k) (c .before .before .before .loop-test .taken) (sym (c .before .has-window .ensures) ∙ c .if1 .left)) ∙ l .inv
+    let asked = c .before in
+    let in-loop = asked .before .before in
+    let l = in-loop .before .loop in
+    let counted = in-loop .before .before in
+    let s = counted .before in
+    let end = counted .fewer in
+    let here = sym (asked .has-window .ensures) ∙ c .if1 .left in
+    sym (no-window (s .args .n) (s .args .t1) (end .result) (end .ensures) (s .good .0 .1 .0 .1) _ (l .k) (in-loop .loop-test .taken) here) ∙ l .inv
 
 returns-2 : tie.Need-returns-2 Inv-loop μ-loop
 returns-2 c =

@@ -3,23 +3,22 @@ use Prim.Native.Nat.{_-_, _≤_}
 use native.Mathlib.Omega.{arith}
 use mathlib.Core.Path.{_≡_, refl, _∙_}
 use mathlib.Core.List.{map}
-use lib.ListN.{length, take, length-set}
+use lib.ListN.{length, length-set}
 use Rattle.models.specs.Records.{customerOf}
-use Rattle.evaluation.specs.Tables.{demandsOf}
-use Rattle.evaluation.proofs.Demands.{demands-more, demands-all}
+use Rattle.evaluation.proofs.Demands.{AsksTo, asks-none, asks-more, asks-all}
 use borrow.Author.Needs.{needs}
 use Rattle.evaluation.proofs.load.demands_of.Statement.{statement}
 use Rattle.evaluation.proofs.load.demands_of.Tie as tie
 
 abbrev Inv-loop : tie.InvT-loop
 Inv-loop customers demands₀ i₀ demands i =
-    (i ≤ 64) × (length demands ≡ 64) × (take i demands ≡ take i (demandsOf (map customerOf customers)))
+    (i ≤ 64) × (length demands ≡ 64) × AsksTo (map customerOf customers) demands i
 
 abbrev μ-loop : tie.MeasureT-loop
 μ-loop customers demands₀ i₀ demands i = 64 - i
 
 loop-holds : tie.Need-loop-holds Inv-loop μ-loop
-loop-holds c = (omega arith, refl, refl)
+loop-holds c = (omega arith, refl, asks-none _ _)
 
 mul-customer : tie.Need-mul-customer Inv-loop μ-loop
 mul-customer c = search needs
@@ -43,12 +42,12 @@ loop-again : tie.Need-loop-again Inv-loop μ-loop
 loop-again c =
     let l = c .before .before .loop in
     let customers = c .before .before .before .args .t1 in
-    (omega arith, length-set (l .demands) (l .i) _ ∙ l .inv .1, demands-more customers (search needs) (l .demands) (l .i) (l .inv .2) (l .inv .1) _ (c .before .loop-test .taken))
+    (omega arith, length-set (l .demands) (l .i) _ ∙ l .inv .1, asks-more customers (search needs) (l .demands) (l .i) (l .inv .1) _ (c .before .loop-test .taken) (l .inv .2))
 
 returns : tie.Need-returns Inv-loop μ-loop
 returns c =
     let l = c .before .loop in
-    (l .inv .1, demands-all (c .before .before .args .t1) (search needs) (l .demands) (l .i) (l .inv .2) (l .inv .1) (c .loop-test .left))
+    (l .inv .1, asks-all (map customerOf (c .before .before .args .t1)) (l .demands) (l .i) (c .loop-test .left) (l .inv .2))
 
 pub demands-of-spec : {M : Type 1} → statement M
 demands-of-spec =

@@ -43,8 +43,8 @@ returns c =
 call-at-requires : tie.Need-call-at-requires
 call-at-requires c κs = search needs
 
-travel-time-requires : tie.Need-travel-time-requires
-travel-time-requires c κs = search needs
+leg-between-requires : tie.Need-leg-between-requires
+leg-between-requires c κs = search needs
 
 break-start-at-requires : tie.Need-break-start-at-requires
 break-start-at-requires c κs = search needs
@@ -52,7 +52,7 @@ break-start-at-requires c κs = search needs
 returns-2 : tie.Need-returns-2
 unfolding breakStartAtF
 returns-2 c =
-    let timed = c .before .before in
+    let timed = c .before .before .before in
     let called = timed .before in
     let known = called .before .before .before in
     let driven = known .before .before in
@@ -62,7 +62,7 @@ returns-2 c =
     let t = lent (a .customers) (a .distances .now) (a .times .now) (a .size) in
     let e : driven .way-through .result ≡ To (known .d .given .0 .0) = search needs in
     rw (sym (driven .way-through .ensures ∙ ap₂ (wayF t) (begun .start .ensures) (take-fewer (a .k) _ (a .route .now) (counted .fewer .ensures))), e)
-    (rw (c .break-start-at .ensures, timed .travel-time .ensures, called .call-at .ensures))
+    (rw (c .break-start-at .ensures, timed .leg-between .ensures .1, called .call-at .ensures))
 
 pub break-start-spec : {M : Type 1} → statement M
 break-start-spec =
@@ -76,6 +76,6 @@ break-start-spec =
     enum-told
     returns
     call-at-requires
-    travel-time-requires
+    leg-between-requires
     break-start-at-requires
     returns-2)

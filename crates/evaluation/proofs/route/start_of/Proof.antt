@@ -19,7 +19,10 @@ returns c = let e : c .before .before .before .before .before .args .rest ≡ Un
 
 returns-2 : tie.Need-returns-2
 unfolding startF
-returns-2 c = let e : c .before .before .before .before .before .before .before .args .rest ≡ Break (c .before .before .rest .given .0 .0) = search needs in rw (e, c .if1 .taken)
+returns-2 c =
+    let known = c .before .before in
+    let e : known .before .before .before .before .before .args .rest ≡ Break (known .rest .given .0 .0) = search needs in
+    rw (e, c .if1 .taken)
 
 sub-break-start : tie.Need-sub-break-start
 sub-break-start c = search needs
@@ -29,8 +32,9 @@ break-start-requires c κs = search needs
 
 returns-3 : tie.Need-returns-3
 returns-3 c =
-    let a = c .before .before .before .before .before .before .before .before .args in
-    let e : a .rest ≡ Break (c .before .before .before .rest .given .0 .0) = search needs in
+    let known = c .before .before .before in
+    let a = known .before .before .before .before .before .args in
+    let e : a .rest ≡ Break (known .rest .given .0 .0) = search needs in
     rw e (c .break-start .ensures ∙ start-before _ _ (a .place) (a .route .now) (c .before .if1 .left))
 
 pub start-of-spec : {M : Type 1} → statement M

@@ -24,12 +24,16 @@ schedule-requires c κs = search needs
 returns : tie.Need-returns
 unfolding totalsF
 returns c =
-    let e : c .before .before .before .before .before .before .before .args .rest ≡ Unbroken = search needs in
+    let told = c .before .before in
+    let e : told .before .before .before .before .before .args .rest ≡ Unbroken = search needs in
     rw (e, ← c .before .start .ensures) (c .plain-from .ensures)
 
 returns-2 : tie.Need-returns-2
 unfolding totalsF
-returns-2 c = let e : c .before .before .before .before .before .before .before .args .rest ≡ Break (c .before .before .rest .given .0 .0) = search needs in rw e (c .schedule .ensures)
+returns-2 c =
+    let known = c .before .before in
+    let e : known .before .before .before .before .before .args .rest ≡ Break (known .rest .given .0 .0) = search needs in
+    rw e (c .schedule .ensures)
 
 pub totals-spec : {M : Type 1} → statement M
 totals-spec =

@@ -4,7 +4,6 @@ use Prim.Native.Nat.{_+_, _-_, _≤_}
 use native.Mathlib.Omega.{arith}
 use lib.ListN.{length, drop}
 use borrow.Author.Tests.{not-true}
-use denote.Ref.{now}
 use Rattle.clock.specs.Records.{ClockF, clockOf}
 use Rattle.clock.specs.Clock.{pushF}
 use Rattle.evaluation.specs.Records.{lent}
@@ -33,8 +32,8 @@ mul-cid c = search needs
 shared-slice-read-cid : tie.Need-shared-slice-read-cid Inv-loop μ-loop
 shared-slice-read-cid c = search needs
 
-get-requires : tie.Need-get-requires Inv-loop μ-loop
-get-requires c κs = search needs
+leg-between-requires : tie.Need-leg-between-requires Inv-loop μ-loop
+leg-between-requires c κs = search needs
 
 record-index-requires : tie.Need-record-index-requires Inv-loop μ-loop
 record-index-requires c κs = search needs
@@ -45,24 +44,35 @@ mul-push c = search needs
 array-copy-out-push : tie.Need-array-copy-out-push Inv-loop μ-loop
 array-copy-out-push c = search needs
 
-travel-time-requires : tie.Need-travel-time-requires Inv-loop μ-loop
-travel-time-requires c κs = search needs
-
 push-requires : tie.Need-push-requires Inv-loop μ-loop
-push-requires c κs = omega (arith, c .before .before .before .before .before .before .before .before .before .before .before .pre, c .before .before .before .before .before .before .loop .inv .1)
+push-requires c κs =
+    let driven = c .before .before .before in
+    let at-loop = driven .before .before .before in
+    let begun = at-loop .before in
+    omega (arith, begun .before .before .before .before .pre, at-loop .loop .inv .1)
 
 alive-requires : tie.Need-alive-requires Inv-loop μ-loop
 alive-requires c κs = search needs
 
 returns : tie.Need-returns Inv-loop μ-loop
 returns c =
-    let a = c .before .before .before .before .before .before .before .before .before .before .before .before .before .before .args in
-    let x = c .before .before .before .before .before .before .before .before .before .loop in
-    let t = lent (a .t3) (now (a .distances)) (now (a .times)) (a .size) in
-    let index = c .before .before .before .before .before .record-index .ensures in
-    let record-is = read-record (a .t3) (now (a .distances)) (now (a .times)) (a .size) _ _ _ (c .before .before .before .before .before .before .before .before .before .before .before .before .before .before .good .1 .1 .0 .1 .0 .1) (index .0) (index .1) in
+    let pushed = c .before .before in
+    let indexed = pushed .before .before in
+    let driven = indexed .before .before in
+    let in-loop = driven .before .before in
+    let x = in-loop .before .loop in
+    let begun = in-loop .before .before in
+    let S = begun .before .before .before .before in
+    let a = S .args in
+    let t = lent (a .t3) (a .distances .now) (a .times .now) (a .size) in
+    let index = indexed .record-index .ensures in
+    let record-is = read-record (a .t3) (a .distances .now) (a .times .now) (a .size) _ _ _ (S .good .1 .1 .0 .1 .0 .1) (index .0) (index .1) in
+    let leg = driven .leg-between .ensures in
+    let turn =
+    end-turn t (a .calls .now) (clockOf (x .clock)) (x .distance) (x .i) _ _ _ _
+    (in-loop .loop-test .taken) (leg .0) (leg .1) record-is (pushed .push .ensures) in
     let gone = end-gone t _ _ _ (sym (c .before .alive .ensures) ∙ not-true _ (c .if1 .taken)) in
-    sym (sym (x .inv .2) ∙ (end-turn t (now (a .calls)) (clockOf (x .clock)) (x .distance) (x .i) _ _ _ _ (c .before .before .before .before .before .before .before .before .loop-test .taken) (c .before .before .before .before .before .before .get .ensures) (c .before .before .before .travel-time .ensures) record-is (c .before .before .push .ensures) ∙ gone))
+    sym (sym (x .inv .2) ∙ (turn ∙ gone))
 
 add-i : tie.Need-add-i Inv-loop μ-loop
 add-i c = search needs
@@ -73,29 +83,40 @@ loop-less c = search needs
 loop-again : tie.Need-loop-again Inv-loop μ-loop
 unfolding pushF
 loop-again c =
-    let a = c .before .before .before .before .before .before .before .before .before .before .before .before .before .before .args in
-    let x = c .before .before .before .before .before .before .before .before .before .loop in
-    let t = lent (a .t3) (now (a .distances)) (now (a .times)) (a .size) in
-    let index = c .before .before .before .before .before .record-index .ensures in
-    let record-is = read-record (a .t3) (now (a .distances)) (now (a .times)) (a .size) _ _ _ (c .before .before .before .before .before .before .before .before .before .before .before .before .before .before .good .1 .1 .0 .1 .0 .1) (index .0) (index .1) in
-    (omega arith, ap (λ (y : ClockF). y .index) (c .before .before .push .ensures) ∙ omega (arith, x .inv .1), sym (end-turn t (now (a .calls)) (clockOf (x .clock)) (x .distance) (x .i) _ _ _ _ (c .before .before .before .before .before .before .before .before .loop-test .taken) (c .before .before .before .before .before .before .get .ensures) (c .before .before .before .travel-time .ensures) record-is (c .before .before .push .ensures)) ∙ x .inv .2)
+    let pushed = c .before .before in
+    let indexed = pushed .before .before in
+    let driven = indexed .before .before in
+    let in-loop = driven .before .before in
+    let x = in-loop .before .loop in
+    let begun = in-loop .before .before in
+    let S = begun .before .before .before .before in
+    let a = S .args in
+    let t = lent (a .t3) (a .distances .now) (a .times .now) (a .size) in
+    let index = indexed .record-index .ensures in
+    let record-is = read-record (a .t3) (a .distances .now) (a .times .now) (a .size) _ _ _ (S .good .1 .1 .0 .1 .0 .1) (index .0) (index .1) in
+    let leg = driven .leg-between .ensures in
+    let turn =
+    end-turn t (a .calls .now) (clockOf (x .clock)) (x .distance) (x .i) _ _ _ _
+    (in-loop .loop-test .taken) (leg .0) (leg .1) record-is (pushed .push .ensures) in
+    (omega arith, ap (λ (y : ClockF). y .index) (pushed .push .ensures) ∙ omega (arith, x .inv .1), sym turn ∙ x .inv .2)
 
-get-requires-2 : tie.Need-get-requires-2 Inv-loop μ-loop
-get-requires-2 c κs = search needs
-
-travel-time-requires-2 : tie.Need-travel-time-requires-2 Inv-loop μ-loop
-travel-time-requires-2 c κs = search needs
+leg-between-requires-2 : tie.Need-leg-between-requires-2 Inv-loop μ-loop
+leg-between-requires-2 c κs = search needs
 
 finish-requires : tie.Need-finish-requires Inv-loop μ-loop
 finish-requires c κs = search needs
 
 returns-2 : tie.Need-returns-2 Inv-loop μ-loop
 returns-2 c =
-    let a = c .before .before .before .before .before .before .before .before .before .args in
-    let x = c .before .before .before .before .loop in
-    let t = lent (a .t3) (now (a .distances)) (now (a .times)) (a .size) in
-    let last = end-last t (now (a .calls)) (clockOf (x .clock)) (x .distance) (x .i) (c .before .before .before .loop-test .left) in
-    c .finish .ensures ∙ (rw (c .before .before .get2 .ensures, c .before .travel-time2 .ensures) (sym last) ∙ x .inv .2)
+    let driven = c .before .before in
+    let ended = driven .before in
+    let x = ended .before .loop in
+    let begun = ended .before .before in
+    let a = begun .before .before .before .before .args in
+    let t = lent (a .t3) (a .distances .now) (a .times .now) (a .size) in
+    let back = driven .leg-between2 .ensures in
+    let last = end-last t (a .calls .now) (clockOf (x .clock)) (x .distance) (x .i) (ended .loop-test .left) in
+    c .finish .ensures ∙ (rw (back .0, back .1) (sym last) ∙ x .inv .2)
 
 pub clock-from-spec : {M : Type 1} → statement M
 clock-from-spec =
@@ -106,18 +127,16 @@ clock-from-spec =
     loop-holds
     mul-cid
     shared-slice-read-cid
-    get-requires
+    leg-between-requires
     record-index-requires
     mul-push
     array-copy-out-push
-    travel-time-requires
     push-requires
     alive-requires
     returns
     add-i
     loop-less
     loop-again
-    get-requires-2
-    travel-time-requires-2
+    leg-between-requires-2
     finish-requires
     returns-2)

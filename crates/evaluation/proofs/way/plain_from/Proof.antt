@@ -21,11 +21,8 @@ returns c =
     let e : c .before .before .way-through .result ≡ Failed = search needs in
     rw (← c .before .before .way-through .ensures, e)
 
-get-requires : tie.Need-get-requires
-get-requires c κs = search needs
-
-travel-time-requires : tie.Need-travel-time-requires
-travel-time-requires c κs = search needs
+leg-between-requires : tie.Need-leg-between-requires
+leg-between-requires c κs = search needs
 
 home-requires : tie.Need-home-requires
 home-requires c κs = search needs
@@ -33,8 +30,12 @@ home-requires c κs = search needs
 returns-2 : tie.Need-returns-2
 unfolding plainF
 returns-2 c =
-    let e : c .before .before .before .before .before .before .before .before .way-through .result ≡ To (c .before .before .before .before .before .before .d .given .0 .0) = search needs in
-    rw (← c .before .before .before .before .before .before .before .before .way-through .ensures, e) (rw (c .home .ensures, c .before .travel-time .ensures, c .before .before .before .get .ensures))
+    let driven = c .before .before .before in
+    let known = driven .before .before .before in
+    let went = known .before .before in
+    let back = driven .leg-between .ensures in
+    let e : went .way-through .result ≡ To (known .d .given .0 .0) = search needs in
+    rw (← went .way-through .ensures, e) (rw (c .home .ensures, back .1, back .0))
 
 pub plain-from-spec : {M : Type 1} → statement M
 plain-from-spec =
@@ -44,7 +45,6 @@ plain-from-spec =
     enum-known-d
     enum-told
     returns
-    get-requires
-    travel-time-requires
+    leg-between-requires
     home-requires
     returns-2)

@@ -1,40 +1,124 @@
--- `way::way_through` meets its contract. Assumes nothing.
-use mathlib.Core.Path.{ap, _∙_}
-use mathlib.Core.List.{List}
-use lib.Ieee.{Float}
-use denote.Ref.{now}
-use Rattle.distance.specs.Lookup.{lookupF}
-use Rattle.distance.proofs.Ways.{no-times, own-times}
-use Rattle.evaluation.specs.Records.{lent}
-use Rattle.evaluation.specs.Tables.{recordF}
-use Rattle.evaluation.specs.Way.{throughF}
+-- `way::way_through` meets its contract. The loop's invariant: what is left of the way, from here, ends as the whole way does. Assumes nothing.
+use mathlib.Core.Path.{_≡_, refl, sym, ap, _∙_}
+use Prim.Native.Nat.{_-_, _≤_}
+use native.Mathlib.Omega.{arith}
+use lib.ListN.{length, drop}
+use Rattle.evaluation.specs.declared.way.Driven.the-variants.{Failed, To}
+use Rattle.evaluation.specs.Records.{drivenOf, lent}
+use Rattle.evaluation.specs.Tables.{recordF, distanceF, timeF}
+use Rattle.evaluation.specs.Way.{wayF}
+use Rattle.evaluation.proofs.Reading.{read-record}
+use Rattle.evaluation.proofs.Driving.{through-turn, through-fails, through-end}
 use borrow.Author.Needs.{needs}
 use Rattle.evaluation.proofs.way.way_through.Statement.{statement}
 use Rattle.evaluation.proofs.way.way_through.Tie as tie
 
-drive-on-requires : tie.Need-drive-on-requires
-drive-on-requires c κs = search needs
+abbrev Inv-loop : tie.InvT-loop
+Inv-loop calls distances times size customers way₀ i₀ way i =
+    (i ≤ length calls) × (wayF (lent customers distances times size) way (drop i calls) ≡ wayF (lent customers distances times size) way₀ calls)
 
-drive-on-requires-2 : tie.Need-drive-on-requires-2
-drive-on-requires-2 c κs = search needs
+abbrev μ-loop : tie.MeasureT-loop
+μ-loop calls distances times size customers way₀ i₀ way i = length calls - i
 
-returns : tie.Need-returns
-unfolding recordF
+loop-holds : tie.Need-loop-holds Inv-loop μ-loop
+loop-holds c = (omega arith, refl)
+
+mul-cid : tie.Need-mul-cid Inv-loop μ-loop
+mul-cid c = search needs
+
+shared-slice-read-cid : tie.Need-shared-slice-read-cid Inv-loop μ-loop
+shared-slice-read-cid c = search needs
+
+leg-between-requires : tie.Need-leg-between-requires Inv-loop μ-loop
+leg-between-requires c κs = search needs
+
+record-index-requires : tie.Need-record-index-requires Inv-loop μ-loop
+record-index-requires c κs = search needs
+
+mul-on : tie.Need-mul-on Inv-loop μ-loop
+mul-on c = search needs
+
+array-copy-out-on : tie.Need-array-copy-out-on Inv-loop μ-loop
+array-copy-out-on c = search needs
+
+on-requires : tie.Need-on-requires Inv-loop μ-loop
+on-requires c κs = search needs
+
+enum-known-w : tie.Need-enum-known-w Inv-loop μ-loop
+enum-known-w c = search needs
+
+enum-told : tie.Need-enum-told Inv-loop μ-loop
+enum-told c = search needs
+
+returns : tie.Need-returns Inv-loop μ-loop
 returns c =
-    let a = c .before .before .before .before .before .args in
-    c .drive-on .ensures ∙ ap (λ (table : List Float). throughF (lookupF (now (a .distances)) (a .size)) (lookupF table (a .size)) (recordF (lent (a .customers) (now (a .distances)) (now (a .times)) (a .size))) (a .from) (now (a .calls))) (no-times (now (a .distances)) (now (a .times)) (c .before .if1 .taken))
+    let drove = c .before .before in
+    let indexed = drove .before .before in
+    let driven = indexed .before in
+    let in-loop = driven .before .before in
+    let x = in-loop .before .loop in
+    let S = in-loop .before .before .before .before .before in
+    let a = S .args in
+    let t = lent (a .t3) (a .distances .now) (a .times .now) (a .size) in
+    let index = indexed .record-index .ensures in
+    let record-is = read-record (a .t3) (a .distances .now) (a .times .now) (a .size) _ _ _ (S .good .1 .1 .0 .1 .0 .1) (index .0) (index .1) in
+    let leg = driven .leg-between .ensures in
+    let e : drove .on .result ≡ Failed = c .enum-told .given .1 in
+    let fails =
+    through-fails (distanceF t) (timeF t) (recordF t) (a .calls .now) (x .way) (x .i) _ _ _ _
+    (in-loop .loop-test .taken) (leg .0) (leg .1) record-is (drove .on .ensures) (ap drivenOf e) in
+    sym fails ∙ x .inv .1
 
-returns-2 : tie.Need-returns-2
-unfolding recordF
+add-i : tie.Need-add-i Inv-loop μ-loop
+add-i c = search needs
+
+loop-less : tie.Need-loop-less Inv-loop μ-loop
+loop-less c = search needs
+
+loop-again : tie.Need-loop-again Inv-loop μ-loop
+loop-again c =
+    let drove = c .before .before .before in
+    let indexed = drove .before .before in
+    let driven = indexed .before in
+    let in-loop = driven .before .before in
+    let x = in-loop .before .loop in
+    let S = in-loop .before .before .before .before .before in
+    let a = S .args in
+    let t = lent (a .t3) (a .distances .now) (a .times .now) (a .size) in
+    let index = indexed .record-index .ensures in
+    let record-is = read-record (a .t3) (a .distances .now) (a .times .now) (a .size) _ _ _ (S .good .1 .1 .0 .1 .0 .1) (index .0) (index .1) in
+    let leg = driven .leg-between .ensures in
+    let e : drove .on .result ≡ To (c .before .w .given .0 .0) = c .before .w .given .1 in
+    let turn =
+    through-turn (distanceF t) (timeF t) (recordF t) (a .calls .now) (x .way) (x .i) _ _ _ _
+    (in-loop .loop-test .taken) (leg .0) (leg .1) record-is (drove .on .ensures) _ (ap drivenOf e) in
+    (omega arith, sym turn ∙ x .inv .1)
+
+returns-2 : tie.Need-returns-2 Inv-loop μ-loop
 returns-2 c =
     let a = c .before .before .before .before .before .args in
-    c .drive-on2 .ensures ∙ ap (λ (table : List Float). throughF (lookupF (now (a .distances)) (a .size)) (lookupF table (a .size)) (recordF (lent (a .customers) (now (a .distances)) (now (a .times)) (a .size))) (a .from) (now (a .calls))) (own-times (now (a .distances)) (now (a .times)) (c .before .if1 .left))
+    let x = c .before .loop in
+    let t = lent (a .t3) (a .distances .now) (a .times .now) (a .size) in
+    sym (through-end (distanceF t) (timeF t) (recordF t) (a .calls .now) (x .way) (x .i) (c .loop-test .left)) ∙ x .inv .1
 
 pub way-through-spec : {M : Type 1} → statement M
 way-through-spec =
     tie.close
     (tie.spec
-    drive-on-requires
-    drive-on-requires-2
+    Inv-loop
+    μ-loop
+    loop-holds
+    mul-cid
+    shared-slice-read-cid
+    leg-between-requires
+    record-index-requires
+    mul-on
+    array-copy-out-on
+    on-requires
+    enum-known-w
+    enum-told
     returns
+    add-i
+    loop-less
+    loop-again
     returns-2)

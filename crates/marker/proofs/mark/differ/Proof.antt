@@ -38,8 +38,9 @@ add-t14 c = search needs
 
 returns : tie.Need-returns Inv-loop μ-loop
 returns c =
-    let a = c .before .before .before .before .before .before .before .before .args in
-    let x = c .before .before .before .before .loop in
+    let at-loop = c .before .before .before .before in
+    let x = at-loop .loop in
+    let a = at-loop .before .before .before .before .args in
     sym (differ-here (a .calls .now) (a .served .now) (x .i) (omega arith) (omega arith) (c .if1 .taken)) ∙ x .inv .2
 
 add-i : tie.Need-add-i Inv-loop μ-loop
@@ -50,8 +51,9 @@ loop-less c = search needs
 
 loop-again : tie.Need-loop-again Inv-loop μ-loop
 loop-again c =
-    let a = c .before .before .before .before .before .before .before .before .args in
-    let x = c .before .before .before .before .loop in
+    let at-loop = c .before .before .before .before in
+    let x = at-loop .loop in
+    let a = at-loop .before .before .before .before .args in
     (x .inv .0, omega arith, sym (differ-on (a .calls .now) (a .served .now) (x .i) (omega arith) (omega arith) (c .if1 .left)) ∙ x .inv .2)
 
 add-t17 : tie.Need-add-t17 Inv-loop μ-loop
@@ -59,14 +61,16 @@ add-t17 c = search needs
 
 returns-2 : tie.Need-returns-2 Inv-loop μ-loop
 returns-2 c =
-    let a = c .before .before .before .before .before .before .args in
-    let x = c .before .before .loop in
+    let at-loop = c .before .before in
+    let x = at-loop .loop in
+    let a = at-loop .before .before .before .before .args in
     sym (differ-none (a .calls .now) (a .served .now) (x .i) (omega arith) (omega arith)) ∙ x .inv .2
 
 returns-3 : tie.Need-returns-3 Inv-loop μ-loop
 returns-3 c =
-    let a = c .before .before .before .before .before .before .args in
-    let x = c .before .before .loop in
+    let at-loop = c .before .before in
+    let x = at-loop .loop in
+    let a = at-loop .before .before .before .before .args in
     sym (differ-ended (a .calls .now) (a .served .now) (x .i) (omega arith) (omega arith) (c .if2 .left)) ∙ x .inv .2
 
 pub differ-spec : {M : Type 1} → statement M

@@ -3,7 +3,7 @@ use mathlib.Core.Path.{_≡_}
 use Prim.Native.Nat.{_-_}
 use native.Mathlib.Omega.{arith}
 use lib.ListN.{length-take, length-drop, length}
-use Rattle.whole.specs.Bits.{fl-zero}
+use Rattle.whole.proofs.Bits.{fl-zero}
 use Rattle.marker.specs.declared.run.Marked.the-variants.{Costs}
 use Rattle.marker.specs.RunMark.{groundOf}
 use Rattle.marker.proofs.Runs.{Left, set-out, next-inside, onward, stopped, ended}
@@ -12,16 +12,17 @@ use Rattle.marker.proofs.mark.mark_runs.Statement.{statement}
 use Rattle.marker.proofs.mark.mark_runs.Tie as tie
 
 abbrev Inv-loop : tie.InvT-loop
-Inv-loop calls ends places customers demands distances times head total₀ p₀ k₀ total p k = Left (groundOf customers distances times head) calls ends places total p k
+Inv-loop calls ends breaks customers demands distances times head total₀ p₀ k₀ total p k =
+    Left (groundOf customers distances times head) calls ends breaks total p k
 
 abbrev μ-loop : tie.MeasureT-loop
-μ-loop calls ends places customers demands distances times head total₀ p₀ k₀ total p k = length ends - k
+μ-loop calls ends breaks customers demands distances times head total₀ p₀ k₀ total p k = length ends - k
 
 loop-holds : tie.Need-loop-holds Inv-loop μ-loop
 loop-holds c =
     let S = c .before .before .before .before .before in
     let a = S .args in
-    set-out (groundOf (a .customers) (a .distances .now) (a .times .now) (a .head)) (a .calls .now) (a .ends .now) (a .places .now) _ fl-zero (S .pre .1)
+    set-out (groundOf (a .customers) (a .distances .now) (a .times .now) (a .head)) (a .calls .now) (a .ends .now) (a .breaks .now) _ fl-zero (S .pre .1 .1)
 
 mul-e : tie.Need-mul-e Inv-loop μ-loop
 mul-e c = search needs
@@ -52,8 +53,10 @@ part-mark-run-end c = omega (arith, next-inside (c .before .before .before .loop
 
 mark-run-requires : tie.Need-mark-run-requires Inv-loop μ-loop
 mark-run-requires c κs =
-    let inside = next-inside (c .before .before .before .before .loop .inv) (c .before .before .before .loop-test .taken) in
-    (simp (length-take, length-drop) (omega arith), c .before .before .before .before .before .before .before .before .before .before .pre .0 .2)
+    let in-loop = c .before .before .before in
+    let inside = next-inside (in-loop .before .loop .inv) (in-loop .loop-test .taken) in
+    let lent = in-loop .before .before .before in
+    (simp (length-take, length-drop) (omega arith), lent .before .before .before .before .pre .1 .0)
 
 enum-known-marked : tie.Need-enum-known-marked Inv-loop μ-loop
 enum-known-marked c = search needs
@@ -66,7 +69,8 @@ returns c =
     let marked = c .before .before in
     let in-loop = marked .before .before .before .before in
     let x = in-loop .before .loop in
-    let S = in-loop .before .before .before .before .before .before .before in
+    let lent = in-loop .before .before .before in
+    let S = lent .before .before .before .before in
     stopped (x .inv) (in-loop .loop-test .taken) (S .pre .0 .1) (marked .mark-run .result) (marked .mark-run .ensures) (c .enum-told .given .0 .0) (c .enum-told .given .1)
 
 loop-less : tie.Need-loop-less Inv-loop μ-loop
@@ -77,7 +81,8 @@ loop-again c =
     let marked = c .before .before .before in
     let in-loop = marked .before .before .before .before in
     let x = in-loop .before .loop in
-    let S = in-loop .before .before .before .before .before .before .before in
+    let lent = in-loop .before .before .before in
+    let S = lent .before .before .before .before in
     let e : marked .mark-run .result ≡ Costs (c .before .marked .given .0 .0) = search needs in
     onward (x .inv) (in-loop .loop-test .taken) (S .pre .0 .1) (marked .mark-run .result) (marked .mark-run .ensures) (c .before .marked .given .0 .0) e
 

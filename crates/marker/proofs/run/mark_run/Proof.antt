@@ -1,11 +1,10 @@
 -- `run::mark_run` meets its contract. Assumes nothing.
-use Prim.Native.Nat.{ℕ}
 use mathlib.Core.Path.{_≡_, sym, ap, _∙_}
-use mathlib.Core.List.{List}
-use Rattle.basics.specs.Tests.{not-true, not-false}
-use Rattle.evaluation.specs.Tables.{loadF}
+use lib.ListN.{length}
+use Rattle.basics.proofs.TestLaws.{not-true, not-false}
 use Rattle.marker.specs.declared.walk.Walked.the-variants.{Stopped, Home}
-use Rattle.marker.specs.RunMark.{runMarkF}
+use Rattle.marker.specs.RunMark.{groundOf, walkMarkF}
+use Rattle.marker.proofs.Loading.{over, carries}
 use borrow.Author.Needs.{needs}
 use Rattle.marker.proofs.run.mark_run.Statement.{statement}
 use Rattle.marker.proofs.run.mark_run.Tie as tie
@@ -17,12 +16,14 @@ fits-requires : tie.Need-fits-requires
 fits-requires c κs = search needs
 
 returns : tie.Need-returns
-unfolding runMarkF
 returns c =
-    let loaded = c .before .before in
+    let fitted = c .before in
+    let loaded = fitted .before .before in
     let S = loaded .before .before .before .before in
-    let load-is = loaded .load-of .ensures .0 ∙ ap (λ (d : List ℕ). loadF d (S .args .calls .now)) (S .pre .1) in
-    rw (← load-is, sym (c .before .fits2 .ensures) ∙ not-true _ (c .if1 .taken))
+    let a = S .args in
+    let ground = groundOf (a .customers) (a .distances .now) (a .times .now) (a .head) in
+    over ground (a .run) (a .place) (a .calls .now) (a .demands .now) (S .pre .1) _ (loaded .load-of .ensures .0)
+    (sym (fitted .fits2 .ensures .0) ∙ not-true _ (c .if1 .taken))
 
 walk-requires : tie.Need-walk-requires
 walk-requires c κs = search needs
@@ -37,26 +38,34 @@ mark-totals-requires : tie.Need-mark-totals-requires
 mark-totals-requires c κs = search needs
 
 returns-2 : tie.Need-returns-2
-unfolding runMarkF
 returns-2 c =
     let walked = c .before .before .before in
-    let fitted = walked .before .before .before in
-    let loaded = fitted .before in
+    let passed = walked .before .before in
+    let fitted = passed .before in
+    let loaded = fitted .before .before in
     let S = loaded .before .before .before .before in
-    let load-is = loaded .load-of .ensures .0 ∙ ap (λ (d : List ℕ). loadF d (S .args .calls .now)) (S .pre .1) in
+    let a = S .args in
+    let ground = groundOf (a .customers) (a .distances .now) (a .times .now) (a .head) in
     let e : walked .walk .result ≡ Stopped (c .before .v .given .0 .0) = search needs in
-    rw (← load-is, sym (fitted .fits2 .ensures) ∙ not-false _ (walked .before .before .if1 .left), ← walked .walk .ensures, e)
+    let marked = carries ground (a .run) (a .place) (a .calls .now) (a .demands .now) (S .pre .1) _ (loaded .load-of .ensures .0)
+    (sym (fitted .fits2 .ensures .0) ∙ not-false _ (passed .if1 .left)) in
+    let by-walk = walkMarkF (ground .limits) (ground .fixed) (a .run) (a .place) (length (a .calls .now)) in
+    ap by-walk (sym e ∙ walked .walk .ensures) ∙ marked
 
 returns-3 : tie.Need-returns-3
-unfolding runMarkF
 returns-3 c =
     let walked = c .before .before .before .before in
-    let fitted = walked .before .before .before in
-    let loaded = fitted .before in
+    let passed = walked .before .before in
+    let fitted = passed .before in
+    let loaded = fitted .before .before in
     let S = loaded .before .before .before .before in
-    let load-is = loaded .load-of .ensures .0 ∙ ap (λ (d : List ℕ). loadF d (S .args .calls .now)) (S .pre .1) in
-    let e : walked .walk .result ≡ Home (c .before .before .t .given .0 .0) = search needs in
-    rw (← load-is, sym (fitted .fits2 .ensures) ∙ not-false _ (walked .before .before .if1 .left), ← walked .walk .ensures, e) (c .mark-totals .ensures)
+    let a = S .args in
+    let ground = groundOf (a .customers) (a .distances .now) (a .times .now) (a .head) in
+    let e : walked .walk .result ≡ Home (c .before .before .t .given .0 .0) = c .before .before .t .given .1 in
+    let marked = carries ground (a .run) (a .place) (a .calls .now) (a .demands .now) (S .pre .1) _ (loaded .load-of .ensures .0)
+    (sym (fitted .fits2 .ensures .0) ∙ not-false _ (passed .if1 .left)) in
+    let by-walk = walkMarkF (ground .limits) (ground .fixed) (a .run) (a .place) (length (a .calls .now)) in
+    c .mark-totals .ensures ∙ (ap by-walk (sym e ∙ walked .walk .ensures) ∙ marked)
 
 pub mark-run-spec : {M : Type 1} → statement M
 mark-run-spec =

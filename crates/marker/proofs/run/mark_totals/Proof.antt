@@ -1,7 +1,7 @@
 -- `run::mark_totals` meets its contract. Assumes nothing.
 use mathlib.Core.Path.{sym, ap, _∙_}
 use lib.Ieee.{Float}
-use Rattle.basics.specs.Tests.{not-true, not-false}
+use Rattle.basics.proofs.TestLaws.{not-true, not-false}
 use Rattle.definitions.specs.Sheet.{BreakOf}
 use Rattle.marker.specs.declared.verdict.Verdict.the-variants.{BreakMissing}
 use Rattle.marker.specs.declared.run.Marked.the-variants.{Faulty}

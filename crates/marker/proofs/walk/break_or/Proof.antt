@@ -1,6 +1,6 @@
 -- `walk::break_or` meets its contract. Assumes nothing.
 use mathlib.Core.Path.{_≡_}
-use Rattle.whole.specs.Bits.{fl-zero}
+use Rattle.whole.proofs.Bits.{fl-zero}
 use Rattle.models.specs.declared.vehicle.Rest.the-variants.{Unbroken, Break}
 use borrow.Author.Needs.{needs}
 use Rattle.marker.proofs.walk.break_or.Statement.{statement}

@@ -4,13 +4,14 @@ use Prim.Native.Nat.{_+_, _-_, _≤_}
 use native.Mathlib.Omega.{arith}
 use lib.ListN.{length, drop}
 use lib.Ieee.{Float}
-use Rattle.whole.specs.Bits.{fl-zero}
+use Rattle.whole.proofs.Bits.{fl-zero}
 use Rattle.models.specs.Records.{restOf}
 use Rattle.clock.specs.declared.schedule.Label.{Label}
 use Rattle.clock.specs.declared.schedule.Reached.the-variants.{Nowhere, At}
 use Rattle.clock.specs.Records.{reachedOf}
 use Rattle.evaluation.specs.Records.{lent}
 use Rattle.evaluation.proofs.Reading.{read-record}
+use Rattle.marker.specs.declared.walk.Walked.{Walked}
 use Rattle.marker.specs.Walking.{walkF}
 use Rattle.marker.proofs.Calls.{walk-on, walk-stops, walk-end}
 use borrow.Author.Needs.{needs}
@@ -38,11 +39,8 @@ mul-cid c = search needs
 shared-slice-read-cid : tie.Need-shared-slice-read-cid Inv-loop μ-loop
 shared-slice-read-cid c = search needs
 
-get-requires : tie.Need-get-requires Inv-loop μ-loop
-get-requires c κs = search needs
-
-travel-time-requires : tie.Need-travel-time-requires Inv-loop μ-loop
-travel-time-requires c κs = search needs
+leg-between-requires : tie.Need-leg-between-requires Inv-loop μ-loop
+leg-between-requires c κs = search needs
 
 record-index-requires : tie.Need-record-index-requires Inv-loop μ-loop
 record-index-requires c κs = search needs
@@ -76,19 +74,22 @@ returns c =
     let served = c .before .before .before .before in
     let broke = served .before in
     let indexed = broke .before .before in
-    let timed = indexed .before in
-    let in-loop = timed .before .before .before in
+    let driven = indexed .before .before in
+    let in-loop = driven .before .before in
     let x = in-loop .before .loop in
     let began = in-loop .before .before in
     let S = began .before .before .before .before in
     let a = S .args in
     let t = lent (a .t4) (a .distances .now) (a .times .now) (a .size) in
-    let set-out = ap₂ (λ (far : Float) (l : Label). walkF t (restOf (a .rest)) (a .run) (a .place) 1 far 0 l (a .calls .now)) (sym fl-zero) (began .start .ensures) in
+    let from : Float → Label → Walked = λ far l. walkF t (restOf (a .rest)) (a .run) (a .place) 1 far 0 l (a .calls .now) in
     let index = indexed .record-index .ensures in
+    let leg = driven .leg-between .ensures in
     let e : served .serve .result ≡ Nowhere = c .before .before .enum-told .given .1 in
     let record-is = read-record (a .t4) (a .distances .now) (a .times .now) (a .size) _ _ _ (S .good .1 .1 .1 .0 .1 .0 .1) (index .0) (index .1) in
-    let stops = walk-stops t (restOf (a .rest)) (a .run) (a .place) (a .calls .now) (x .distance) (x .prev) (x .label) (x .i) _ _ _ _ (in-loop .loop-test .taken) (timed .travel-time .ensures) record-is (broke .break-at .ensures) (served .serve .ensures) (ap reachedOf e) in
-    rw (c .call-fault .ensures) (sym stops ∙ (x .inv .1 ∙ set-out))
+    let stops =
+    walk-stops t (restOf (a .rest)) (a .run) (a .place) (a .calls .now) (x .distance) (x .prev) (x .label) (x .i) _ _ _ _
+    (in-loop .loop-test .taken) (leg .1) record-is (broke .break-at .ensures) (served .serve .ensures) (ap reachedOf e) in
+    rw (c .call-fault .ensures) (sym stops ∙ (x .inv .1 ∙ ap₂ from (sym fl-zero) (began .start .ensures)))
 
 loop-less : tie.Need-loop-less Inv-loop μ-loop
 loop-less c = search needs
@@ -98,38 +99,40 @@ loop-again c =
     let served = c .before .before .before in
     let broke = served .before in
     let indexed = broke .before .before in
-    let timed = indexed .before in
-    let got = timed .before in
-    let in-loop = got .before .before in
+    let driven = indexed .before .before in
+    let in-loop = driven .before .before in
     let x = in-loop .before .loop in
-    let S = in-loop .before .before .before .before .before .before in
+    let began = in-loop .before .before in
+    let S = began .before .before .before .before in
     let a = S .args in
     let t = lent (a .t4) (a .distances .now) (a .times .now) (a .size) in
     let index = indexed .record-index .ensures in
+    let leg = driven .leg-between .ensures in
     let e : served .serve .result ≡ At (c .before .l .given .0 .0) = search needs in
     let record-is = read-record (a .t4) (a .distances .now) (a .times .now) (a .size) _ _ _ (S .good .1 .1 .1 .0 .1 .0 .1) (index .0) (index .1) in
-    let turn = walk-on t (restOf (a .rest)) (a .run) (a .place) (a .calls .now) (x .distance) (x .prev) (x .label) (x .i) _ _ _ _ (in-loop .loop-test .taken) (timed .travel-time .ensures) record-is (broke .break-at .ensures) (served .serve .ensures) in
-    (omega arith, sym (turn _ _ (got .get .ensures) (ap reachedOf e)) ∙ x .inv .1)
+    let turn =
+    walk-on t (restOf (a .rest)) (a .run) (a .place) (a .calls .now) (x .distance) (x .prev) (x .label) (x .i) _ _ _ _
+    (in-loop .loop-test .taken) (leg .1) record-is (broke .break-at .ensures) (served .serve .ensures) in
+    (omega arith, sym (turn _ _ (leg .0) (ap reachedOf e)) ∙ x .inv .1)
 
-get-requires-2 : tie.Need-get-requires-2 Inv-loop μ-loop
-get-requires-2 c κs = search needs
-
-travel-time-requires-2 : tie.Need-travel-time-requires-2 Inv-loop μ-loop
-travel-time-requires-2 c κs = search needs
+leg-between-requires-2 : tie.Need-leg-between-requires-2 Inv-loop μ-loop
+leg-between-requires-2 c κs = search needs
 
 home-requires : tie.Need-home-requires Inv-loop μ-loop
 home-requires c κs = search needs
 
 returns-2 : tie.Need-returns-2 Inv-loop μ-loop
 returns-2 c =
-    let ended = c .before .before .before in
+    let driven = c .before .before in
+    let ended = driven .before in
     let x = ended .before .loop in
     let began = ended .before .before in
     let a = began .before .before .before .before .args in
     let t = lent (a .t4) (a .distances .now) (a .times .now) (a .size) in
-    let set-out = ap₂ (λ (far : Float) (l : Label). walkF t (restOf (a .rest)) (a .run) (a .place) 1 far 0 l (a .calls .now)) (sym fl-zero) (began .start .ensures) in
-    rw (c .home .ensures, c .before .travel-time2 .ensures, c .before .before .get2 .ensures)
-    (sym (walk-end t (restOf (a .rest)) (a .run) (a .place) (a .calls .now) (x .distance) (x .prev) (x .label) (x .i) (ended .loop-test .left)) ∙ (x .inv .1 ∙ set-out))
+    let from : Float → Label → Walked = λ far l. walkF t (restOf (a .rest)) (a .run) (a .place) 1 far 0 l (a .calls .now) in
+    let back = driven .leg-between2 .ensures in
+    let whole = walk-end t (restOf (a .rest)) (a .run) (a .place) (a .calls .now) (x .distance) (x .prev) (x .label) (x .i) (ended .loop-test .left) in
+    rw (c .home .ensures, back .1, back .0) (sym whole ∙ (x .inv .1 ∙ ap₂ from (sym fl-zero) (began .start .ensures)))
 
 pub walk-spec : {M : Type 1} → statement M
 walk-spec =
@@ -141,8 +144,7 @@ walk-spec =
     loop-holds
     mul-cid
     shared-slice-read-cid
-    get-requires
-    travel-time-requires
+    leg-between-requires
     record-index-requires
     mul-customer
     array-copy-out-customer
@@ -155,7 +157,6 @@ walk-spec =
     returns
     loop-less
     loop-again
-    get-requires-2
-    travel-time-requires-2
+    leg-between-requires-2
     home-requires
     returns-2)

@@ -1,6 +1,6 @@
 -- `customer::due_or_zero` meets its contract. Assumes nothing.
 use mathlib.Core.Path.{_≡_}
-use Rattle.whole.specs.Bits.{fl-zero}
+use Rattle.whole.proofs.Bits.{fl-zero}
 use Rattle.models.specs.declared.customer.Opening.the-variants.{Always}
 use borrow.Author.Needs.{needs}
 use Rattle.models.proofs.customer.due_or_zero.Statement.{statement}

@@ -1,6 +1,6 @@
 -- `limits::limit_or_zero` meets its contract. Assumes nothing.
 use mathlib.Core.Path.{_≡_}
-use Rattle.whole.specs.Bits.{fl-zero}
+use Rattle.whole.proofs.Bits.{fl-zero}
 use Rattle.models.specs.declared.limits.Limit.the-variants.{Unlimited}
 use borrow.Author.Needs.{needs}
 use Rattle.models.proofs.limits.limit_or_zero.Statement.{statement}

@@ -1,14 +1,14 @@
--- `cutting::split_tw` meets its contract: the walk of a public call, with `checked_cuts::cutting::split_tw` for its core. Assumes nothing.
+-- `cutting::split_tw` meets its contract: the walk of a public call, with `call_cuts::cutting::split_tw` for its core. Assumes nothing.
 use contract.Running.{givenOf}
 use Rattle.definitions.specs.Drop.{splitTw}
 use Rattle.planner.proofs.Answers.{Kd, cut-lawful}
 use Rattle.planner.proofs.PublicCall.{call-spec}
 use Rattle.planner.proofs.CutLists.{cutLists, cut-coded}
-use Rattle.planner.proofs.Promised.{split-tw-keeps}
+use Rattle.planner.proofs.CutKept.{split-tw-keeps}
 use Rattle.planner.proofs.CutCalls.{cut-carries}
-use Rattle.checked_cuts.proofs.cutting.split_tw as core
-use Rattle.checked_cuts.proofs.cutting.split_tw.Symbol as core-def
-use Rattle.checked_cuts.proofs.cutting.split_tw.Met as core-thm
+use Rattle.call_cuts.proofs.cutting.split_tw as core
+use Rattle.call_cuts.proofs.cutting.split_tw.Symbol as core-def
+use Rattle.call_cuts.proofs.cutting.split_tw.Met as core-thm
 use Rattle.planner.proofs.cutting.split_tw as call
 use Rattle.planner.proofs.cutting.split_tw.Key.{name}
 use Rattle.planner.proofs.cutting.split_tw.Statement as stated
@@ -18,5 +18,5 @@ pub split-tw-spec : {M : Type 1} → stated.statement M
 unfolding code.routine
 split-tw-spec 𝓤 H 𝓜 𝓖 𝓡 =
     call-spec cutLists Kd 𝓤 H 𝓜 𝓖 𝓡 (core.clauses 𝓤 H (𝓖 .A) (𝓜 .mem) (𝓡 .run)) (call.clauses 𝓤 H (𝓖 .A) (𝓜 .mem) (𝓡 .run)) code.env core-def.name name core-def.routine
-    code.calls-lending·count code.calls-lending·gathered code.calls-checked-cuts·cutting·split-tw (core-thm.met 𝓤 H 𝓜 𝓖 𝓡) (λ r u is. cut-lawful 𝓤 H (𝓖 .A) (givenOf 𝓤 H 𝓜 𝓖) .typed r _ is .0)
+    code.calls-lending·count code.calls-lending·gathered code.calls-call-cuts·cutting·split-tw (core-thm.met 𝓤 H 𝓜 𝓖 𝓡) (λ r u is. cut-lawful 𝓤 H (𝓖 .A) (givenOf 𝓤 H 𝓜 𝓖) .typed r _ is .0)
     (cut-carries splitTw (λ s. s) split-tw-keeps 𝓤 H (𝓖 .A)) (cut-coded 𝓤 H (𝓖 .A) Kd) (code.unfolded 𝓤 H 𝓜 𝓡)

@@ -1,13 +1,15 @@
--- `evaluating::effective_cost` meets its contract: the walk of a public call, with `checked_runs::evaluating::effective_cost` for its core. Assumes nothing.
+-- `evaluating::effective_cost` meets its contract: the walk of a public call, with `call_runs::evaluating::effective_cost` for its core. Assumes nothing.
 use contract.Running.{givenOf}
-use Rattle.checked_runs.specs.Evaluating.{costAnswer}
+use Rattle.definitions.specs.Evaluation.{effectiveCost}
+use Rattle.call_runs.specs.Evaluating.{costIn}
+use Rattle.planner.specs.Evaluating.{costRefusal}
 use Rattle.planner.proofs.Answers.{Cd, cost-lawful}
 use Rattle.planner.proofs.PublicCall.{call-spec}
 use Rattle.planner.proofs.RunLists.{runLists, run-coded}
-use Rattle.planner.proofs.RunCalls.{run-carries}
-use Rattle.checked_runs.proofs.evaluating.effective_cost as core
-use Rattle.checked_runs.proofs.evaluating.effective_cost.Symbol as core-def
-use Rattle.checked_runs.proofs.evaluating.effective_cost.Met as core-thm
+use Rattle.planner.proofs.RunCalls.{same-cost, run-carries}
+use Rattle.call_runs.proofs.evaluating.effective_cost as core
+use Rattle.call_runs.proofs.evaluating.effective_cost.Symbol as core-def
+use Rattle.call_runs.proofs.evaluating.effective_cost.Met as core-thm
 use Rattle.planner.proofs.evaluating.effective_cost as call
 use Rattle.planner.proofs.evaluating.effective_cost.Key.{name}
 use Rattle.planner.proofs.evaluating.effective_cost.Statement as stated
@@ -17,5 +19,6 @@ pub effective-cost-spec : {M : Type 1} → stated.statement M
 unfolding code.routine
 effective-cost-spec 𝓤 H 𝓜 𝓖 𝓡 =
     call-spec runLists Cd 𝓤 H 𝓜 𝓖 𝓡 (core.clauses 𝓤 H (𝓖 .A) (𝓜 .mem) (𝓡 .run)) (call.clauses 𝓤 H (𝓖 .A) (𝓜 .mem) (𝓡 .run)) code.env core-def.name name core-def.routine
-    code.calls-lending·count code.calls-lending·gathered code.calls-checked-runs·evaluating·effective-cost (core-thm.met 𝓤 H 𝓜 𝓖 𝓡) (λ r u is. cost-lawful 𝓤 H (𝓖 .A) (givenOf 𝓤 H 𝓜 𝓖) .typed r _ is .0)
-    (run-carries Cd costAnswer 𝓤 H (𝓖 .A)) (run-coded 𝓤 H (𝓖 .A) Cd) (code.unfolded 𝓤 H 𝓜 𝓡)
+    code.calls-lending·count code.calls-lending·gathered code.calls-call-runs·evaluating·effective-cost (core-thm.met 𝓤 H 𝓜 𝓖 𝓡)
+    (λ r u is. cost-lawful 𝓤 H (𝓖 .A) (givenOf 𝓤 H 𝓜 𝓖) .typed r _ is .0)
+    (run-carries Cd effectiveCost costIn costRefusal same-cost 𝓤 H (𝓖 .A)) (run-coded 𝓤 H (𝓖 .A) Cd) (code.unfolded 𝓤 H 𝓜 𝓡)

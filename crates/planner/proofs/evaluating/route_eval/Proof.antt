@@ -1,13 +1,15 @@
--- `evaluating::route_eval` meets its contract: the walk of a public call, with `checked_runs::evaluating::route_eval` for its core. Assumes nothing.
+-- `evaluating::route_eval` meets its contract: the walk of a public call, with `call_runs::evaluating::route_eval` for its core. Assumes nothing.
 use contract.Running.{givenOf}
-use Rattle.checked_runs.specs.Evaluating.{evalAnswer}
+use Rattle.definitions.specs.Evaluation.{routeEval}
+use Rattle.call_runs.specs.Evaluating.{evaluationIn}
+use Rattle.planner.specs.Evaluating.{evalRefusal}
 use Rattle.planner.proofs.Answers.{Ed, eval-lawful}
 use Rattle.planner.proofs.PublicCall.{call-spec}
 use Rattle.planner.proofs.RunLists.{runLists, run-coded}
-use Rattle.planner.proofs.RunCalls.{run-carries}
-use Rattle.checked_runs.proofs.evaluating.route_eval as core
-use Rattle.checked_runs.proofs.evaluating.route_eval.Symbol as core-def
-use Rattle.checked_runs.proofs.evaluating.route_eval.Met as core-thm
+use Rattle.planner.proofs.RunCalls.{same-eval, run-carries}
+use Rattle.call_runs.proofs.evaluating.route_eval as core
+use Rattle.call_runs.proofs.evaluating.route_eval.Symbol as core-def
+use Rattle.call_runs.proofs.evaluating.route_eval.Met as core-thm
 use Rattle.planner.proofs.evaluating.route_eval as call
 use Rattle.planner.proofs.evaluating.route_eval.Key.{name}
 use Rattle.planner.proofs.evaluating.route_eval.Statement as stated
@@ -17,5 +19,5 @@ pub route-eval-spec : {M : Type 1} → stated.statement M
 unfolding code.routine
 route-eval-spec 𝓤 H 𝓜 𝓖 𝓡 =
     call-spec runLists Ed 𝓤 H 𝓜 𝓖 𝓡 (core.clauses 𝓤 H (𝓖 .A) (𝓜 .mem) (𝓡 .run)) (call.clauses 𝓤 H (𝓖 .A) (𝓜 .mem) (𝓡 .run)) code.env core-def.name name core-def.routine
-    code.calls-lending·count code.calls-lending·gathered code.calls-checked-runs·evaluating·route-eval (core-thm.met 𝓤 H 𝓜 𝓖 𝓡) (λ r u is. eval-lawful 𝓤 H (𝓖 .A) (givenOf 𝓤 H 𝓜 𝓖) .typed r _ is .0)
-    (run-carries Ed evalAnswer 𝓤 H (𝓖 .A)) (run-coded 𝓤 H (𝓖 .A) Ed) (code.unfolded 𝓤 H 𝓜 𝓡)
+    code.calls-lending·count code.calls-lending·gathered code.calls-call-runs·evaluating·route-eval (core-thm.met 𝓤 H 𝓜 𝓖 𝓡) (λ r u is. eval-lawful 𝓤 H (𝓖 .A) (givenOf 𝓤 H 𝓜 𝓖) .typed r _ is .0)
+    (run-carries Ed routeEval evaluationIn evalRefusal same-eval 𝓤 H (𝓖 .A)) (run-coded 𝓤 H (𝓖 .A) Ed) (code.unfolded 𝓤 H 𝓜 𝓡)

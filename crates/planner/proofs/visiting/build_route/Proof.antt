@@ -1,4 +1,6 @@
--- `visiting::build_route` meets its contract: a walk of its MIR, by hand. `count` and `gathered` read the customers, `checked_runs::visiting::build_route` answers and lists what is to be written, and `write` writes it. All that the proof knows of the four is that each meets its contract.
+-- `visiting::build_route` meets its contract: a walk of its MIR, by hand. `count` and `gathered` read the customers,
+-- `call_runs::visiting::build_route` answers and lists what is to be written, and `write` writes it. All that the proof knows of the
+-- four is that each meets its contract.
 -- The lists are given to the callees for good, so at exit there is of the two that are written what `write` has left (`leaves`).
 -- Assumes nothing.
 use mathlib.Core.Path.{refl, _∙_}
@@ -37,12 +39,10 @@ use denote.Triple.Spec.{Meets, tripleOf}
 use denote.Triple.Table.{entered, cited}
 use denote.Triple.Walked.{Stays, walkOf, Walks, walked, walk-meets}
 use Rattle.definitions.specs.Visits.{Route}
-use Rattle.definitions.specs.Lent.{Lent}
-use Rattle.definitions.specs.Answers.{Answer, buildRouteOf}
-use Rattle.whole.specs.Value.{value}
+use Rattle.definitions.specs.Answers.{Answer}
 use Rattle.models.specs.declared.customer.Customer.{Customer}
 use Rattle.models.specs.declared.head.Head.{Head}
-use Rattle.walks.proofs.Calling.{Met, asked, asked-none, told-both, calls-said}
+use Rattle.walks.proofs.Calling.{Met, asked, asked-none, calls-said}
 use Rattle.walks.proofs.Leaving.{all-left, all-go, leaves}
 use Rattle.lending.specs.Padding.{padded}
 use Rattle.lending.proofs.Rows as rows
@@ -59,24 +59,25 @@ use Rattle.lending.proofs.gathered.Symbol.{name as #lending·gathered}
 use Rattle.lending.proofs.gathered.Met as gathered-thm
 use Rattle.visits.specs.declared.visit.Visit.{Visit}
 use Rattle.visits.specs.declared.visit.Violation.{Violation}
-use Rattle.checked_runs.specs.declared.visiting.Listed.{Listed}
-use Rattle.checked_runs.specs.declared.visiting.Route as Answered
-use Rattle.checked_runs.specs.Visiting.{visitLent, ListsFrom}
-use Rattle.planner.specs.Visiting.{Writes}
+use Rattle.call_runs.specs.declared.visiting.Listed.{Listed}
+use Rattle.call_runs.specs.declared.visiting.Route as Answered
+use Rattle.call_runs.specs.Visiting.{ListsFrom}
+use Rattle.planner.specs.Calls.{LentSheet, lentSheet}
+use Rattle.planner.specs.Visiting.{RouteOutput, routeOutput, visitAnswer, Writes}
 use Rattle.planner.proofs.Answers as answers
 use Rattle.planner.proofs.Answers.{Hd}
-use Rattle.checked.proofs.Padded.{padded-gathered}
-use Rattle.checked_runs.proofs.RouteAnswers.{listed-left}
-use Rattle.planner.proofs.RouteFigures.{figures-left}
+use Rattle.call_shared.proofs.Padded.{padded-gathered}
+use Rattle.call_runs.proofs.RouteAnswers.{listed-left}
+use Rattle.planner.proofs.RouteKept.{kept}
 use Rattle.planner.proofs.RouteRows as routes
 use Rattle.planner.proofs.RouteRows.{RouteRow, ListedRow, OneVisit, OneViolation}
 use Rattle.walks.proofs.Locals.{held, args, set, opens, passed-in, closes}
 use Rattle.walks.proofs.Reborrowing.{lends, borrows-all}
 use Rattle.planner.proofs.LentLists.{againOf}
-use Rattle.checked_runs.proofs.visiting.build_route as core
-use Rattle.checked_runs.proofs.visiting.build_route.Symbol as core-def
-use Rattle.checked_runs.proofs.visiting.build_route.Symbol.{name as #core}
-use Rattle.checked_runs.proofs.visiting.build_route.Met as core-thm
+use Rattle.call_runs.proofs.visiting.build_route as core
+use Rattle.call_runs.proofs.visiting.build_route.Symbol as core-def
+use Rattle.call_runs.proofs.visiting.build_route.Symbol.{name as #core}
+use Rattle.call_runs.proofs.visiting.build_route.Met as core-thm
 use Rattle.planner.proofs.visiting.write as write
 use Rattle.planner.proofs.visiting.write.Symbol as write-def
 use Rattle.planner.proofs.visiting.write.Symbol.{name as #write}
@@ -163,29 +164,34 @@ module _ {M : Type 1} (𝓤 : URA M) (H : Heap 𝓤) (A : Atoms 𝓤) (W : Given
   onCore = (head, (all, (length (s .now), (d, (t, (calls, (length (visits .now), (length (violations .now), tt))))))))
 
   abbrev coreVals : Val → Val → Vals core.signature coreLfts
-  coreVals ua un = (answers.head-vals head, (ua ∷ [], (un ∷ [], (slice d ∷ [], (slice t ∷ [], (slice calls ∷ [], (vint w64 (length (visits .now)) ∷ [], (vint w64 (length (violations .now)) ∷ [], tt))))))))
+  coreVals ua un =
+      (answers.head-vals head, (ua ∷ [], (un ∷ [], (slice d ∷ [], (slice t ∷ [], (slice calls ∷ [], (vint w64 (length (visits .now)) ∷ [], (vint w64 (length (violations .now)) ∷ [], tt))))))))
 
   abbrev onWrite : Listed → Args write.signature (κs .1 .1 .1 .1)
   onWrite l = (l, a .1 .1 .1 .1 .1)
 
   -- what is lent and answered, what the core says of what is listed, and what `write` says of the answer and of the two lists
-  abbrev lentOn : List Customer → Lent Float
-  lentOn cs = visitLent head cs (d .now) (t .now) (calls .now) (length (visits .now)) (length (violations .now))
+  abbrev sheetOn : List Customer → LentSheet
+  sheetOn cs = lentSheet head cs (d .now) (t .now)
+
+  abbrev old : RouteOutput
+  old = routeOutput (visits .now) (violations .now)
 
   abbrev answered : List Customer → Answer Route
-  answered cs = buildRouteOf value (lentOn cs)
+  answered cs = visitAnswer (sheetOn cs) (calls .now) old
 
   abbrev Said : Listed → Type 0
   Said l = ListsFrom answered (length (visits .now)) (length (violations .now)) (length (s .now)) all l
 
   abbrev Left : Listed → Answered.Route → AtExit write.ended (κs .1 .1 .1 .1) → Type 0
-  Left l r e = Writes l (visits .now) (violations .now) r (e .1 .0 .now) (e .1 .1 .0 .now)
+  Left l r e = Writes l old r (routeOutput (e .1 .0 .now) (e .1 .1 .0 .now))
 
   exits : (l : Listed) → Said l → (r : Answered.Route) (u : Val) (ws : Lasts write.ended (κs .1 .1 .1 .1) (onWrite l)) → Left l r (atExit write.ended (κs .1 .1 .1 .1) (onWrite l) ws)
       → ent 𝓤 (⋆ 𝓤 H A (‵ (RouteRow .own r (u ∷ [])) ∷ Writing ∷ ‵ (lasts write.ended (κs .1 .1 .1 .1) (onWrite l) ws) ∷ Reading ∷ ‵ (flft (κs .0) (qs .0)) ∷ [])) (Post u)
   exits l said r u ws left =
       let x = said (s .now) (padded-gathered (s .now)) in
-      let written-all = listed-left (l .found) (l .violations) _ (violations .now) (ws .1 .1 .0) (x .violations-are) (x .violations-fit) (left .violations-left) in
+      let visits-left = listed-left (l .count) (l .visits) _ (visits .now) (ws .1 .0) (x .visits-are) (x .visits-fit) (left .visits-left) in
+      let violations-left = listed-left (l .found) (l .violations) _ (violations .now) (ws .1 .1 .0) (x .violations-are) (x .violations-fit) (left .violations-left) in
       qed W (‵ (RouteRow .own r (u ∷ [])) ∷ Writing ∷ ‵ (lasts write.ended (κs .1 .1 .1 .1) (onWrite l) ws) ∷ Reading ∷ ‵ (flft (κs .0) (qs .0)) ∷ []) ∵
       move ! (3 ∷ []) $ use1 W (reading (‵ ftrue)) (id⊢ 𝓤 _) $ split ! $ move ! (1 ∷ []) $ split ! $ move ! (1 ∷ []) $ split ! $
       -- [the run's token; true; the times'; the distances'; the result; those of the lists that are written; of their last values; the customers']
@@ -193,12 +199,11 @@ module _ {M : Type 1} (𝓤 : URA M) (H : Heap 𝓤) (A : Atoms 𝓤) (W : Given
       -- [the tokens; true; the result; of the last values]
       move ! (3 ∷ []) $ fsplit ! $ drop ! $ nothing ! $ fjoin ! $ nothing ! $ fjoin ! $ nothing ! $ fjoin ! $ nothing ! $ fjoin ! $ nothing ! $ fjoin ! $ keep ! (3 ∷ 1 ∷ 0 ∷ []) $
       by ! (leaves 𝓤 H A W build-route.ended (build-route.clauses 𝓤 H A mem run) ((κs, qs, tt, a, vals), tt) u r (tt, (tt, (tt, (tt, (tt, ws .1)))))
-      (told-both 𝓤 (asked 𝓤 (left .answer ∙ x .route-is))
-      (told-both 𝓤 (asked 𝓤 (listed-left (l .count) (l .visits) _ (visits .now) (ws .1 .0) (x .visits-are) (x .visits-fit) (left .visits-left)))
-      (told-both 𝓤 (asked 𝓤 written-all) (asked 𝓤 (figures-left (lentOn (s .now)) (violations .now) r _ (left .answer ∙ x .route-is) written-all))))))
+      (asked 𝓤 (kept (sheetOn (s .now)) (calls .now) old (left .answer ∙ x .route-is) (λ i. routeOutput (visits-left i) (violations-left i)))))
 
   module _ (C : Calls 𝓤 H) (Λ : Loops 𝓤 H) (fm : FmC 𝓤 H (W .laws) C) (known : Known 𝓤 H A mem run C) where
-    walk : Are (typesAt (build-route.signature .params) κs) (Ises (typesAt (build-route.signature .params) κs)) a vals → ent 𝓤 (onEntry 𝓤 H A build-route.signature κs qs a vals) (WpFn 𝓤 H C Λ code.function passed Post)
+    walk : Are (typesAt (build-route.signature .params) κs) (Ises (typesAt (build-route.signature .params) κs)) a vals
+        → ent 𝓤 (onEntry 𝓤 H A build-route.signature κs qs a vals) (WpFn 𝓤 H C Λ code.function passed Post)
     walk are =
         qed W ((‵ (flft (κs .0) (qs .0)) ⊛ reading Writing) ∷ Second 𝓤 H A W (κs .0) s First Rest ∷ []) ∵ enter ! C Λ code.function passed _ $
         opens ! (code.function .locals) (λ bs. passed-in ! _ _ passed (
@@ -211,7 +216,10 @@ module _ {M : Type 1} (𝓤 : URA M) (H : Heap 𝓤) (A : Atoms 𝓤) (W : Given
                 shr-slice-lawful 𝓤 H A W (named 2) (κs .1 .1 .0) f64 .typed t _ (are .1 .1 .1 .0) .0,
                 (
                   shr-slice-lawful 𝓤 H A W (named 3) (κs .1 .1 .1 .0) usize .typed calls _ (are .1 .1 .1 .1 .0) .0,
-                  (mut-slice-lawful 𝓤 H A W (named 4) (κs .1 .1 .1 .1 .0) OneVisit .typed visits _ (are .1 .1 .1 .1 .1 .0) .0, (mut-slice-lawful 𝓤 H A W (named 5) (κs .1 .1 .1 .1 .1 .0) OneViolation .typed violations _ (are .1 .1 .1 .1 .1 .1 .0) .0, tt)),
+                  (
+                    mut-slice-lawful 𝓤 H A W (named 4) (κs .1 .1 .1 .1 .0) OneVisit .typed visits _ (are .1 .1 .1 .1 .1 .0) .0,
+                    (mut-slice-lawful 𝓤 H A W (named 5) (κs .1 .1 .1 .1 .1 .0) OneViolation .typed violations _ (are .1 .1 .1 .1 .1 .1 .0) .0, tt),
+                  ),
                 ),
               ),
             ),
@@ -219,20 +227,27 @@ module _ {M : Type 1} (𝓤 : URA M) (H : Heap 𝓤) (A : Atoms 𝓤) (W : Given
         ) $
         -- [the locals; the tokens; what the parameters own]: the customers are read
         move ! (1 ∷ 2 ∷ []) $ join ! $
-        counts ! fm mem run (known .reads) (κs .0) (qs .0) s (reading Writing) (Second 𝓤 H A W (κs .0) s First Rest) (keeps-second 𝓤 H A W (κs .0) (qs .0) s (reading Writing) First Rest) (args ! 1 _ (2 ∷ []) refl refl refl) (λ un is-n.
+        counts ! fm mem run (known .reads) (κs .0) (qs .0) s (reading Writing) (Second 𝓤 H A W (κs .0) s First Rest) (keeps-second 𝓤 H A W (κs .0) (qs .0) s (reading Writing) First Rest)
+        (args ! 1 _ (2 ∷ []) refl refl refl) (λ un is-n.
         land ! (from ! (stop !)) (set ! 1 _ 8 refl refl (uint-lawful 𝓤 H A W w64 .typed (length (s .now)) _ is-n .0)) $
-        gathers ! fm mem run (known .reads) (κs .0) (qs .0) s (reading Writing) (Second 𝓤 H A W (κs .0) s First Rest) (keeps-second 𝓤 H A W (κs .0) (qs .0) s (reading Writing) First Rest) (args ! 1 _ (2 ∷ []) refl refl refl) (λ ua is-all.
+        gathers ! fm mem run (known .reads) (κs .0) (qs .0) s (reading Writing) (Second 𝓤 H A W (κs .0) s First Rest) (keeps-second 𝓤 H A W (κs .0) (qs .0) s (reading Writing) First Rest)
+        (args ! 1 _ (2 ∷ []) refl refl refl) (λ ua is-all.
         land ! (from ! (stop !)) (set ! 1 _ 9 refl refl (rows.all-lawful 𝓤 H A W .typed all _ is-all .0)) $
-        assigns ! (of-opd ! (load ! (from ! (fld ! refl (stop !))) (look-in ! 1 (sub ! 1 refl (held ! _ 6 refl))))) (from ! (stop !)) (set ! 1 _ 10 refl refl (tt, record { fits = are .1 .1 .1 .1 .1 .0 .0 .1 .0 })) $
-        assigns ! (of-opd ! (load ! (from ! (fld ! refl (stop !))) (look-in ! 1 (sub ! 1 refl (held ! _ 7 refl))))) (from ! (stop !)) (set ! 1 _ 11 refl refl (tt, record { fits = are .1 .1 .1 .1 .1 .1 .0 .0 .1 .0 })) $
+        assigns ! (of-opd ! (load ! (from ! (fld ! refl (stop !))) (look-in ! 1 (sub ! 1 refl (held ! _ 6 refl))))) (from ! (stop !))
+        (set ! 1 _ 10 refl refl (tt, record { fits = are .1 .1 .1 .1 .1 .0 .0 .1 .0 })) $
+        assigns ! (of-opd ! (load ! (from ! (fld ! refl (stop !))) (look-in ! 1 (sub ! 1 refl (held ! _ 7 refl))))) (from ! (stop !))
+        (set ! 1 _ 11 refl refl (tt, record { fits = are .1 .1 .1 .1 .1 .1 .0 .0 .1 .0 })) $
         hands-over ! (κs .0) (qs .0) s (reading Writing) First Rest all (length (s .now)) ua un is-all is-n $
         -- [the lists' tokens; what the parameters own, with the array and the number; the customers' token; the locals]
-        split ! $ move ! (1 ∷ []) $ split ! $ move ! (1 ∷ []) $ split ! $ nothing ! $ move ! (1 ∷ 0 ∷ []) $ join ! $ move ! (2 ∷ 0 ∷ []) $ join ! $ move ! (2 ∷ 0 ∷ []) $ join ! $ use1 W Reading (id⊢ 𝓤 _) $
+        split ! $ move ! (1 ∷ []) $ split ! $ move ! (1 ∷ []) $ split ! $ nothing ! $ move ! (1 ∷ 0 ∷ []) $ join ! $ move ! (2 ∷ 0 ∷ []) $ join ! $ move ! (2 ∷ 0 ∷ []) $ join ! $
+        use1 W Reading (id⊢ 𝓤 _) $
         -- [the core's tokens; those of the lists that are written; what is owned; the customers'; the locals]
         move ! (2 ∷ []) $ fsplit ! $ move ! (1 ∷ []) $ fsplit ! $ move ! (1 ∷ []) $ fsplit ! $ move ! (1 ∷ []) $ fsplit ! $ move ! (1 ∷ []) $ fsplit ! $ move ! (1 ∷ []) $ fsplit ! $
         -- [what the run owns; the lists that are written; the times; the distances; the number; the array; the head; the core's tokens; ..]
-        nothing ! $ owned ! usize (Is usize) (uint-makes 𝓤 H A W w64) (length (violations .now)) _ (refl, are .1 .1 .1 .1 .1 .1 .0 .0 .1 .0) $ fjoin ! $ owned ! usize (Is usize) (uint-makes 𝓤 H A W w64) (length (visits .now)) _ (refl, are .1 .1 .1 .1 .1 .0 .0 .1 .0) $ fjoin ! $
-        move ! (1 ∷ 0 ∷ []) $ fjoin ! $ move ! (2 ∷ 0 ∷ []) $ fjoin ! $ move ! (2 ∷ 0 ∷ []) $ fjoin ! $ move ! (2 ∷ 0 ∷ []) $ fjoin ! $ move ! (2 ∷ 0 ∷ []) $ fjoin ! $ move ! (2 ∷ 0 ∷ []) $ fjoin ! $ move ! (2 ∷ 0 ∷ []) $
+        nothing ! $ owned ! usize (Is usize) (uint-makes 𝓤 H A W w64) (length (violations .now)) _ (refl, are .1 .1 .1 .1 .1 .1 .0 .0 .1 .0) $ fjoin ! $
+        owned ! usize (Is usize) (uint-makes 𝓤 H A W w64) (length (visits .now)) _ (refl, are .1 .1 .1 .1 .1 .0 .0 .1 .0) $ fjoin ! $
+        move ! (1 ∷ 0 ∷ []) $ fjoin ! $ move ! (2 ∷ 0 ∷ []) $ fjoin ! $ move ! (2 ∷ 0 ∷ []) $ fjoin ! $ move ! (2 ∷ 0 ∷ []) $ fjoin ! $ move ! (2 ∷ 0 ∷ []) $ fjoin ! $ move ! (2 ∷ 0 ∷ []) $ fjoin ! $
+        move ! (2 ∷ 0 ∷ []) $
         -- [the core's tokens; what its parameters own; what the lists that are written own; their tokens; the customers'; the locals]
         calls-said ! fm core.ended (core.clauses 𝓤 H A mem run) (known .answers) coreLfts coreShares tt onCore (coreVals ua un) tt (asked-none 𝓤) (λ l _. Said l) (λ l e. id⊢ 𝓤 _)
         (args ! 4 _ (1 ∷ 9 ∷ 8 ∷ 3 ∷ 4 ∷ 5 ∷ 10 ∷ 11 ∷ []) refl refl refl) (λ ul l vs said is. drop ! $ move ! (1 ∷ []) $ drop ! $
@@ -244,21 +259,42 @@ module _ {M : Type 1} (𝓤 : URA M) (H : Heap 𝓤) (A : Atoms 𝓤) (W : Given
         ) refl $
         move ! (2 ∷ []) $ owned ! ListedRow (Is ListedRow) (routes.listed-makes 𝓤 H A) l (ul ∷ []) is $ fjoin ! $ move ! (3 ∷ []) $
         -- [the tokens of the lists that are written; what the arguments own; the core's tokens; the locals; the customers']
-        calls-said ! fm write.ended (write.clauses 𝓤 H A mem run) (known .writes) (κs .1 .1 .1 .1) (qs .1 .1 .1 .1) tt (onWrite l) (ul ∷ [], vals .1 .1 .1 .1 .1) tt (asked-none 𝓤) (Left l) (λ r e. id⊢ 𝓤 _)
+        calls-said ! fm write.ended (write.clauses 𝓤 H A mem run) (known .writes) (κs .1 .1 .1 .1) (qs .1 .1 .1 .1) tt (onWrite l) (ul ∷ [], vals .1 .1 .1 .1 .1) tt (asked-none 𝓤) (Left l)
+        (λ r e. id⊢ 𝓤 _)
         (args ! 2 _ (12 ∷ 14 ∷ 16 ∷ []) refl refl refl) (λ u r ws left is-r.
         -- [the result; the tokens; what is said of the last values; the core's tokens; the locals; the customers']
         land ! (from ! (stop !)) (set ! 4 _ 0 refl refl (routes.route-lawful 𝓤 H A W .typed r _ is-r .0)) $
         returns ! (look-in ! 4 (held ! _ 0 refl)) $ move ! (4 ∷ []) $ closes ! _ refl $ by ! (exits l said r u ws left))))))
 
 module _ {M : Type 1} (𝓤 : URA M) (H : Heap 𝓤) (A : Atoms 𝓤) (W : Given 𝓤 H A) (mem : Memory → SProp 𝓤) (run : Routine → Fun 𝓤) where
-  build-route-walks : (C : Calls 𝓤 H) (Λ : Loops 𝓤 H) → FmC 𝓤 H (W .laws) C → Known 𝓤 H A mem run C → Walks 𝓤 H A build-route.ended stayed (WpFn 𝓤 H C Λ code.function) (build-route.clauses 𝓤 H A mem run)
-  build-route-walks C Λ fm known = walked 𝓤 H A build-route.ended stayed (build-route.clauses 𝓤 H A mem run) (WpFn 𝓤 H C Λ code.function) (λ κs. (answers.head-vals, (slice-vals, (slice-vals, (slice-vals, (slice-vals, (slice-vals, (slice-vals, tt))))))))
-      (λ κs. (answers.head-tells, (shr-slice-tells (named 0) (κs .0) R, (shr-slice-tells (named 1) (κs .1 .0) f64, (shr-slice-tells (named 2) (κs .1 .1 .0) f64, (shr-slice-tells (named 3) (κs .1 .1 .1 .0) usize, (mut-slice-tells (named 4) (κs .1 .1 .1 .1 .0) OneVisit, (mut-slice-tells (named 5) (κs .1 .1 .1 .1 .1 .0) OneViolation, tt))))))))
+  build-route-walks : (C : Calls 𝓤 H) (Λ : Loops 𝓤 H) → FmC 𝓤 H (W .laws) C → Known 𝓤 H A mem run C
+      → Walks 𝓤 H A build-route.ended stayed (WpFn 𝓤 H C Λ code.function) (build-route.clauses 𝓤 H A mem run)
+  build-route-walks C Λ fm known =
+      walked 𝓤 H A build-route.ended stayed (build-route.clauses 𝓤 H A mem run) (WpFn 𝓤 H C Λ code.function)
+      (λ κs. (answers.head-vals, (slice-vals, (slice-vals, (slice-vals, (slice-vals, (slice-vals, (slice-vals, tt))))))))
+      (λ κs. (
+        answers.head-tells,
+        (
+          shr-slice-tells (named 0) (κs .0) R,
+          (
+            shr-slice-tells (named 1) (κs .1 .0) f64,
+            (
+              shr-slice-tells (named 2) (κs .1 .1 .0) f64,
+              (
+                shr-slice-tells (named 3) (κs .1 .1 .1 .0) usize,
+                (mut-slice-tells (named 4) (κs .1 .1 .1 .1 .0) OneVisit, (mut-slice-tells (named 5) (κs .1 .1 .1 .1 .1 .0) OneViolation, tt)),
+              ),
+            ),
+          ),
+        ),
+      ))
       (λ κs qs bounds a g are. via 𝓤 _ (fst∗ 𝓤 _ (emp 𝓤)) (walk 𝓤 H A W mem run κs qs a C Λ fm known are))
 
 build-route-meets : {M : Type 1} (𝓤 : URA M) (H : Heap 𝓤) (A : Atoms 𝓤) → Given 𝓤 H A → (mem : Memory → SProp 𝓤) (run : Routine → Fun 𝓤) (𝓣 : Tables 𝓤 H) → Known 𝓤 H A mem run (𝓣 .C)
     → Meets 𝓤 H A build-route.signature (WpFn 𝓤 H (𝓣 .C) (𝓣 .Λ) code.function) (build-route.spec 𝓤 H A mem run)
-build-route-meets 𝓤 H A W mem run 𝓣 known = walk-meets 𝓤 H A build-route.ended stayed W (all-go 𝓤 H A W (build-route.ended .signature .params) (build-route.ended .kept)) (build-route.clauses 𝓤 H A mem run) (WpFn 𝓤 H (𝓣 .C) (𝓣 .Λ) code.function) (WpFn-mono 𝓤 H (W .laws) 𝓣 code.function)
+build-route-meets 𝓤 H A W mem run 𝓣 known =
+    walk-meets 𝓤 H A build-route.ended stayed W (all-go 𝓤 H A W (build-route.ended .signature .params) (build-route.ended .kept)) (build-route.clauses 𝓤 H A mem run)
+    (WpFn 𝓤 H (𝓣 .C) (𝓣 .Λ) code.function) (WpFn-mono 𝓤 H (W .laws) 𝓣 code.function)
     (build-route-walks 𝓤 H A W mem run (𝓣 .C) (𝓣 .Λ) (fmOf 𝓤 H (W .laws) 𝓣) known)
 
 pub build-route-spec : {M : Type 1} → stated.statement M
@@ -270,8 +306,10 @@ build-route-spec 𝓤 H 𝓜 𝓖 𝓡 =
     (record {
       reads = (
         cited 𝓤 H (Met 𝓤 H (𝓖 .A) count′.ended (count′.clauses 𝓤 H (𝓖 .A) (𝓜 .mem) (𝓡 .run))) 𝓜 𝓡 code.env #lending·count count-def.routine code.calls-lending·count (count-thm.met 𝓤 H 𝓜 𝓖 𝓡),
-        cited 𝓤 H (Met 𝓤 H (𝓖 .A) gathered′.ended (gathered′.clauses 𝓤 H (𝓖 .A) (𝓜 .mem) (𝓡 .run))) 𝓜 𝓡 code.env #lending·gathered gathered-def.routine code.calls-lending·gathered (gathered-thm.met 𝓤 H 𝓜 𝓖 𝓡),
+        cited 𝓤 H (Met 𝓤 H (𝓖 .A) gathered′.ended (gathered′.clauses 𝓤 H (𝓖 .A) (𝓜 .mem) (𝓡 .run))) 𝓜 𝓡 code.env #lending·gathered gathered-def.routine code.calls-lending·gathered
+            (gathered-thm.met 𝓤 H 𝓜 𝓖 𝓡),
       );
-      answers = cited 𝓤 H (Met 𝓤 H (𝓖 .A) core.ended (core.clauses 𝓤 H (𝓖 .A) (𝓜 .mem) (𝓡 .run))) 𝓜 𝓡 code.env #core core-def.routine code.calls-checked-runs·visiting·build-route (core-thm.met 𝓤 H 𝓜 𝓖 𝓡);
+      answers =
+          cited 𝓤 H (Met 𝓤 H (𝓖 .A) core.ended (core.clauses 𝓤 H (𝓖 .A) (𝓜 .mem) (𝓡 .run))) 𝓜 𝓡 code.env #core core-def.routine code.calls-call-runs·visiting·build-route (core-thm.met 𝓤 H 𝓜 𝓖 𝓡);
       writes = cited 𝓤 H (Met 𝓤 H (𝓖 .A) write.ended (write.clauses 𝓤 H (𝓖 .A) (𝓜 .mem) (𝓡 .run))) 𝓜 𝓡 code.env #write write-def.routine code.calls-planner·visiting·write (write-thm.met 𝓤 H 𝓜 𝓖 𝓡);
     }))

@@ -1,4 +1,5 @@
--- `visiting::write` meets its contract: a walk of its MIR, by hand. `scattered_visits` and `scattered_violations` write the two lists. All that the proof knows of the two is that each meets its contract.
+-- `visiting::write` meets its contract: a walk of its MIR, by hand. `scattered_visits` and `scattered_violations` write the two lists. All
+-- that the proof knows of the two is that each meets its contract.
 -- The lists are given to the callees for good, so at exit there is of each what its callee has left (`leaves`).
 -- Assumes nothing.
 use mathlib.Core.Path.{_≡_, refl}
@@ -49,7 +50,7 @@ use Rattle.visits.proofs.lists.scattered_violations as to-violations
 use Rattle.visits.proofs.lists.scattered_violations.Symbol as to-violations-def
 use Rattle.visits.proofs.lists.scattered_violations.Symbol.{name as #to-violations}
 use Rattle.visits.proofs.lists.scattered_violations.Met as to-violations-thm
-use Rattle.checked_runs.specs.declared.visiting.Listed.{Listed}
+use Rattle.call_runs.specs.declared.visiting.Listed.{Listed}
 use Rattle.planner.proofs.RouteRows as routes
 use Rattle.planner.proofs.RouteRows.{RouteRow, OneVisit, OneViolation, AllVisits, AllViolations, listed-vals, mach, route-val, visits-val, count-val, violations-val, found-val, route-holds, visits-hold, count-holds, violations-hold, found-holds}
 use Rattle.walks.proofs.Locals.{held, args, set, opens, passed-in, closes}
@@ -120,7 +121,8 @@ module _ {M : Type 1} (𝓤 : URA M) (H : Heap 𝓤) (A : Atoms 𝓤) (W : Given
       move ! (3 ∷ []) $ fsplit ! $ drop ! $ fsplit ! $ drop ! $ fsplit ! $ move ! (4 ∷ []) $ fsplit ! $ drop ! $ fsplit ! $ drop ! $
       -- [of the violations; of the visits; true; the tokens; true]
       move ! (1 ∷ 0 ∷ []) $ fjoin ! $ nothing ! $ fjoin ! $ owned ! RouteRow (Is RouteRow) (routes.route-makes 𝓤 H A) (l .route) (route-val l ∷ []) is $ keep ! (0 ∷ 3 ∷ 1 ∷ []) $
-      by ! (leaves 𝓤 H A W write.ended (write.clauses 𝓤 H A mem run) ((κs, qs, tt, a, vals), tt) (route-val l) (l .route) (tt, (zs .1 .1 .0, (ys .1 .1 .0, tt))) (asked 𝓤 (record { answer = refl; visits-left = visits-left; violations-left = violations-left })))
+      by ! (leaves 𝓤 H A W write.ended (write.clauses 𝓤 H A mem run) ((κs, qs, tt, a, vals), tt) (route-val l) (l .route) (tt, (zs .1 .1 .0, (ys .1 .1 .0, tt)))
+      (asked 𝓤 (record { answer = refl; visits-left = visits-left; violations-left = violations-left })))
 
   module _ (C : Calls 𝓤 H) (Λ : Loops 𝓤 H) (fm : FmC 𝓤 H (W .laws) C) (known : Known 𝓤 H A mem run C) where
     walk : Are (typesAt (write.signature .params) κs) (Ises (typesAt (write.signature .params) κs)) a vals → ent 𝓤 (onEntry 𝓤 H A write.signature κs qs a vals) (WpFn 𝓤 H C Λ code.function passed Post)
@@ -134,21 +136,28 @@ module _ {M : Type 1} (𝓤 : URA M) (H : Heap 𝓤) (A : Atoms 𝓤) (W : Given
         move ! (1 ∷ []) $ split ! $ move ! (1 ∷ []) $ use1 W Second (id⊢ 𝓤 _) $ move ! (3 ∷ []) $ fsplit ! $ drop ! $ fsplit ! $
         -- [what visits owns; what violations owns; violations' token; visits' token; the locals]
         move ! (0 ∷ 4 ∷ []) $ borrows-all ! _ (againOf OneVisit 2 5 ∷ []) (lends _ _ (named 0) visits (are .1 .0 .0 .1 .0) _ _ _ refl refl refl, tt) refl $
-        nothing ! $ move ! (1 ∷ 0 ∷ []) $ fjoin ! $ owned ! usize (Is usize) (uint-makes 𝓤 H A W w64) (l .count) (count-val l ∷ []) (count-holds l (are .0)) $ fjoin ! $ owned ! AllVisits (Is AllVisits) (routes.visits-make 𝓤 H A W) (l .visits) (visits-val l ∷ []) (visits-hold l (are .0)) $ fjoin ! $
+        nothing ! $ move ! (1 ∷ 0 ∷ []) $ fjoin ! $ owned ! usize (Is usize) (uint-makes 𝓤 H A W w64) (l .count) (count-val l ∷ []) (count-holds l (are .0)) $ fjoin ! $
+        owned ! AllVisits (Is AllVisits) (routes.visits-make 𝓤 H A W) (l .visits) (visits-val l ∷ []) (visits-hold l (are .0)) $ fjoin ! $
         move ! (4 ∷ []) $ use1 W First (∗emp 𝓤 (A .lft (κs .0) (qs .0))) $
         -- [visits' token; what the arguments own; the locals; what violations owns; violations' token]
-        calls-said ! fm to-visits.ended (to-visits.clauses 𝓤 H A mem run) (known .visited) (κs .0, tt) (qs .0, tt) tt onVisits (visits-val l ∷ [], (count-val l ∷ [], (slice visits ∷ [], tt))) tt (asked-none 𝓤) (λ _ e. Left (l .visits) (l .count) (visits .now) (e .1 .1 .0 .now)) (λ _ e. id⊢ 𝓤 _)
-        (and-then ! (load ! (from ! (fld ! refl (stop !))) (look-in ! 1 (sub ! 1 refl (held ! _ 1 refl)))) (and-then ! (load ! (from ! (fld ! refl (stop !))) (look-in ! 1 (sub ! 2 refl (held ! _ 1 refl)))) (args ! 1 _ (6 ∷ []) refl refl refl))) (λ u o zs visits-left is. drop ! $
+        calls-said ! fm to-visits.ended (to-visits.clauses 𝓤 H A mem run) (known .visited) (κs .0, tt) (qs .0, tt) tt onVisits (visits-val l ∷ [], (count-val l ∷ [], (slice visits ∷ [], tt))) tt
+        (asked-none 𝓤) (λ _ e. Left (l .visits) (l .count) (visits .now) (e .1 .1 .0 .now)) (λ _ e. id⊢ 𝓤 _)
+        (and-then ! (load ! (from ! (fld ! refl (stop !))) (look-in ! 1 (sub ! 1 refl (held ! _ 1 refl))))
+        (and-then ! (load ! (from ! (fld ! refl (stop !))) (look-in ! 1 (sub ! 2 refl (held ! _ 1 refl)))) (args ! 1 _ (6 ∷ []) refl refl refl))) (λ u o zs visits-left is. drop ! $
         -- [visits' token; of visits as they are left; the locals; what violations owns; violations' token]
         land ! (from ! (stop !)) (set ! 2 _ 4 refl refl (nothing-lawful 𝓤 H A W .typed o _ is .0)) $
         move ! (0 ∷ 2 ∷ []) $ borrows-all ! _ (againOf OneViolation 3 7 ∷ []) (lends _ _ (named 1) violations (are .1 .1 .0 .0 .1 .0) _ _ _ refl refl refl, tt) refl $
-        move ! (3 ∷ []) $ owned ! usize (Is usize) (uint-makes 𝓤 H A W w64) (l .found) (found-val l ∷ []) (found-holds l (are .0)) $ fjoin ! $ owned ! AllViolations (Is AllViolations) (routes.violations-make 𝓤 H A W) (l .violations) (violations-val l ∷ []) (violations-hold l (are .0)) $ fjoin ! $ move ! (4 ∷ []) $
+        move ! (3 ∷ []) $ owned ! usize (Is usize) (uint-makes 𝓤 H A W w64) (l .found) (found-val l ∷ []) (found-holds l (are .0)) $ fjoin ! $
+        owned ! AllViolations (Is AllViolations) (routes.violations-make 𝓤 H A W) (l .violations) (violations-val l ∷ []) (violations-hold l (are .0)) $ fjoin ! $ move ! (4 ∷ []) $
         -- [violations' token; what the arguments own; visits' token; the locals; of visits as they are left]
-        calls-said ! fm to-violations.ended (to-violations.clauses 𝓤 H A mem run) (known .violated) (κs .1) (qs .1) tt onViolations (violations-val l ∷ [], (found-val l ∷ [], (slice violations ∷ [], tt))) tt (asked-none 𝓤) (λ _ e. Left (l .violations) (l .found) (violations .now) (e .1 .1 .0 .now)) (λ _ e. id⊢ 𝓤 _)
-        (and-then ! (load ! (from ! (fld ! refl (stop !))) (look-in ! 2 (sub ! 3 refl (held ! _ 1 refl)))) (and-then ! (load ! (from ! (fld ! refl (stop !))) (look-in ! 2 (sub ! 4 refl (held ! _ 1 refl)))) (args ! 2 _ (8 ∷ []) refl refl refl))) (λ v p ys violations-left is′. drop ! $
+        calls-said ! fm to-violations.ended (to-violations.clauses 𝓤 H A mem run) (known .violated) (κs .1) (qs .1) tt onViolations
+        (violations-val l ∷ [], (found-val l ∷ [], (slice violations ∷ [], tt))) tt (asked-none 𝓤) (λ _ e. Left (l .violations) (l .found) (violations .now) (e .1 .1 .0 .now)) (λ _ e. id⊢ 𝓤 _)
+        (and-then ! (load ! (from ! (fld ! refl (stop !))) (look-in ! 2 (sub ! 3 refl (held ! _ 1 refl))))
+        (and-then ! (load ! (from ! (fld ! refl (stop !))) (look-in ! 2 (sub ! 4 refl (held ! _ 1 refl)))) (args ! 2 _ (8 ∷ []) refl refl refl))) (λ v p ys violations-left is′. drop ! $
         -- [violations' token; of violations as they are left; visits' token; the locals; of visits as they are left]
         land ! (from ! (stop !)) (store-in ! 3 (held ! _ 4 refl) (nothing-lawful 𝓤 H A W .typed p _ is′ .0)) $
-        assigns ! (of-opd ! (load ! (from ! (fld ! refl (stop !))) (look-in ! 3 (sub ! 0 refl (held ! _ 1 refl))))) (from ! (stop !)) (set ! 3 _ 0 refl refl (routes.route-lawful 𝓤 H A W .typed (l .route) _ (route-holds l (are .0)) .0)) $
+        assigns ! (of-opd ! (load ! (from ! (fld ! refl (stop !))) (look-in ! 3 (sub ! 0 refl (held ! _ 1 refl))))) (from ! (stop !))
+        (set ! 3 _ 0 refl refl (routes.route-lawful 𝓤 H A W .typed (l .route) _ (route-holds l (are .0)) .0)) $
         returns ! (look-in ! 3 (held ! _ 0 refl)) $ move ! (3 ∷ []) $ closes ! _ refl $ by ! (exits (route-holds l (are .0)) zs visits-left ys violations-left))))
 
 module _ {M : Type 1} (𝓤 : URA M) (H : Heap 𝓤) (A : Atoms 𝓤) (W : Given 𝓤 H A) (mem : Memory → SProp 𝓤) (run : Routine → Fun 𝓤) where
@@ -159,7 +168,9 @@ module _ {M : Type 1} (𝓤 : URA M) (H : Heap 𝓤) (A : Atoms 𝓤) (W : Given
 
 write-meets : {M : Type 1} (𝓤 : URA M) (H : Heap 𝓤) (A : Atoms 𝓤) → Given 𝓤 H A → (mem : Memory → SProp 𝓤) (run : Routine → Fun 𝓤) (𝓣 : Tables 𝓤 H) → Known 𝓤 H A mem run (𝓣 .C)
     → Meets 𝓤 H A write.signature (WpFn 𝓤 H (𝓣 .C) (𝓣 .Λ) code.function) (write.spec 𝓤 H A mem run)
-write-meets 𝓤 H A W mem run 𝓣 known = walk-meets 𝓤 H A write.ended stayed W (all-go 𝓤 H A W (write.ended .signature .params) (write.ended .kept)) (write.clauses 𝓤 H A mem run) (WpFn 𝓤 H (𝓣 .C) (𝓣 .Λ) code.function) (WpFn-mono 𝓤 H (W .laws) 𝓣 code.function)
+write-meets 𝓤 H A W mem run 𝓣 known =
+    walk-meets 𝓤 H A write.ended stayed W (all-go 𝓤 H A W (write.ended .signature .params) (write.ended .kept)) (write.clauses 𝓤 H A mem run) (WpFn 𝓤 H (𝓣 .C) (𝓣 .Λ) code.function)
+    (WpFn-mono 𝓤 H (W .laws) 𝓣 code.function)
     (write-walks 𝓤 H A W mem run (𝓣 .C) (𝓣 .Λ) (fmOf 𝓤 H (W .laws) 𝓣) known)
 
 pub write-spec : {M : Type 1} → stated.statement M
@@ -169,6 +180,10 @@ write-spec 𝓤 H 𝓜 𝓖 𝓡 =
     (tables 𝓤 H 𝓜 𝓡 code.env .C) (tables 𝓤 H 𝓜 𝓡 code.env .Λ) #write code.function (code.unfolded 𝓤 H 𝓜 𝓡)
     (write-meets 𝓤 H (𝓖 .A) (givenOf 𝓤 H 𝓜 𝓖) (𝓜 .mem) (𝓡 .run) (tablesOf 𝓤 H 𝓜 (tables 𝓤 H 𝓜 𝓡 code.env))
     (record {
-      visited = cited 𝓤 H (Met 𝓤 H (𝓖 .A) to-visits.ended (to-visits.clauses 𝓤 H (𝓖 .A) (𝓜 .mem) (𝓡 .run))) 𝓜 𝓡 code.env #to-visits to-visits-def.routine code.calls-visits·lists·scattered-visits (to-visits-thm.met 𝓤 H 𝓜 𝓖 𝓡);
-      violated = cited 𝓤 H (Met 𝓤 H (𝓖 .A) to-violations.ended (to-violations.clauses 𝓤 H (𝓖 .A) (𝓜 .mem) (𝓡 .run))) 𝓜 𝓡 code.env #to-violations to-violations-def.routine code.calls-visits·lists·scattered-violations (to-violations-thm.met 𝓤 H 𝓜 𝓖 𝓡);
+      visited =
+          cited 𝓤 H (Met 𝓤 H (𝓖 .A) to-visits.ended (to-visits.clauses 𝓤 H (𝓖 .A) (𝓜 .mem) (𝓡 .run))) 𝓜 𝓡 code.env #to-visits to-visits-def.routine code.calls-visits·lists·scattered-visits
+          (to-visits-thm.met 𝓤 H 𝓜 𝓖 𝓡);
+      violated =
+          cited 𝓤 H (Met 𝓤 H (𝓖 .A) to-violations.ended (to-violations.clauses 𝓤 H (𝓖 .A) (𝓜 .mem) (𝓡 .run)))
+          𝓜 𝓡 code.env #to-violations to-violations-def.routine code.calls-visits·lists·scattered-violations (to-violations-thm.met 𝓤 H 𝓜 𝓖 𝓡);
     }))

@@ -1,50 +1,71 @@
 -- `plan::plan_held` meets its contract. Assumes nothing.
 use native.Mathlib.Omega.{arith}
+use mathlib.Core.Path.{refl}
 use denote.Ref.{now}
-use Rattle.plan_listing.proofs.Planned.{served-inside, served-counted, ends-inside, ends-counted, rises}
-use Rattle.sheet_plan.proofs.Planning.{ends-room, left}
+use Rattle.sheet_plan.specs.Plan.{planLists}
+use Rattle.sheet_plan.proofs.CutHeld.{served-inside, served-counted, ends-inside, ends-counted}
+use Rattle.sheet_plan.proofs.Planning.{rises, ends-room, left}
 use borrow.Author.Needs.{needs}
 use Rattle.sheet_plan.proofs.plan.plan_held.Statement.{statement}
 use Rattle.sheet_plan.proofs.plan.plan_held.Tie as tie
 
 cut-held-requires : tie.Need-cut-held-requires
 cut-held-requires c κs =
-    let s = c .before .before .before .before .before .before .before .before .before .before .before .before in
+    let known = c .before .before .before .before .before in
+    let near = known .before .before .before .before .before in
+    let s = near .before .before in
     (s .pre .0, (s .pre .1 .0, s .pre .1 .1, s .pre .1 .4))
 
 slice-reshare-prefix-write-breaks : tie.Need-slice-reshare-prefix-write-breaks
 slice-reshare-prefix-write-breaks c =
-    let x = c .before .before .before .before .before .before in
-    let p = x .before .before .before .before .before .before .before .before .before .before .before .before .before .pre .0 in
-    served-inside (x .cut-held .ensures (p .0) (p .1))
+    let shared = c .before .before .before .before .before in
+    let x = shared .before in
+    let known = x .before .before .before .before .before in
+    let near = known .before .before .before .before .before in
+    let s = near .before .before .before in
+    served-inside (x .cut-held .ensures (s .pre .0 .0) (s .pre .0 .1))
 
 slice-aggregate-write-breaks : tie.Need-slice-aggregate-write-breaks
 slice-aggregate-write-breaks c =
-    let x = c .before .before .before .before .before .before .before in
-    let p = x .before .before .before .before .before .before .before .before .before .before .before .before .before .pre .0 in
-    served-counted (x .cut-held .ensures (p .0) (p .1))
+    let shared = c .before .before .before .before .before in
+    let x = shared .before .before in
+    let known = x .before .before .before .before .before in
+    let near = known .before .before .before .before .before in
+    let s = near .before .before .before in
+    served-counted (x .cut-held .ensures (s .pre .0 .0) (s .pre .0 .1))
 
 slice-reshare-prefix-write-breaks-2 : tie.Need-slice-reshare-prefix-write-breaks-2
 slice-reshare-prefix-write-breaks-2 c =
-    let x = c .before .before .before .before .before .before .before in
-    let p = x .before .before .before .before .before .before .before .before .before .before .before .before .before .pre .0 in
-    ends-inside (x .cut-held .ensures (p .0) (p .1))
+    let shared = c .before .before .before .before .before in
+    let x = shared .before .before in
+    let known = x .before .before .before .before .before in
+    let near = known .before .before .before .before .before in
+    let s = near .before .before .before in
+    ends-inside (x .cut-held .ensures (s .pre .0 .0) (s .pre .0 .1))
 
 slice-aggregate-write-breaks-2 : tie.Need-slice-aggregate-write-breaks-2
 slice-aggregate-write-breaks-2 c =
-    let x = c .before .before .before .before .before .before .before .before in
-    let p = x .before .before .before .before .before .before .before .before .before .before .before .before .before .pre .0 in
-    ends-counted (x .cut-held .ensures (p .0) (p .1))
+    let shared = c .before .before .before .before .before in
+    let x = shared .before .before .before in
+    let known = x .before .before .before .before .before in
+    let near = known .before .before .before .before .before in
+    let s = near .before .before .before in
+    ends-counted (x .cut-held .ensures (s .pre .0 .0) (s .pre .0 .1))
 
 write-breaks-requires : tie.Need-write-breaks-requires
 write-breaks-requires c κs =
-    let x = c .before .before .before .before .before .before .before .before .before .before in
-    let s = x .before .before .before .before .before .before .before .before .before .before .before .before .before in
+    let shared = c .before .before .before .before .before in
+    let x = shared .before .before .before .before .before in
+    let known = x .before .before .before .before .before in
+    let near = known .before .before .before .before .before in
+    let s = near .before .before .before in
     let a = s .args in
-    let p = s .pre .0 in
-    let C = x .cut-held .ensures (p .0) (p .1) in
-    let room = ends-room (p .0) (now (a .tour)) (a .head) (a .customers) (now (a .distances)) (now (a .times)) (p .1) C in
-    (rises (p .0) (now (a .tour)) (a .head) (a .customers) (now (a .distances)) (now (a .times)) (p .1) C, (omega (arith, room, s .pre .1 .2), omega (arith, room, s .pre .1 .3)))
+    let sheet = s .pre .0 .0 in
+    let H = s .pre .0 .1 in
+    let C = x .cut-held .ensures sheet H in
+    let room = ends-room sheet (now (a .tour)) (a .head) (a .customers) (now (a .distances)) (now (a .times)) H C in
+    let rise = rises sheet (now (a .tour)) (a .head) (a .customers) (now (a .distances)) (now (a .times)) H C in
+    (rise, (omega (arith, room, s .pre .1 .2), omega (arith, room, s .pre .1 .3)))
 
 same-length : tie.Need-same-length
 same-length c = search needs
@@ -63,10 +84,21 @@ same-length-5 c = search needs
 
 returns : tie.Need-returns
 returns c s H =
-    let x = c .before .before .before .before .before .before .before .before .before .before .before .before .before .before .before in
-    let a = x .before .before .before .before .before .before .before .before .before .before .before .before .before .args in
-    let b = c .before .before .before .before .write-breaks in
-    left s (now (a .tour)) (a .head) (a .customers) (now (a .distances)) (now (a .times)) H (x .cut-held .ensures s H) (now (a .break-places)) (now (a .break-starts)) (b .last .1 .1 .1 .1 .1 .1 .1 .0) (b .last .1 .1 .1 .1 .1 .1 .1 .1 .0) (b .ensures .0) (b .ensures .1)
+    let w = c .before .before .before .before in
+    let passed = w .before .before .before .before .before in
+    let shared = passed .before .before .before .before .before in
+    let x = shared .before in
+    let known = x .before .before .before .before .before in
+    let near = known .before .before .before .before .before in
+    let start = near .before .before .before in
+    let a = start .args in
+    let b = w .write-breaks in
+    let cut = x .cut-held .last .1 .1 .1 .1 .1 in
+    let breaks = b .last .1 .1 .1 .1 .1 .1 .1 in
+    let old = planLists (now (a .served)) (now (a .run-ends)) (now (a .break-places)) (now (a .break-starts)) (now (a .dropped)) in
+    let new = planLists (cut .0) (cut .1 .0) (breaks .0) (breaks .1 .0) (cut .1 .1 .0) in
+    let C = x .cut-held .ensures s H in
+    left s (now (a .tour)) (a .head) (a .customers) (now (a .distances)) (now (a .times)) H C old new refl refl (b .ensures .0) (b .ensures .1)
 
 pub plan-held-spec : {M : Type 1} → statement M
 plan-held-spec =

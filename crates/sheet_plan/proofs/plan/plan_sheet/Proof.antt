@@ -1,6 +1,9 @@
 -- `plan::plan_sheet` meets its contract. Assumes nothing.
 use denote.Ref.{now}
-use Rattle.plan_listing.proofs.Loading.{far-inside, far-counted, long-inside, long-counted, calls-inside, calls-counted, calls-are, held}
+use Rattle.sheet_read.specs.Summary.{heldCounts}
+use Rattle.sheet_loaded.proofs.Reading.{is-accepted}
+use Rattle.sheet_loaded.proofs.Loading.{far-inside, far-counted, long-inside, long-counted, calls-inside, calls-counted, calls-are, held}
+use Rattle.sheet_plan.specs.Plan.{planLists}
 use Rattle.sheet_plan.proofs.Planning.{of-tour}
 use borrow.Author.Needs.{needs}
 use Rattle.sheet_plan.proofs.plan.plan_sheet.Statement.{statement}
@@ -12,51 +15,59 @@ load-requires c κs = search needs
 array-share-prefix-tour : tie.Need-array-share-prefix-tour
 array-share-prefix-tour c =
     let x = c .before in
-    let q = x .before .before .before .before .before .before .before .before .before .before .pre .0 in
-    let H = x .load .ensures (q .0) (q .1) (q .2) in
-    calls-inside H
+    let known = x .before .before .before .before .before in
+    let s = known .before .before .before .before .before in
+    let q = is-accepted (now (s .args .bytes)) (heldCounts (s .args .found)) (s .pre .0) in
+    calls-inside (x .load .ensures (q .0) (q .1) (q .2))
 
 slice-aggregate-plan-held : tie.Need-slice-aggregate-plan-held
 slice-aggregate-plan-held c =
     let x = c .before .before in
-    let q = x .before .before .before .before .before .before .before .before .before .before .pre .0 in
-    let H = x .load .ensures (q .0) (q .1) (q .2) in
-    calls-counted H
+    let known = x .before .before .before .before .before in
+    let s = known .before .before .before .before .before in
+    let q = is-accepted (now (s .args .bytes)) (heldCounts (s .args .found)) (s .pre .0) in
+    calls-counted (x .load .ensures (q .0) (q .1) (q .2))
 
 array-share-prefix-distances : tie.Need-array-share-prefix-distances
 array-share-prefix-distances c =
     let x = c .before .before in
-    let q = x .before .before .before .before .before .before .before .before .before .before .pre .0 in
-    let H = x .load .ensures (q .0) (q .1) (q .2) in
-    far-inside H
+    let known = x .before .before .before .before .before in
+    let s = known .before .before .before .before .before in
+    let q = is-accepted (now (s .args .bytes)) (heldCounts (s .args .found)) (s .pre .0) in
+    far-inside (x .load .ensures (q .0) (q .1) (q .2))
 
 slice-aggregate-plan-held-2 : tie.Need-slice-aggregate-plan-held-2
 slice-aggregate-plan-held-2 c =
     let x = c .before .before .before in
-    let q = x .before .before .before .before .before .before .before .before .before .before .pre .0 in
-    let H = x .load .ensures (q .0) (q .1) (q .2) in
-    far-counted H
+    let known = x .before .before .before .before .before in
+    let s = known .before .before .before .before .before in
+    let q = is-accepted (now (s .args .bytes)) (heldCounts (s .args .found)) (s .pre .0) in
+    far-counted (x .load .ensures (q .0) (q .1) (q .2))
 
 array-share-prefix-times : tie.Need-array-share-prefix-times
 array-share-prefix-times c =
     let x = c .before .before .before in
-    let q = x .before .before .before .before .before .before .before .before .before .before .pre .0 in
-    let H = x .load .ensures (q .0) (q .1) (q .2) in
-    long-inside H
+    let known = x .before .before .before .before .before in
+    let s = known .before .before .before .before .before in
+    let q = is-accepted (now (s .args .bytes)) (heldCounts (s .args .found)) (s .pre .0) in
+    long-inside (x .load .ensures (q .0) (q .1) (q .2))
 
 slice-aggregate-plan-held-3 : tie.Need-slice-aggregate-plan-held-3
 slice-aggregate-plan-held-3 c =
     let x = c .before .before .before .before in
-    let q = x .before .before .before .before .before .before .before .before .before .before .pre .0 in
-    let H = x .load .ensures (q .0) (q .1) (q .2) in
-    long-counted H
+    let known = x .before .before .before .before .before in
+    let s = known .before .before .before .before .before in
+    let q = is-accepted (now (s .args .bytes)) (heldCounts (s .args .found)) (s .pre .0) in
+    long-counted (x .load .ensures (q .0) (q .1) (q .2))
 
 plan-held-requires : tie.Need-plan-held-requires
 plan-held-requires c κs =
-    let x = c .before .before .before .before .before .before .before .before .before in
-    let q = x .before .before .before .before .before .before .before .before .before .before .pre .0 in
-    let H = x .load .ensures (q .0) (q .1) (q .2) in
-    (held H, x .before .before .before .before .before .before .before .before .before .before .pre .1)
+    let shared = c .before .before .before .before .before in
+    let x = shared .before .before .before .before in
+    let known = x .before .before .before .before .before in
+    let s = known .before .before .before .before .before in
+    let q = is-accepted (now (s .args .bytes)) (heldCounts (s .args .found)) (s .pre .0) in
+    (held (x .load .ensures (q .0) (q .1) (q .2)), s .pre .1)
 
 same-length : tie.Need-same-length
 same-length c = search needs
@@ -74,11 +85,17 @@ same-length-5 : tie.Need-same-length-5
 same-length-5 c = search needs
 
 returns : tie.Need-returns
-returns c =
-    let l = c .before .before .before .before .before .before .before .before .before .before .before .before .before .before .before .before .before .before .before .before in
-    let a = l .before .before .before .before .before .before .before .before .before .before .args in
-    let y = c .before .before .before .before .before .before .before .before .before .before .plan-held in
-    λ s tour e. let H = l .load .ensures s tour e in of-tour s {served₀ = now (a .served)} {ends₀ = now (a .run-ends)} {places₀ = now (a .break-places)} {dropped₀ = now (a .dropped)} {starts₀ = now (a .break-starts)} (calls-are H) (y .ensures s (H .in-memory))
+returns c s tour e =
+    let left = c .before .before .before .before .before in
+    let y = left .before .before .before .before .before in
+    let shared = y .before .before .before .before .before in
+    let l = shared .before .before .before .before .before in
+    let known = l .before .before .before .before .before in
+    let start = known .before .before .before .before .before in
+    let a = start .args in
+    let old = planLists (now (a .served)) (now (a .run-ends)) (now (a .break-places)) (now (a .break-starts)) (now (a .dropped)) in
+    let H = l .load .ensures s tour e in
+    of-tour s {old = old} (calls-are H) (y .plan-held .ensures s (H .in-memory))
 
 pub plan-sheet-spec : {M : Type 1} → statement M
 plan-sheet-spec =

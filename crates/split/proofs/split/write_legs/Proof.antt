@@ -47,7 +47,11 @@ loop-less : tie.Need-loop-less Inv-loop μ-loop
 loop-less c = search needs
 
 loop-again : tie.Need-loop-again Inv-loop μ-loop
-loop-again c = one-laid _ _ _ _ _ _ _ _ (c .before .before .before .loop-test .taken) (c .before .before .before .before .before .before .before .pre .0) (c .before .get .ensures) (c .get2 .ensures) (c .before .before .before .before .loop .inv)
+loop-again c =
+    let t = c .before .before .before in
+    let l = t .before in
+    let s = l .before .before .before in
+    one-laid _ _ _ _ _ _ _ _ (t .loop-test .taken) (s .pre .0) (c .before .get .ensures) (c .get2 .ensures) (l .loop .inv)
 
 returns : tie.Need-returns Inv-loop μ-loop
 returns c =

@@ -10,7 +10,8 @@ feasible-from-requires c κs = search needs
 
 returns : tie.Need-returns
 returns c =
-    let asked : c .before .before .before .before .before .before .args .search .constrained ≡ true = c .before .before .if1 .taken in
+    let tested = c .before .before in
+    let asked : tested .before .before .before .before .args .search .constrained ≡ true = tested .if1 .taken in
     rw asked (c .feasible-from .ensures)
 
 returns-2 : tie.Need-returns-2

@@ -1,4 +1,5 @@
--- `two_opt::pass` meets its contract. The loop's invariant: the first calls from i on, tried from here, end as the pass does, and `prefix` is where the calls before i lead. Assumes nothing.
+-- `two_opt::pass` meets its contract. The loop's invariant: the first calls from i on, tried from here, end as the pass does, and `prefix` is where the calls
+-- before i lead. Assumes nothing.
 use Prim.Native.Nat.{ℕ, _-_, _≤_}
 use native.Mathlib.Nat.{sub-zero}
 use native.Mathlib.Omega.{arith}
@@ -6,11 +7,11 @@ use mathlib.Core.Path.{_≡_, refl, sym, ap, _∙_}
 use lib.ListN.{length, take, length-take}
 use denote.Ref.{now}
 use Rattle.basics.specs.Lists.{count}
-use Rattle.evaluation.specs.Records.{limitsOf, lent}
+use Rattle.evaluation.specs.Records.{Tables, limitsOf, lent}
 use Rattle.evaluation.proofs.Reading.{read-record}
-use Rattle.local_search.specs.Search.{searchOf}
-use Rattle.local_search.specs.Prefix.{prefixOf, Leads}
-use Rattle.local_search.proofs.Leading.{leads-start, leads-next}
+use Rattle.improve_base.specs.Search.{searchOf}
+use Rattle.improve_base.specs.Prefix.{prefixOf, Leads}
+use Rattle.improve_base.proofs.Leading.{leads-start, leads-next}
 use Rattle.two_opt.specs.TwoOpt.{state, triedAllF, passFromF, passF}
 use Rattle.two_opt.proofs.Passing.{first-more, first-done}
 use borrow.Author.Needs.{needs}
@@ -28,15 +29,32 @@ Inv-loop current₀ distances times size search customers improved₀ prefix₀ 
 abbrev μ-loop : tie.MeasureT-loop
 μ-loop current₀ distances times size search customers improved₀ prefix₀ i₀ current improved prefix i = length current - i
 
+-- ---- the places on the way: from the beginning, from the loop, and from the last calls tried
+
+abbrev entry : tie.After-set-out Inv-loop μ-loop → tie.Start Inv-loop μ-loop
+entry c = c .before .before .before .before .before
+
+abbrev start : tie.At-loop Inv-loop μ-loop → tie.Start Inv-loop μ-loop
+start c = entry (c .before)
+
+abbrev loop : tie.After-try-all Inv-loop μ-loop → tie.At-loop Inv-loop μ-loop
+loop c = c .before .before .before
+
+abbrev tables : tie.Start Inv-loop μ-loop → Tables
+tables s = let a = s .args in lent (a .t2) (now (a .distances)) (now (a .times)) (a .size)
+
 set-out-requires : tie.Need-set-out-requires Inv-loop μ-loop
 set-out-requires c κs = search needs
 
 loop-holds : tie.Need-loop-holds Inv-loop μ-loop
 unfolding passF
 loop-holds c =
-    let a = c .before .before .before .before .before .args in
-    let t = lent (a .t2) (now (a .distances)) (now (a .times)) (a .size) in
-    (refl, omega arith, rw (sub-zero (length (now (a .current)) - 1)), rw (c .set-out .ensures) (leads-start t (limitsOf (a .search .limits))))
+    let s = entry c in (
+      refl,
+      omega arith,
+      rw (sub-zero (length (now (s .args .current)) - 1)),
+      rw (c .set-out .ensures) (leads-start (tables s) (limitsOf (s .args .search .limits))),
+    )
 
 add-loop : tie.Need-add-loop Inv-loop μ-loop
 add-loop c = search needs
@@ -63,7 +81,8 @@ array-copy-out-go-on c = search needs
 
 go-on-requires : tie.Need-go-on-requires Inv-loop μ-loop
 go-on-requires c κs =
-    let l = c .before .before .before .before .before .before .before .before .loop in
+    let tried = c .before .before .before .before .before in
+    let l = loop tried .loop in
     omega (arith, l .inv .3 .index, length-take (l .i) (l .current))
 
 add-i : tie.Need-add-i Inv-loop μ-loop
@@ -74,27 +93,31 @@ loop-less c = search needs
 
 loop-again : tie.Need-loop-again Inv-loop μ-loop
 loop-again c =
-    let a = c .before .before .before .before .before .before .before .before .before .before .before .before .before .before .before .args in
-    let t = lent (a .t2) (now (a .distances)) (now (a .times)) (a .size) in
-    let l = c .before .before .before .before .before .before .before .before .before .loop in
-    let tried = c .before .before .before .before .before .before .try-all .ensures .0 ∙ ap (λ (n : ℕ). triedAllF t (searchOf (a .search)) n (l .i) (state (l .current) (l .improved))) (l .inv .0) in
-    let index = c .before .before .record-index .ensures in
-    let record-is = read-record (a .t2) (now (a .distances)) (now (a .times)) (a .size) _ _ _ (c .before .before .before .before .before .before .before .before .before .before .before .before .before .before .before .good .1 .0 .1 .0 .1) (index .0) (index .1) in (
-      c .before .before .before .before .before .before .try-all .kept .0 ∙ l .inv .0,
-      omega arith,
-      sym (first-more t (searchOf (a .search)) (length (now (a .current))) (l .i) (state (l .current) (l .improved)) (omega arith) _ tried) ∙ l .inv .2,
-      leads-next t (limitsOf (a .search .limits)) (l .i) (l .current) _ (prefixOf (l .prefix)) _ (omega (arith, c .before .before .before .before .before .before .try-all .kept .0)) (c .before .before .before .before .before .before .try-all .ensures .1) (l .inv .3) _ record-is (c .go-on .ensures),
-    )
+    let indexed = c .before .before in
+    let tried = indexed .before .before .before .before in
+    let at = loop tried in
+    let s = start at in
+    let a = s .args in
+    let t = tables s in
+    let l = at .loop in
+    let long = tried .try-all .kept .0 in
+    let all = tried .try-all .ensures .0 ∙ ap (λ (n : ℕ). triedAllF t (searchOf (a .search)) n (l .i) (state (l .current) (l .improved))) (l .inv .0) in
+    let index = indexed .record-index .ensures in
+    let its-record = read-record (a .t2) (now (a .distances)) (now (a .times)) (a .size) _ _ _ (s .good .1 .0 .1 .0 .1) (index .0) (index .1) in
+    let next = first-more t (searchOf (a .search)) (length (now (a .current))) (l .i) (state (l .current) (l .improved)) (omega arith) _ all in
+    let leads =
+    leads-next t (limitsOf (a .search .limits)) (l .i) (l .current) _ (prefixOf (l .prefix)) _ (omega (arith, long)) (tried .try-all .ensures .1) (l .inv .3)
+    _ its-record (c .go-on .ensures) in
+    (long ∙ l .inv .0, omega arith, sym next ∙ l .inv .2, leads)
 
 same-length : tie.Need-same-length Inv-loop μ-loop
 same-length c = c .before .loop .inv .0
 
 returns : tie.Need-returns Inv-loop μ-loop
 returns c =
-    let a = c .before .before .before .before .before .before .before .args in
-    let t = lent (a .t2) (now (a .distances)) (now (a .times)) (a .size) in
+    let s = start (c .before) in
     let l = c .before .loop in
-    sym (first-done t (searchOf (a .search)) (length (now (a .current))) (l .i) _ (omega arith)) ∙ l .inv .2
+    sym (first-done (tables s) (searchOf (s .args .search)) (length (now (s .args .current))) (l .i) _ (omega arith)) ∙ l .inv .2
 
 pub pass-spec : {M : Type 1} → statement M
 pass-spec =

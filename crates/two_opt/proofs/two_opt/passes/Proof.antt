@@ -2,9 +2,9 @@
 use mathlib.Core.Path.{_≡_, refl, sym, ap, _∙_}
 use lib.ListN.{length}
 use denote.Ref.{now}
-use Rattle.basics.specs.Tests.{not-true, not-false}
-use Rattle.evaluation.specs.Records.{lent}
-use Rattle.local_search.specs.Search.{searchOf}
+use Rattle.basics.proofs.TestLaws.{not-true, not-false}
+use Rattle.evaluation.specs.Records.{Tables, lent}
+use Rattle.improve_base.specs.Search.{searchOf}
 use Rattle.two_opt.specs.TwoOpt.{state, passesF, improvedF}
 use Rattle.two_opt.proofs.Passing.{pass-more, pass-last, no-pass}
 use borrow.Author.Needs.{needs}
@@ -19,6 +19,17 @@ Inv-loop current₀ customers distances times size search left₀ current left =
 abbrev μ-loop : tie.MeasureT-loop
 μ-loop current₀ customers distances times size search left₀ current left = left
 
+-- ---- the places on the way: from the loop, and from a pass
+
+abbrev start : tie.At-loop Inv-loop μ-loop → tie.Start Inv-loop μ-loop
+start c = c .before .before .before .before
+
+abbrev loop : tie.After-pass Inv-loop μ-loop → tie.At-loop Inv-loop μ-loop
+loop c = c .before .before .before
+
+abbrev tables : tie.Start Inv-loop μ-loop → Tables
+tables s = let a = s .args in lent (a .customers) (now (a .distances)) (now (a .times)) (a .size)
+
 loop-holds : tie.Need-loop-holds Inv-loop μ-loop
 unfolding improvedF
 loop-holds c = (refl, refl)
@@ -27,15 +38,15 @@ pass-requires : tie.Need-pass-requires Inv-loop μ-loop
 pass-requires c κs = search needs
 
 same-length : tie.Need-same-length Inv-loop μ-loop
-same-length c = c .before .before .before .pass .kept .0 ∙ c .before .before .before .before .before .before .loop .inv .0
+same-length c = let passed = c .before .before .before in passed .pass .kept .0 ∙ loop passed .loop .inv .0
 
 returns : tie.Need-returns Inv-loop μ-loop
 returns c =
-    let a = c .before .before .before .before .before .before .before .before .before .before .args in
-    let t = lent (a .customers) (now (a .distances)) (now (a .times)) (a .size) in
-    let l = c .before .before .before .before .before .before .loop in
-    let last = ap (state _) (sym (not-true _ (c .if1 .taken))) ∙ c .before .before .before .pass .ensures in
-    sym (pass-last t (searchOf (a .search)) (l .current) _ (l .left) (c .before .before .before .before .before .loop-test .taken) last) ∙ l .inv .1
+    let passed = c .before .before .before in
+    let s = start (loop passed) in
+    let l = loop passed .loop in
+    let last = ap (state _) (sym (not-true _ (c .if1 .taken))) ∙ passed .pass .ensures in
+    sym (pass-last (tables s) (searchOf (s .args .search)) (l .current) _ (l .left) (passed .before .before .loop-test .taken) last) ∙ l .inv .1
 
 sub-left : tie.Need-sub-left Inv-loop μ-loop
 sub-left c = search needs
@@ -45,12 +56,12 @@ loop-less c = search needs
 
 loop-again : tie.Need-loop-again Inv-loop μ-loop
 loop-again c =
-    let a = c .before .before .before .before .before .before .before .before .before .before .args in
-    let t = lent (a .customers) (now (a .distances)) (now (a .times)) (a .size) in
-    let l = c .before .before .before .before .before .before .loop in
-    let more = ap (state _) (sym (not-false _ (c .if1 .left))) ∙ c .before .before .before .pass .ensures in (
-      c .before .before .before .pass .kept .0 ∙ l .inv .0,
-      sym (pass-more t (searchOf (a .search)) (l .current) _ (l .left) (c .before .before .before .before .before .loop-test .taken) more) ∙ l .inv .1,
+    let passed = c .before .before .before in
+    let s = start (loop passed) in
+    let l = loop passed .loop in
+    let more = ap (state _) (sym (not-false _ (c .if1 .left))) ∙ passed .pass .ensures in (
+      passed .pass .kept .0 ∙ l .inv .0,
+      sym (pass-more (tables s) (searchOf (s .args .search)) (l .current) _ (l .left) (passed .before .before .loop-test .taken) more) ∙ l .inv .1,
     )
 
 same-length-2 : tie.Need-same-length-2 Inv-loop μ-loop
@@ -58,10 +69,9 @@ same-length-2 c = c .before .loop .inv .0
 
 returns-2 : tie.Need-returns-2 Inv-loop μ-loop
 returns-2 c =
-    let a = c .before .before .before .before .before .args in
-    let t = lent (a .customers) (now (a .distances)) (now (a .times)) (a .size) in
+    let s = start (c .before) in
     let l = c .before .loop in
-    sym (no-pass t (searchOf (a .search)) (l .current) (l .left) (c .loop-test .left)) ∙ l .inv .1
+    sym (no-pass (tables s) (searchOf (s .args .search)) (l .current) (l .left) (c .loop-test .left)) ∙ l .inv .1
 
 pub passes-spec : {M : Type 1} → statement M
 passes-spec =

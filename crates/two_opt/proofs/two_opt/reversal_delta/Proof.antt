@@ -4,7 +4,7 @@ use mathlib.Core.Path.{_≡_, refl, sym, ap₂, _∙_}
 use lib.ListN.{length, drop}
 use lib.Ieee.{Float}
 use denote.Ref.{now}
-use Rattle.whole.specs.Bits.{fl-zero}
+use Rattle.whole.proofs.Bits.{fl-zero}
 use Rattle.distance.specs.Lookup.{lookupF}
 use Rattle.two_opt.specs.Delta.{turnedLegsF, reversalDeltaF}
 use Rattle.two_opt.proofs.TurnedLegs.{turned-legs-turn, turned-legs-end}
@@ -18,6 +18,17 @@ Inv-loop segment distances size symmetric sum₀ prev₀ k₀ sum prev k =
 
 abbrev μ-loop : tie.MeasureT-loop
 μ-loop segment distances size symmetric sum₀ prev₀ k₀ sum prev k = length segment - k
+
+-- ---- the places on the way: from the test for symmetry, and from the loop
+
+abbrev start : tie.Else1 Inv-loop μ-loop → tie.Start Inv-loop μ-loop
+start c = c .before .before .before
+
+abbrev odd : tie.At-loop Inv-loop μ-loop → tie.Else1 Inv-loop μ-loop
+odd c = c .before .before
+
+abbrev leg : tie.Start Inv-loop μ-loop → ℕ → ℕ → Float
+leg s = lookupF (now (s .args .distances)) (s .args .size)
 
 returns : tie.Need-returns Inv-loop μ-loop
 unfolding reversalDeltaF
@@ -49,20 +60,24 @@ loop-less c = search needs
 
 loop-again : tie.Need-loop-again Inv-loop μ-loop
 loop-again c =
-    let l = c .before .before .before .before .loop in
-    let a = c .before .before .before .before .before .before .before .before .before .args in
-    sym (turned-legs-turn (lookupF (now (a .distances)) (a .size)) (now (a .segment)) (l .sum) (l .prev) (l .k) _ _ (c .before .before .before .loop-test .taken) (c .before .get .ensures) (c .get2 .ensures)) ∙ l .inv
+    let turn = c .before .before .before in
+    let s = start (odd (turn .before)) in
+    let l = turn .before .loop in
+    let back = c .before .get .ensures in
+    let there = c .get2 .ensures in
+    sym (turned-legs-turn (leg s) (now (s .args .segment)) (l .sum) (l .prev) (l .k) _ _ (turn .loop-test .taken) back there) ∙ l .inv
 
 returns-2 : tie.Need-returns-2 Inv-loop μ-loop
 unfolding reversalDeltaF
 returns-2 c =
-    let l = c .before .loop in
-    let a = c .before .before .before .before .before .before .args in
-    let leg = lookupF (now (a .distances)) (a .size) in
-    rw (c .before .before .before .if1 .left)
-    (sym (turned-legs-end leg (now (a .segment)) (l .sum) (l .prev) (l .k) (c .loop-test .left))
+    let at = c .before in
+    let l = at .loop in
+    let s = start (odd at) in
+    let segment = now (s .args .segment) in
+    rw (odd at .if1 .left)
+    (sym (turned-legs-end (leg s) segment (l .sum) (l .prev) (l .k) (c .loop-test .left))
     ∙ l .inv
-    ∙ ap₂ (λ (x : Float) (p : ℕ). turnedLegsF leg x p (drop 1 (now (a .segment)))) (sym fl-zero) (c .before .before .call-at .ensures))
+    ∙ ap₂ (λ (x : Float) (p : ℕ). turnedLegsF (leg s) x p (drop 1 segment)) (sym fl-zero) (at .before .call-at .ensures))
 
 pub reversal-delta-spec : {M : Type 1} → statement M
 reversal-delta-spec =

@@ -3,10 +3,10 @@ use native.Mathlib.Omega.{arith}
 use mathlib.Core.Path.{_∙_}
 use lib.ListN.{length-take}
 use denote.Ref.{now}
-use Rattle.basics.specs.Tests.{not-true, not-false}
+use Rattle.basics.proofs.TestLaws.{not-true, not-false}
 use Rattle.evaluation.specs.Records.{lent}
-use Rattle.local_search.specs.Search.{searchOf}
-use Rattle.local_search.specs.Prefix.{prefixOf}
+use Rattle.improve_base.specs.Search.{searchOf}
+use Rattle.improve_base.specs.Prefix.{prefixOf}
 use Rattle.two_opt.proofs.Trying.{made, undone, left-long, allowed-from}
 use borrow.Author.Needs.{needs}
 use Rattle.two_opt.proofs.two_opt.reverse_if_allowed.Statement.{statement}

@@ -1,17 +1,18 @@
--- `two_opt::try_all` meets its contract. The loop's invariant: the last calls from `next` on, tried from here, end as all of them do, the calls before i have stayed, and `into` is the leg into call i. Assumes nothing.
+-- `two_opt::try_all` meets its contract. The loop's invariant: the last calls from `next` on, tried from here, end as all of them do, the calls before i have
+-- stayed, and `into` is the leg into call i. Assumes nothing.
 use Prim.Native.Nat.{suc, _-_, _<_}
 use native.Mathlib.Numerals.{add-one}
 use native.Mathlib.Omega.{arith}
 use mathlib.Core.Path.{_≡_, refl, sym, _∙_}
 use lib.ListN.{length, take}
 use denote.Ref.{now}
-use Rattle.basics.specs.Tests.{both, not-true, not-false}
+use Rattle.basics.proofs.TestLaws.{both, not-true, not-false}
 use Rattle.basics.specs.Lists.{count}
 use Rattle.distance.specs.Lookup.{lookupF}
-use Rattle.evaluation.specs.Records.{limitsOf, lent}
-use Rattle.local_search.specs.Search.{searchOf}
-use Rattle.local_search.specs.Prefix.{prefixOf}
-use Rattle.local_search.proofs.Leading.{not-feasible}
+use Rattle.evaluation.specs.Records.{Tables, limitsOf, lent}
+use Rattle.improve_base.specs.Search.{searchOf}
+use Rattle.improve_base.specs.Prefix.{prefixOf}
+use Rattle.improve_base.proofs.Leading.{not-feasible}
 use Rattle.two_opt.specs.Delta.{intoF}
 use Rattle.two_opt.specs.TwoOpt.{state, triedEachF, triedAllF}
 use Rattle.two_opt.proofs.Trying.{kept}
@@ -32,20 +33,35 @@ Inv-loop current₀ customers distances times size search prefix i improved any�
 abbrev μ-loop : tie.MeasureT-loop
 μ-loop current₀ customers distances times size search prefix i improved any₀ next₀ into₀ current any next into = length current - next
 
+-- ---- the places on the way: from the first test, from the loop, and from the test of a gain
+
+abbrev entry : tie.After-no-run Inv-loop μ-loop → tie.Start Inv-loop μ-loop
+entry c = c .before .before .before .before
+
+abbrev start : tie.At-loop Inv-loop μ-loop → tie.Start Inv-loop μ-loop
+start c = entry (c .before .before .before .before)
+
+abbrev loop : tie.After-gains Inv-loop μ-loop → tie.At-loop Inv-loop μ-loop
+loop c = c .before .before .before
+
+abbrev tables : tie.Start Inv-loop μ-loop → Tables
+tables s = let a = s .args in lent (a .customers) (now (a .distances)) (now (a .times)) (a .size)
+
 no-run-requires : tie.Need-no-run-requires Inv-loop μ-loop
 no-run-requires c κs = search needs
 
 returns : tie.Need-returns Inv-loop μ-loop
 returns c =
-    let a = c .before .before .before .before .before .args in
-    let t = lent (a .customers) (now (a .distances)) (now (a .times)) (a .size) in
+    let s = entry (c .before) in
+    let a = s .args in
+    let t = tables s in
     let n = both _ _ (sym (c .before .no-run .ensures) ∙ c .if1 .taken) in
-    let run = now (a .current) in (
-      sym
-          (none-taken t (searchOf (a .search)) (a .i) run (a .improved) (n .0) (λ rest. not-feasible t (limitsOf (a .search .limits)) (take (a .i) run) rest (prefixOf (a .prefix)) (n .1) (c .before .before .before .before .before .pre .1))
-          (count (suc (a .i)) (length run - suc (a .i)))),
-      refl,
-    )
+    let run = now (a .current) in
+    let last = count (suc (a .i)) (length run - suc (a .i)) in
+    let none =
+    none-taken t (searchOf (a .search)) (a .i) run (a .improved) (n .0)
+    (λ rest. not-feasible t (limitsOf (a .search .limits)) (take (a .i) run) rest (prefixOf (a .prefix)) (n .1) (s .pre .1)) last in
+    (sym none, refl)
 
 add-next : tie.Need-add-next Inv-loop μ-loop
 add-next c = omega arith
@@ -54,7 +70,7 @@ leg-into-requires : tie.Need-leg-into-requires Inv-loop μ-loop
 leg-into-requires c κs = search needs
 
 loop-holds : tie.Need-loop-holds Inv-loop μ-loop
-loop-holds c = (refl, omega arith, rw (add-one (c .before .before .before .before .before .before .before .args .i)), refl, c .leg-into .ensures)
+loop-holds c = let s = entry (c .before .before .before) in (refl, omega arith, rw (add-one (s .args .i)), refl, c .leg-into .ensures)
 
 add-next-2 : tie.Need-add-next-2 Inv-loop μ-loop
 add-next-2 c = search needs
@@ -69,50 +85,53 @@ loop-less c = search needs
 
 loop-again : tie.Need-loop-again Inv-loop μ-loop
 loop-again c =
-    let a = c .before .before .before .before .before .before .before .before .before .before .before .before .args in
-    let t = lent (a .customers) (now (a .distances)) (now (a .times)) (a .size) in
-    let l = c .before .before .before .before .loop in
-    let no = sym (c .before .gains .ensures) ∙ not-true _ (c .if2 .taken) in (
-      l .inv .0,
-      omega arith,
-      sym (each-passed t (searchOf (a .search)) (a .i) (length (now (a .current))) (l .next) (state (l .current) (l .any)) (omega arith) no) ∙ l .inv .2,
-      l .inv .3,
-      l .inv .4,
-    )
+    let known = c .before in
+    let s = start (loop known) in
+    let a = s .args in
+    let l = loop known .loop in
+    let no = sym (known .gains .ensures) ∙ not-true _ (c .if2 .taken) in
+    let passed = each-passed (tables s) (searchOf (a .search)) (a .i) (length (now (a .current))) (l .next) (state (l .current) (l .any)) (omega arith) no in
+    (l .inv .0, omega arith, sym passed ∙ l .inv .2, l .inv .3, l .inv .4)
 
 reverse-if-allowed-requires : tie.Need-reverse-if-allowed-requires Inv-loop μ-loop
 reverse-if-allowed-requires c κs =
-    let l = c .before .before .before .before .before .loop in
-    ((l .inv .1, omega arith), rw (l .inv .3) (c .before .before .before .before .before .before .before .before .before .before .before .before .before .pre .1))
+    let at = loop (c .before .before) in
+    let l = at .loop in
+    ((l .inv .1, omega arith), rw (l .inv .3) (start at .pre .1))
 
 leg-into-requires-2 : tie.Need-leg-into-requires-2 Inv-loop μ-loop
-leg-into-requires-2 c κs = omega (arith, c .before .before .before .reverse-if-allowed .kept .0, c .before .before .before .before .before .before .before .before .before .loop .inv .0, c .before .before .before .before .before .before .before .before .before .loop .inv .1)
+leg-into-requires-2 c κs =
+    let made = c .before .before .before in
+    let l = loop (made .before .before .before) .loop in
+    omega (arith, made .reverse-if-allowed .kept .0, l .inv .0, l .inv .1)
 
 loop-less-2 : tie.Need-loop-less-2 Inv-loop μ-loop
 loop-less-2 c = search needs
 
 loop-again-2 : tie.Need-loop-again-2 Inv-loop μ-loop
 loop-again-2 c =
-    let a = c .before .before .before .before .before .before .before .before .before .before .before .before .before .before .before .before .before .before .args in
-    let t = lent (a .customers) (now (a .distances)) (now (a .times)) (a .size) in
-    let l = c .before .before .before .before .before .before .before .before .before .before .loop in
-    let yes = sym (c .before .before .before .before .before .before .before .gains .ensures) ∙ not-false _ (c .before .before .before .before .before .before .if2 .left) in (
-      c .before .before .before .before .reverse-if-allowed .kept .0 ∙ l .inv .0,
-      omega arith,
-      sym (each-made t (searchOf (a .search)) (a .i) (length (now (a .current))) (l .next) (state (l .current) (l .any)) (omega arith) yes _ (c .before .before .before .before .reverse-if-allowed .ensures)) ∙ l .inv .2,
-      kept t (searchOf (a .search)) (a .i) (l .next) (l .current) (l .any) (omega arith) _ _ (c .before .before .before .before .reverse-if-allowed .ensures) ∙ l .inv .3,
-      c .leg-into2 .ensures,
-    )
+    let made = c .before .before .before .before in
+    let tested = made .before .before in
+    let at = loop (tested .before) in
+    let s = start at in
+    let a = s .args in
+    let t = tables s in
+    let l = at .loop in
+    let y = made .reverse-if-allowed .ensures in
+    let yes = sym (tested .before .gains .ensures) ∙ not-false _ (tested .if2 .left) in
+    let next = each-made t (searchOf (a .search)) (a .i) (length (now (a .current))) (l .next) (state (l .current) (l .any)) (omega arith) yes _ y in
+    let stay = kept t (searchOf (a .search)) (a .i) (l .next) (l .current) (l .any) (omega arith) _ _ y in
+    (made .reverse-if-allowed .kept .0 ∙ l .inv .0, omega arith, sym next ∙ l .inv .2, stay ∙ l .inv .3, c .leg-into2 .ensures)
 
 same-length : tie.Need-same-length Inv-loop μ-loop
 same-length c = c .before .loop .inv .0
 
 returns-2 : tie.Need-returns-2 Inv-loop μ-loop
 returns-2 c =
-    let a = c .before .before .before .before .before .before .before .before .before .args in
-    let t = lent (a .customers) (now (a .distances)) (now (a .times)) (a .size) in
+    let s = start (c .before) in
+    let a = s .args in
     let l = c .before .loop in
-    (sym (each-done t (searchOf (a .search)) (a .i) (length (now (a .current))) (l .next) _ (omega arith)) ∙ l .inv .2, l .inv .3)
+    (sym (each-done (tables s) (searchOf (a .search)) (a .i) (length (now (a .current))) (l .next) _ (omega arith)) ∙ l .inv .2, l .inv .3)
 
 pub try-all-spec : {M : Type 1} → statement M
 try-all-spec =

@@ -53,14 +53,17 @@ reversal-delta-requires c κs = search needs
 returns : tie.Need-returns
 unfolding deltaF
 returns c =
-    let s = c .before .before .before .before .before .before .before .before .before .before .before in
+    let third = c .before .before in
+    let behind = third .before .before .before in
+    let ahead = behind .before in
+    let s = ahead .before .before .before .before .before in
     rw (
       c .reversal-delta .ensures,
-      c .before .before .get3 .ensures,
-      c .before .before .before .get2 .ensures,
-      c .before .before .before .before .get .ensures,
-      c .before .before .before .before .before .call-at .ensures,
-      c .before .before .before .before .before .before .place-before .ensures,
+      third .get3 .ensures,
+      third .before .get2 .ensures,
+      third .before .before .get .ensures,
+      behind .call-at .ensures,
+      ahead .place-before .ensures,
       s .pre .1,
       add-one (s .args .j),
     )

@@ -6,7 +6,7 @@ use lib.ListN.{length}
 use lib.Seq.{length-take-le}
 use denote.Ref.{now}
 use Rattle.definitions.specs.Room.{written}
-use Rattle.table.proofs.Writing.{given-back}
+use Rattle.cut_table.proofs.Writing.{given-back}
 use borrow.Author.Needs.{needs}
 use Rattle.two_opt.proofs.two_opt.two_opt_improve.Statement.{statement}
 use Rattle.two_opt.proofs.two_opt.two_opt_improve.Tie as tie
@@ -25,11 +25,14 @@ same-length c = search needs
 
 returns : tie.Need-returns
 returns c =
-    let s = c .before .before .before .before .before .before .before .before in
+    let improved = c .before .before in
+    let lent = improved .before .before in
+    let s = lent .before .before .before .before in
     let a = s .args in
-    let done = c .before .before .improve in
+    let done = improved .improve in
     let long = done .kept .1 .1 .1 .1 .1 .1 .0 ∙ length-take-le _ (now (a .current)) (s .pre) in
-    (done .ensures .0, given-back (done .last .1 .1 .1 .1 .1 .1 .0) (now (a .current)) (length (now (a .route))) long ∙ ap (λ (l : List ℕ). written l (now (a .current))) (done .ensures .1))
+    let back = given-back (done .last .1 .1 .1 .1 .1 .1 .0) (now (a .current)) (length (now (a .route))) long in
+    (done .ensures .0, back ∙ ap (λ (l : List ℕ). written l (now (a .current))) (done .ensures .1))
 
 pub two-opt-improve-spec : {M : Type 1} → statement M
 two-opt-improve-spec =

@@ -1,5 +1,5 @@
 -- `evaluator::blank_visits` meets its contract. Assumes nothing.
-use Rattle.whole.specs.Bits.{fl-zero}
+use Rattle.whole.proofs.Bits.{fl-zero}
 use Rattle.visits.proofs.evaluator.blank_visits.Statement.{statement}
 use Rattle.visits.proofs.evaluator.blank_visits.Tie as tie
 

@@ -1,7 +1,7 @@
 -- `rest::duration_of` meets its contract. Assumes nothing.
 use mathlib.Core.Path.{_≡_}
 use Rattle.models.specs.declared.vehicle.Rest.the-variants.{Unbroken}
-use Rattle.whole.specs.Bits.{fl-zero}
+use Rattle.whole.proofs.Bits.{fl-zero}
 use borrow.Author.Needs.{needs}
 use Rattle.visits.proofs.rest.duration_of.Statement.{statement}
 use Rattle.visits.proofs.rest.duration_of.Tie as tie

@@ -22,7 +22,8 @@ returns c = let e : c .before .before .before .before .before .args .rest ≡ Un
 returns-2 : tie.Need-returns-2
 unfolding placedF
 returns-2 c =
-    let e : c .before .before .before .before .before .before .before .args .rest ≡ Break (c .before .before .rest .given .0 .0) = search needs in
+    let known = c .before .before in
+    let e : known .before .before .before .before .before .args .rest ≡ Break (known .rest .given .0 .0) = search needs in
     rw e (c .schedule .ensures)
 
 pub placed-spec : {M : Type 1} → statement M

@@ -36,17 +36,21 @@ smaller-requires c κs = search needs
 returns-3 : tie.Need-returns-3
 unfolding earlierF
 returns-3 c =
-    let a = c .before .before .before .before .before .before .before .before .args in
-    let e : a .a ≡ At (c .before .before .before .before .before .before .a .given .0 .0) = search needs in
-    let f : a .b ≡ At (c .before .before .before .b .given .0 .0) = search needs in
+    let second = c .before .before .before in
+    let first = second .before .before .before in
+    let a = first .before .before .args in
+    let e : a .a ≡ At (first .a .given .0 .0) = search needs in
+    let f : a .b ≡ At (second .b .given .0 .0) = search needs in
     rw (e, f) (rw (sym (c .before .smaller .ensures) ∙ c .if1 .taken))
 
 returns-4 : tie.Need-returns-4
 unfolding earlierF
 returns-4 c =
-    let a = c .before .before .before .before .before .before .before .before .args in
-    let e : a .a ≡ At (c .before .before .before .before .before .before .a .given .0 .0) = search needs in
-    let f : a .b ≡ At (c .before .before .before .b .given .0 .0) = search needs in
+    let second = c .before .before .before in
+    let first = second .before .before .before in
+    let a = first .before .before .args in
+    let e : a .a ≡ At (first .a .given .0 .0) = search needs in
+    let f : a .b ≡ At (second .b .given .0 .0) = search needs in
     rw (e, f) (rw (sym (c .before .smaller .ensures) ∙ c .if1 .left))
 
 pub earlier-spec : {M : Type 1} → statement M

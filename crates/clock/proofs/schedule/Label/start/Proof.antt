@@ -1,5 +1,5 @@
 -- `Label::start` meets its contract. Assumes nothing.
-use Rattle.whole.specs.Bits.{fl-zero}
+use Rattle.whole.proofs.Bits.{fl-zero}
 use Rattle.clock.proofs.schedule.Label.start.Statement.{statement}
 use Rattle.clock.proofs.schedule.Label.start.Tie as tie
 

@@ -69,7 +69,8 @@ module _ {M : Type 1} (𝓤 : URA M) (H : Heap 𝓤) (A : Atoms 𝓤) (W : Given
 
   module _ (C : Calls 𝓤 H) (Λ : Loops 𝓤 H) (fm : FmC 𝓤 H (W .laws) C) (known : Triple 𝓤 (C #lookup) (Met 𝓤 H A lookup.ended (lookup.clauses 𝓤 H A mem run))) where
     walk : Are (typesAt (get.signature .params) κs) (Ises (typesAt (get.signature .params) κs)) a at
-        → ent 𝓤 (onEntry 𝓤 H A get.signature κs qs a at) (WpFn 𝓤 H C Λ code.function (mach d ∷ vint w64 (a .1 .0) ∷ vint w64 (a .1 .1 .0) ∷ []) (walkOf 𝓤 H A get.ended (all-left (get.signature .params) (get.ended .kept)) (get.clauses 𝓤 H A mem run) .post ((κs, qs, tt, a, at), tt)))
+        → ent 𝓤 (onEntry 𝓤 H A get.signature κs qs a at) (WpFn 𝓤 H C Λ code.function (mach d ∷ vint w64 (a .1 .0) ∷ vint w64 (a .1 .1 .0) ∷ [])
+        (walkOf 𝓤 H A get.ended (all-left (get.signature .params) (get.ended .kept)) (get.clauses 𝓤 H A mem run) .post ((κs, qs, tt, a, at), tt)))
     walk are =
         let wt = LL.lawful (D κs) (L κs) 𝓤 H A W .typed d _ (are .0) .0 in
         qed W (Toks ∷ ‵ (owns (typesAt (get.signature .params) κs) a at) ∷ []) ∵ enter ! C Λ code.function (mach d ∷ vint w64 (a .1 .0) ∷ vint w64 (a .1 .1 .0) ∷ []) _ $
@@ -82,12 +83,15 @@ module _ {M : Type 1} (𝓤 : URA M) (H : Heap 𝓤) (A : Atoms 𝓤) (W : Given
         -- [what the distances own; the numbers'; _5; …; the tokens]
         move ! (1 ∷ []) $ owned ! usize (Is usize) (uint-makes 𝓤 H A W w64) (d .size) _ (refl, wt .1 .1 .1 .0 .fits) $ fjoin ! $ move ! (1 ∷ 0 ∷ []) $ fjoin ! $
         move ! (13 ∷ []) $ use1 W (Tok ⊛ Tok′) (first-out 𝓤 A (κs .0) (κs .1 .0) (qs .0) (qs .1 .0)) $ split ! $ move ! (0 ∷ 2 ∷ []) $
-        calls-said ! fm lookup.ended (lookup.clauses 𝓤 H A mem run) known (κs .0, tt) (qs .0, tt) tt (d .distances, (d .size, a .1)) (slice-vals (d .distances), (vint w64 (d .size) ∷ [], at .1)) tt (asked-none 𝓤) (λ x _. x ≡ found) (λ x e. id⊢ 𝓤 _)
-        (and-then ! (load ! (from ! (stop !)) (look ! 4 refl)) (and-then ! (load ! (from ! (stop !)) (look ! 2 refl)) (and-then ! (load ! (from ! (stop !)) (look ! 8 refl)) (and-then ! (load ! (from ! (stop !)) (look ! 6 refl)) (no-more !))))) (λ u x ws e is.
+        calls-said ! fm lookup.ended (lookup.clauses 𝓤 H A mem run) known (κs .0, tt) (qs .0, tt) tt (d .distances, (d .size, a .1)) (slice-vals (d .distances), (vint w64 (d .size) ∷ [], at .1)) tt
+        (asked-none 𝓤) (λ x _. x ≡ found) (λ x e. id⊢ 𝓤 _)
+        (and-then ! (load ! (from ! (stop !)) (look ! 4 refl)) (and-then ! (load ! (from ! (stop !)) (look ! 2 refl))
+        (and-then ! (load ! (from ! (stop !)) (look ! 8 refl)) (and-then ! (load ! (from ! (stop !)) (look ! 6 refl)) (no-more !))))) (λ u x ws e is.
         -- [the result; the distances' token; what is said of the last values; the times' token; _5; …; _4; …; _3; …; _2; …; _1; …; _0; …]
         land ! (from ! (stop !)) (init ! 14 refl (float-lawful 𝓤 H A W binary64 .typed x _ is .0)) $
         returns ! (look ! 14 refl) $ forget ! 4 refl $ forget ! 6 refl $ forget ! 8 refl $ forget ! 10 refl $ forget ! 12 refl $ forget ! 14 refl $
-        move ! (14 ∷ 15 ∷ []) $ free1 ! $ move ! (12 ∷ 13 ∷ []) $ free1 ! $ move ! (10 ∷ 11 ∷ []) $ free1 ! $ move ! (8 ∷ 9 ∷ []) $ free1 ! $ move ! (6 ∷ 7 ∷ []) $ free1 ! $ move ! (4 ∷ 5 ∷ []) $ free1 ! $ free0 ! $
+        move ! (14 ∷ 15 ∷ []) $ free1 ! $ move ! (12 ∷ 13 ∷ []) $ free1 ! $ move ! (10 ∷ 11 ∷ []) $ free1 ! $ move ! (8 ∷ 9 ∷ []) $ free1 ! $ move ! (6 ∷ 7 ∷ []) $ free1 ! $ move ! (4 ∷ 5 ∷ []) $
+        free1 ! $ free0 ! $
         keep ! (1 ∷ 3 ∷ 0 ∷ []) $ use2 W Toks (first-back 𝓤 A (κs .0) (κs .1 .0) (qs .0) (qs .1 .0)) $ move ! (1 ∷ []) $
         by ! (leaves-plain 𝓤 H A W get.ended (get.clauses 𝓤 H A mem run) ((κs, qs, tt, a, at), tt) u x (tt, (tt, (tt, tt))) (tt, (tt, (tt, tt))) (tt, (tt, (tt, tt))) (asked 𝓤 e)))))))))
 
@@ -96,7 +100,8 @@ unfolding code.routine tablesOf
 get-spec 𝓤 H 𝓜 𝓖 𝓡 =
     let W = givenOf 𝓤 H 𝓜 𝓖 in
     let 𝓣 = tablesOf 𝓤 H 𝓜 (tables 𝓤 H 𝓜 𝓡 code.env) in
-    let met = cited 𝓤 H (Met 𝓤 H (𝓖 .A) lookup.ended (lookup.clauses 𝓤 H (𝓖 .A) (𝓜 .mem) (𝓡 .run))) 𝓜 𝓡 code.env #lookup lookup-def.routine code.calls-distance·matrix·lookup (lookup-thm.met 𝓤 H 𝓜 𝓖 𝓡) in
+    let met =
+    cited 𝓤 H (Met 𝓤 H (𝓖 .A) lookup.ended (lookup.clauses 𝓤 H (𝓖 .A) (𝓜 .mem) (𝓡 .run))) 𝓜 𝓡 code.env #lookup lookup-def.routine code.calls-distance·matrix·lookup (lookup-thm.met 𝓤 H 𝓜 𝓖 𝓡) in
     entered 𝓤 H (tripleOf 𝓤 H (𝓖 .A) get.signature (get.spec 𝓤 H (𝓖 .A) (𝓜 .mem) (𝓡 .run)))
     (tables 𝓤 H 𝓜 𝓡 code.env .C) (tables 𝓤 H 𝓜 𝓡 code.env .Λ) #get code.function (code.unfolded 𝓤 H 𝓜 𝓡)
     (all-meet 𝓤 H (𝓖 .A) W get.ended (get.clauses 𝓤 H (𝓖 .A) (𝓜 .mem) (𝓡 .run)) 𝓣 code.function

@@ -62,7 +62,8 @@ module _ {M : Type 1} (𝓤 : URA M) (H : Heap 𝓤) (A : Atoms 𝓤) (W : Given
 
   module _ (C : Calls 𝓤 H) (Λ : Loops 𝓤 H) (fm : FmC 𝓤 H (W .laws) C) (known : Triple 𝓤 (C #lookup-time) (Met 𝓤 H A lookup.ended (lookup.clauses 𝓤 H A mem run))) where
     walk : Are (typesAt (travel.signature .params) κs) (Ises (typesAt (travel.signature .params) κs)) a at
-        → ent 𝓤 (onEntry 𝓤 H A travel.signature κs qs a at) (WpFn 𝓤 H C Λ code.function (mach d ∷ vint w64 (a .1 .0) ∷ vint w64 (a .1 .1 .0) ∷ []) (walkOf 𝓤 H A travel.ended (all-left (travel.signature .params) (travel.ended .kept)) (travel.clauses 𝓤 H A mem run) .post ((κs, qs, tt, a, at), tt)))
+        → ent 𝓤 (onEntry 𝓤 H A travel.signature κs qs a at) (WpFn 𝓤 H C Λ code.function (mach d ∷ vint w64 (a .1 .0) ∷ vint w64 (a .1 .1 .0) ∷ [])
+        (walkOf 𝓤 H A travel.ended (all-left (travel.signature .params) (travel.ended .kept)) (travel.clauses 𝓤 H A mem run) .post ((κs, qs, tt, a, at), tt)))
     walk are =
         let wt = LL.lawful (D κs) (L κs) 𝓤 H A W .typed d _ (are .0) .0 in
         qed W (Toks ∷ ‵ (owns (typesAt (travel.signature .params) κs) a at) ∷ []) ∵ enter ! C Λ code.function (mach d ∷ vint w64 (a .1 .0) ∷ vint w64 (a .1 .1 .0) ∷ []) _ $
@@ -74,21 +75,29 @@ module _ {M : Type 1} (𝓤 : URA M) (H : Heap 𝓤) (A : Atoms 𝓤) (W : Given
         assigns ! (of-opd ! (load ! (from ! (fld ! refl (stop !))) (look-in ! 10 (sub ! 2 refl (whole !))))) (from ! (stop !)) (init ! 0 refl (tt, wt .1 .1 .1 .0)) $
         move ! (15 ∷ []) $ fsplit ! $ use1 W (‵ (Distances κs d) ⊛ ‵ (Times κs d)) (apart 𝓤 H A W κs d) $ split ! $
         -- [what the distances own; what the times own; the numbers'; _6; …; the tokens]
-        move ! (2 ∷ []) $ owned ! usize (Is usize) (uint-makes 𝓤 H A W w64) (d .size) _ (refl, wt .1 .1 .1 .0 .fits) $ fjoin ! $ move ! (2 ∷ 0 ∷ []) $ fjoin ! $ move ! (1 ∷ 0 ∷ []) $ fjoin ! $ move ! (15 ∷ 0 ∷ []) $
-        calls-said ! fm lookup.ended (lookup.clauses 𝓤 H A mem run) known κs qs tt (d .distances, (d .times, (d .size, a .1))) (slice-vals (d .distances), (slice-vals (d .times), (vint w64 (d .size) ∷ [], at .1))) tt (asked-none 𝓤) (λ x _. x ≡ found) (λ x e. id⊢ 𝓤 _)
-        (and-then ! (load ! (from ! (stop !)) (look ! 5 refl)) (and-then ! (load ! (from ! (stop !)) (look ! 3 refl)) (and-then ! (load ! (from ! (stop !)) (look ! 1 refl)) (and-then ! (load ! (from ! (stop !)) (look ! 9 refl)) (and-then ! (load ! (from ! (stop !)) (look ! 7 refl)) (no-more !)))))) (λ u x ws e is.
+        move ! (2 ∷ []) $ owned ! usize (Is usize) (uint-makes 𝓤 H A W w64) (d .size) _ (refl, wt .1 .1 .1 .0 .fits) $ fjoin ! $ move ! (2 ∷ 0 ∷ []) $ fjoin ! $ move ! (1 ∷ 0 ∷ []) $ fjoin ! $
+        move ! (15 ∷ 0 ∷ []) $
+        calls-said ! fm lookup.ended (lookup.clauses 𝓤 H A mem run) known κs qs tt (d .distances, (d .times, (d .size, a .1)))
+        (slice-vals (d .distances), (slice-vals (d .times), (vint w64 (d .size) ∷ [], at .1))) tt (asked-none 𝓤) (λ x _. x ≡ found) (λ x e. id⊢ 𝓤 _)
+        (and-then ! (load ! (from ! (stop !)) (look ! 5 refl)) (and-then ! (load ! (from ! (stop !)) (look ! 3 refl))
+        (and-then ! (load ! (from ! (stop !)) (look ! 1 refl)) (and-then ! (load ! (from ! (stop !)) (look ! 9 refl))
+        (and-then ! (load ! (from ! (stop !)) (look ! 7 refl)) (no-more !)))))) (λ u x ws e is.
         -- [the result; the tokens; what is said of the last values; _6; …; _5; …; _4; …; _3; …; _2; …; _1; …; _0; …]
         land ! (from ! (stop !)) (init ! 15 refl (float-lawful 𝓤 H A W binary64 .typed x _ is .0)) $
         returns ! (look ! 15 refl) $ forget ! 3 refl $ forget ! 5 refl $ forget ! 7 refl $ forget ! 9 refl $ forget ! 11 refl $ forget ! 13 refl $ forget ! 15 refl $
-        move ! (15 ∷ 16 ∷ []) $ free1 ! $ move ! (13 ∷ 14 ∷ []) $ free1 ! $ move ! (11 ∷ 12 ∷ []) $ free1 ! $ move ! (9 ∷ 10 ∷ []) $ free1 ! $ move ! (7 ∷ 8 ∷ []) $ free1 ! $ move ! (5 ∷ 6 ∷ []) $ free1 ! $ move ! (3 ∷ 4 ∷ []) $ free1 ! $ free0 ! $
-        keep ! (0 ∷ 1 ∷ []) $ by ! (leaves-plain 𝓤 H A W travel.ended (travel.clauses 𝓤 H A mem run) ((κs, qs, tt, a, at), tt) u x (tt, (tt, (tt, tt))) (tt, (tt, (tt, tt))) (tt, (tt, (tt, tt))) (asked 𝓤 e))))))))))
+        move ! (15 ∷ 16 ∷ []) $ free1 ! $ move ! (13 ∷ 14 ∷ []) $ free1 ! $ move ! (11 ∷ 12 ∷ []) $ free1 ! $ move ! (9 ∷ 10 ∷ []) $ free1 ! $ move ! (7 ∷ 8 ∷ []) $ free1 ! $ move ! (5 ∷ 6 ∷ []) $
+        free1 ! $ move ! (3 ∷ 4 ∷ []) $ free1 ! $ free0 ! $
+        keep ! (0 ∷ 1 ∷ []) $ by ! (leaves-plain 𝓤 H A W travel.ended (travel.clauses 𝓤 H A mem run) ((κs, qs, tt, a, at), tt) u x (tt, (tt, (tt, tt))) (tt, (tt, (tt, tt))) (tt, (tt, (tt, tt)))
+        (asked 𝓤 e))))))))))
 
 pub travel-time-spec : {M : Type 1} → stated.statement M
 unfolding code.routine tablesOf
 travel-time-spec 𝓤 H 𝓜 𝓖 𝓡 =
     let W = givenOf 𝓤 H 𝓜 𝓖 in
     let 𝓣 = tablesOf 𝓤 H 𝓜 (tables 𝓤 H 𝓜 𝓡 code.env) in
-    let met = cited 𝓤 H (Met 𝓤 H (𝓖 .A) lookup.ended (lookup.clauses 𝓤 H (𝓖 .A) (𝓜 .mem) (𝓡 .run))) 𝓜 𝓡 code.env #lookup-time lookup-def.routine code.calls-distance·matrix·lookup-time (lookup-thm.met 𝓤 H 𝓜 𝓖 𝓡) in
+    let met =
+    cited 𝓤 H (Met 𝓤 H (𝓖 .A) lookup.ended (lookup.clauses 𝓤 H (𝓖 .A) (𝓜 .mem) (𝓡 .run))) 𝓜 𝓡 code.env #lookup-time lookup-def.routine code.calls-distance·matrix·lookup-time
+    (lookup-thm.met 𝓤 H 𝓜 𝓖 𝓡) in
     entered 𝓤 H (tripleOf 𝓤 H (𝓖 .A) travel.signature (travel.spec 𝓤 H (𝓖 .A) (𝓜 .mem) (𝓡 .run)))
     (tables 𝓤 H 𝓜 𝓡 code.env .C) (tables 𝓤 H 𝓜 𝓡 code.env .Λ) #travel-time code.function (code.unfolded 𝓤 H 𝓜 𝓡)
     (all-meet 𝓤 H (𝓖 .A) W travel.ended (travel.clauses 𝓤 H (𝓖 .A) (𝓜 .mem) (𝓡 .run)) 𝓣 code.function

@@ -1,6 +1,6 @@
 -- `Timed::start` meets its contract. Assumes nothing.
 use mathlib.Core.Path.{sym}
-use Rattle.whole.specs.Bits.{fl-zero}
+use Rattle.whole.proofs.Bits.{fl-zero}
 use borrow.Author.Needs.{needs}
 use Rattle.evaluation.proofs.schedule.Timed.start.Statement.{statement}
 use Rattle.evaluation.proofs.schedule.Timed.start.Tie as tie

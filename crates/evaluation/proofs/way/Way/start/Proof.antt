@@ -1,7 +1,7 @@
 -- `Way::start` meets its contract. Assumes nothing.
 use mathlib.Core.Path.{sym, ap₂}
 use lib.Ieee.{Float}
-use Rattle.whole.specs.Bits.{fl-zero}
+use Rattle.whole.proofs.Bits.{fl-zero}
 use Rattle.clock.specs.declared.schedule.Label.{Label}
 use borrow.Author.Needs.{needs}
 use Rattle.evaluation.proofs.way.Way.start.Statement.{statement}

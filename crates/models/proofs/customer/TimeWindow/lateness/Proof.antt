@@ -1,6 +1,6 @@
 -- `TimeWindow::lateness` meets its contract. Assumes nothing.
 use borrow.Author.Needs.{needs}
-use Rattle.whole.specs.Bits.{fl-zero}
+use Rattle.whole.proofs.Bits.{fl-zero}
 use Rattle.models.proofs.customer.TimeWindow.lateness.Statement.{statement}
 use Rattle.models.proofs.customer.TimeWindow.lateness.Tie as tie
 

@@ -1,5 +1,5 @@
 -- `TimeWindow::waiting_time` meets its contract. Assumes nothing.
-use Rattle.whole.specs.Bits.{fl-zero}
+use Rattle.whole.proofs.Bits.{fl-zero}
 use Rattle.models.proofs.customer.TimeWindow.waiting_time.Statement.{statement}
 use Rattle.models.proofs.customer.TimeWindow.waiting_time.Tie as tie
 

@@ -20,15 +20,17 @@ returns c = let e : c .before .before .args .self .start ≡ Unbroken = search n
 returns-2 : tie.Need-returns-2
 unfolding readyAtF
 returns-2 c =
-    let a = c .before .before .before .before .before .before .args in
-    let e : a .self .start ≡ At (c .before .before .before .before .start .given .0 .0) = search needs in
+    let known = c .before .before .before .before in
+    let a = known .before .before .args in
+    let e : a .self .start ≡ At (known .start .given .0 .0) = search needs in
     rw (e, eq-eqb _ _ (c .before .if1 .taken))
 
 returns-3 : tie.Need-returns-3
 unfolding readyAtF
 returns-3 c =
-    let a = c .before .before .before .before .before .args in
-    let e : a .self .start ≡ At (c .before .before .before .start .given .0 .0) = search needs in
+    let known = c .before .before .before in
+    let a = known .before .before .args in
+    let e : a .self .start ≡ At (known .start .given .0 .0) = search needs in
     rw (e, ne-eqb _ _ (c .if1 .left))
 
 pub ready-at-spec : {M : Type 1} → statement M

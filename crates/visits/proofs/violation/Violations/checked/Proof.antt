@@ -1,5 +1,6 @@
 -- `Violations::checked` meets its contract. Assumes nothing.
 use Rattle.visits.proofs.Checking.{one-more, break-room, all-checked}
+use Rattle.models.specs.Load.{spaceOf, loadOf}
 use Rattle.evaluation.specs.Records.{limitsOf}
 use mathlib.Core.Path.{ap}
 use mathlib.Core.Bool.{not}
@@ -23,7 +24,8 @@ pushed-requires-2 c κs =
     let told = placed .before in
     let S = told .before in
     let a = S .args in
-    (placed .pushed .ensures .long, omega (arith, break-room (a .self .count) _ (a .missing) _ (told .reported .ensures) (placed .pushed .ensures .count-is) (S .pre .1)))
+    let few = break-room (a .self .count) _ (a .missing) _ (told .reported .ensures) (placed .pushed .ensures .count-is) (S .pre .1) in
+    (placed .pushed .ensures .long, omega arith)
 
 exceeds-requires : tie.Need-exceeds-requires
 exceeds-requires c κs = search needs
@@ -38,7 +40,8 @@ pushed-requires-3 c κs =
     let told = placed .before in
     let S = told .before in
     let a = S .args in
-    (loaded .pushed2 .ensures .long, omega (arith, break-room (a .self .count) _ (a .missing) _ (told .reported .ensures) (placed .pushed .ensures .count-is) (S .pre .1), one-more _ _ _ _ (loaded .pushed2 .ensures)))
+    let few = break-room (a .self .count) _ (a .missing) _ (told .reported .ensures) (placed .pushed .ensures .count-is) (S .pre .1) in
+    (loaded .pushed2 .ensures .long, omega (arith, one-more _ _ _ _ (loaded .pushed2 .ensures)))
 
 exceeds-requires-2 : tie.Need-exceeds-requires-2
 exceeds-requires-2 c κs = search needs
@@ -54,7 +57,8 @@ pushed-requires-4 c κs =
     let told = placed .before in
     let S = told .before in
     let a = S .args in
-    (near .pushed3 .ensures .long, omega (arith, break-room (a .self .count) _ (a .missing) _ (told .reported .ensures) (placed .pushed .ensures .count-is) (S .pre .1), one-more _ _ _ _ (loaded .pushed2 .ensures), one-more _ _ _ _ (near .pushed3 .ensures)))
+    let few = break-room (a .self .count) _ (a .missing) _ (told .reported .ensures) (placed .pushed .ensures .count-is) (S .pre .1) in
+    (near .pushed3 .ensures .long, omega (arith, one-more _ _ _ _ (loaded .pushed2 .ensures), one-more _ _ _ _ (near .pushed3 .ensures)))
 
 returns : tie.Need-returns
 returns c =
@@ -67,8 +71,8 @@ returns c =
     let told = placed .before in
     let S = told .before in
     let a = S .args in
-    all-checked (a .self) _ _ _ _ (a .missing) (a .load) (a .capacity) (limitsOf (a .limits)) (a .distance) (a .duration) (S .pre .0) (S .pre .1)
-    _ (told .reported .ensures) (placed .pushed .ensures) _ (ap not (load .fits2 .ensures)) (loaded .pushed2 .ensures)
+    all-checked (a .self) _ _ _ _ (a .missing) (loadOf (a .load)) (spaceOf (a .capacity)) (limitsOf (a .limits)) (a .distance) (a .duration) (S .pre .0) (S .pre .1)
+    _ (told .reported .ensures) (placed .pushed .ensures) _ (ap not (load .fits2 .ensures .0)) (loaded .pushed2 .ensures)
     _ _ (far .before .exceeds .ensures) (far .limit-or-zero .ensures) (near .pushed3 .ensures)
     _ _ (late .before .exceeds2 .ensures) (late .limit-or-zero2 .ensures) (c .pushed4 .ensures)
 

@@ -7,7 +7,7 @@ use Rattle.visits.specs.Visiting.{listed}
 use mathlib.Core.List.{append-nil}
 use lib.ListN.{length-set}
 use Rattle.visits.proofs.Walking.{written-some}
-use Rattle.basics.specs.Tests.{not-true, not-false}
+use Rattle.basics.proofs.TestLaws.{not-true, not-false}
 use native.Mathlib.Omega.{arith}
 use borrow.Author.Needs.{needs}
 use Rattle.visits.proofs.violation.Violations.pushed.Statement.{statement}

@@ -1,0 +1,38 @@
+// The mark on an accepted sheet: its bytes are read into arrays, and the runs given are marked against the plan of its
+// tour.
+ghost use Rattle.sheet_loaded.specs.Held.{Found};
+ghost use Rattle.bytes_mark.specs.Mark.{givenRuns, SheetMarked};
+use call_cuts::marking::Marking;
+use sheet_loaded::load::load;
+use sheet_read::read::Contents;
+
+// The marker's answer for the runs given; `breaks` has a break place for each run, from 1, or 0 for none.
+pub fn mark_sheet(
+    bytes: &[u8],
+    found: Contents,
+    calls: &[usize],
+    ends: &[usize],
+    breaks: &[usize],
+) -> Marking
+    requires { ⌜ Found (now bytes) found ⌝ }
+    ensures { λ r.
+        let given = givenRuns (now (calls .entry)) (now (ends .entry)) (now (breaks .entry)) in
+        ⌜ SheetMarked (now (bytes .entry)) given r ⌝ }
+{
+    let mut distances = [0.0; 4096];
+    let mut times = [0.0; 4096];
+    let mut tour = [0usize; 128];
+    let l = load(bytes, found, &mut distances, &mut times, &mut tour);
+    let customers = l.customers;
+    call_cuts::marking::mark(
+        l.head,
+        customers,
+        l.head.places,
+        &distances[..l.distance_count],
+        &times[..l.time_count],
+        &tour[..l.calls],
+        calls,
+        ends,
+        breaks,
+    )
+}

@@ -1,0 +1,27 @@
+-- What the marker answers over what it is lent: the enum's case for each case of the complete answer of crates/definitions, each figure
+-- held in a float. Definitions only.
+use Prim.Native.Nat.{ℕ}
+use mathlib.Core.List.{List, []}
+use lib.Ieee.{Float}
+use Rattle.definitions.specs.Lent.{Lent}
+use Rattle.definitions.specs.Marker as Whole
+use Rattle.definitions.specs.Answers.{Answer, refused, gives, markOf}
+use Rattle.whole.specs.Value.{value}
+use Rattle.models.specs.declared.customer.Customer.{Customer}
+use Rattle.models.specs.declared.head.Head.{Head}
+use Rattle.refuse_order.specs.Lent.{sheetOf, lentOf}
+use Rattle.marker.specs.Image.{flVerdict}
+use Rattle.call_cuts.specs.declared.marking.Marking.{Marking}
+use Rattle.call_cuts.specs.declared.marking.Marking.the-variants.{Refused, Verdict}
+
+-- the sheet, the tour, and the runs given with their break places; nothing is written
+abbrev pub markLent : Head → List Customer → List Float → List Float → (tour calls ends places : List ℕ) → Lent Float
+markLent head customers distances times tour calls ends places = lentOf (sheetOf head customers distances times) tour calls ends places []
+
+abbrev pub markIn : Answer Whole.Verdict → Marking
+markIn (refused number) = Refused number
+markIn (gives verdict) = Verdict (flVerdict verdict)
+
+-- with whatever customers
+abbrev pub markFor : Head → List Float → List Float → (tour calls ends places : List ℕ) → List Customer → Marking
+markFor head distances times tour calls ends places cs = markIn (markOf value (markLent head cs distances times tour calls ends places))

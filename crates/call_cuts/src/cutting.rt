@@ -1,0 +1,111 @@
+// The cutting of a tour on an array of customers: refused by number with nothing written, or the counts
+// of the lists that are written.
+ghost use Rattle.call_cuts.specs.Cutting.{splitFor, splitTwFor, Cuts};
+use models::customer::Customer;
+use models::head::Head;
+use refuse_order::by_call::refuse_cutting;
+use split::split::SplitResult;
+
+// What is written is told by its counts.
+pub enum Cut {
+    Refused(u32),
+    Cut(SplitResult),
+}
+
+// By capacity alone.
+pub fn split(
+    head: Head,
+    all: [Customer; 64],
+    n: usize,
+    distances: &[f64],
+    times: &[f64],
+    tour: &[usize],
+    served: &mut [usize],
+    run_ends: &mut [usize],
+    dropped: &mut [usize],
+) -> Cut
+    ensures { λ r.
+        let old = now (served .entry) in
+        let ends = now («run_ends» .entry) in
+        let gone = now (dropped .entry) in
+        let calls = now (tour .entry) in
+        let answered = splitFor head (now (distances .entry)) (now (times .entry)) calls old ends gone in
+        ⌜ Cuts answered n all old ends gone r (now (served .exit)) (now («run_ends» .exit)) (now (dropped .exit)) ⌝ }
+{
+    let number = refuse_cutting(
+        head,
+        all,
+        n,
+        distances,
+        times,
+        tour,
+        served.len(),
+        run_ends.len(),
+        dropped.len(),
+    );
+    if number != 0 {
+        return Cut::Refused(number);
+    }
+    let counts = split::split::split(
+        tour,
+        all,
+        distances,
+        head.places,
+        head.capacity,
+        head.fixed_cost,
+        &mut *served,
+        &mut *run_ends,
+        &mut *dropped,
+    );
+    Cut::Cut(counts)
+}
+
+// By capacity, windows, limits and break.
+pub fn split_tw(
+    head: Head,
+    all: [Customer; 64],
+    n: usize,
+    distances: &[f64],
+    times: &[f64],
+    tour: &[usize],
+    served: &mut [usize],
+    run_ends: &mut [usize],
+    dropped: &mut [usize],
+) -> Cut
+    ensures { λ r.
+        let old = now (served .entry) in
+        let ends = now («run_ends» .entry) in
+        let gone = now (dropped .entry) in
+        let calls = now (tour .entry) in
+        let answered = splitTwFor head (now (distances .entry)) (now (times .entry)) calls old ends gone in
+        ⌜ Cuts answered n all old ends gone r (now (served .exit)) (now («run_ends» .exit)) (now (dropped .exit)) ⌝ }
+{
+    let number = refuse_cutting(
+        head,
+        all,
+        n,
+        distances,
+        times,
+        tour,
+        served.len(),
+        run_ends.len(),
+        dropped.len(),
+    );
+    if number != 0 {
+        return Cut::Refused(number);
+    }
+    let counts = split_tw::split_tw::split_tw(
+        tour,
+        all,
+        distances,
+        times,
+        head.places,
+        head.capacity,
+        head.fixed_cost,
+        head.limits,
+        &mut *served,
+        &mut *run_ends,
+        &mut *dropped,
+    );
+    Cut::Cut(counts)
+}

@@ -1,0 +1,41 @@
+-- `evaluating::effective_cost` meets its contract. Assumes nothing.
+use mathlib.Core.Path.{ap}
+use Rattle.definitions.specs.Evaluation.{effectiveCost}
+use Rattle.evaluation.specs.Records.{lent}
+use Rattle.evaluation.specs.Route.{costF}
+use Rattle.evaluation.proofs.RouteExact.{cost-exact}
+use Rattle.call_runs.specs.declared.evaluating.Cost.the-variants.{Answer}
+use Rattle.call_runs.specs.Evaluating.{costIn}
+use Rattle.call_runs.proofs.RunAnswers.{refused-run, accepted-run}
+use borrow.Author.Needs.{needs}
+use Rattle.call_runs.proofs.evaluating.effective_cost.Statement.{statement}
+use Rattle.call_runs.proofs.evaluating.effective_cost.Tie as tie
+
+refuse-evaluating-requires : tie.Need-refuse-evaluating-requires
+refuse-evaluating-requires c κs = search needs
+
+returns : tie.Need-returns
+returns c =
+    let asked = c .before in
+    let told = asked .refuse-evaluating in
+    let a = asked .before .before .before .before .args in
+    refused-run (a .head) (a .all) (a .n) (a .distances .now) (a .times .now) (a .run .now) (told .result) (told .ensures .0) (told .ensures .1)
+    costIn (λ s. effectiveCost s (a .run .now)) (c .if1 .taken)
+
+effective-cost-requires : tie.Need-effective-cost-requires
+effective-cost-requires c κs = search needs
+
+returns-2 : tie.Need-returns-2
+returns-2 c =
+    let passed = c .before in
+    let asked = passed .before in
+    let told = asked .refuse-evaluating in
+    let a = asked .before .before .before .before .args in
+    let t = lent (a .all) (a .distances .now) (a .times .now) (a .head .places) in
+    accepted-run (a .head) (a .all) (a .n) (a .distances .now) (a .times .now) (a .run .now) (told .result) (told .ensures .0) (told .ensures .1)
+    costIn (λ s. effectiveCost s (a .run .now)) (passed .if1 .left)
+    (Answer (c .effective-cost .result)) (λ L. Answer (costF t L (a .run .now))) (ap Answer (c .effective-cost .ensures))
+    (λ s W C I. ap Answer (cost-exact s W t I (a .run .now) C))
+
+pub effective-cost-spec : {M : Type 1} → statement M
+effective-cost-spec = tie.close (tie.spec refuse-evaluating-requires returns effective-cost-requires returns-2)

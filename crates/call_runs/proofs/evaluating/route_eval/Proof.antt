@@ -1,0 +1,59 @@
+-- `evaluating::route_eval` meets its contract. Assumes nothing.
+use mathlib.Core.Path.{_≡_}
+use Rattle.definitions.specs.Evaluation.{routeEval}
+use Rattle.evaluation.specs.declared.route.Evaluated.the-variants as Evaluateds
+use Rattle.call_runs.specs.declared.evaluating.Evaluation.the-variants.{NotAllowed, Allowed}
+use Rattle.call_runs.specs.Evaluating.{evaluationIn}
+use Rattle.call_runs.proofs.RunAnswers.{refused-run}
+use Rattle.call_runs.proofs.EvalCase.{not-allowed-in, allowed-in, evaluated-run}
+use borrow.Author.Needs.{needs}
+use Rattle.call_runs.proofs.evaluating.route_eval.Statement.{statement}
+use Rattle.call_runs.proofs.evaluating.route_eval.Tie as tie
+
+refuse-evaluating-requires : tie.Need-refuse-evaluating-requires
+refuse-evaluating-requires c κs = search needs
+
+returns : tie.Need-returns
+returns c =
+    let asked = c .before in
+    let told = asked .refuse-evaluating in
+    let a = asked .before .before .before .before .args in
+    refused-run (a .head) (a .all) (a .n) (a .distances .now) (a .times .now) (a .run .now) (told .result) (told .ensures .0) (told .ensures .1)
+    evaluationIn (λ s. routeEval s (a .run .now)) (c .if1 .taken)
+
+route-eval-requires : tie.Need-route-eval-requires
+route-eval-requires c κs = search needs
+
+enum-told : tie.Need-enum-told
+enum-told c = search needs
+
+enum-known-e : tie.Need-enum-known-e
+enum-known-e c = search needs
+
+returns-2 : tie.Need-returns-2
+returns-2 c =
+    let answered = c .before .before in
+    let passed = answered .before in
+    let asked = passed .before in
+    let told = asked .refuse-evaluating in
+    let a = asked .before .before .before .before .args in
+    let evaluated = answered .route-eval in
+    let e : evaluated .result ≡ Evaluateds.NotAllowed = c .enum-told .given .1 in
+    evaluated-run (a .head) (a .all) (a .n) (a .distances .now) (a .times .now) (a .run .now) (told .result) (told .ensures .0) (told .ensures .1)
+    (passed .if1 .left) (evaluated .result) (evaluated .ensures) NotAllowed (not-allowed-in (evaluated .result) e)
+
+returns-3 : tie.Need-returns-3
+returns-3 c =
+    let answered = c .before .before .before in
+    let passed = answered .before in
+    let asked = passed .before in
+    let told = asked .refuse-evaluating in
+    let a = asked .before .before .before .before .args in
+    let evaluated = answered .route-eval in
+    let x = c .before .e .given .0 .0 in
+    let e : evaluated .result ≡ Evaluateds.Allowed x = c .before .e .given .1 in
+    evaluated-run (a .head) (a .all) (a .n) (a .distances .now) (a .times .now) (a .run .now) (told .result) (told .ensures .0) (told .ensures .1)
+    (passed .if1 .left) (evaluated .result) (evaluated .ensures) (Allowed x) (allowed-in (evaluated .result) x e)
+
+pub route-eval-spec : {M : Type 1} → statement M
+route-eval-spec = tie.close (tie.spec refuse-evaluating-requires returns route-eval-requires enum-told enum-known-e returns-2 returns-3)

@@ -1,0 +1,94 @@
+// The evaluations of a run on an array of customers: refused by number, or the answer.
+ghost use Rattle.call_runs.specs.Evaluating.{feasibleAnswer, costAnswer, evalAnswer};
+ghost use Rattle.call_shared.specs.Answers.{Answers};
+use evaluation::route;
+use evaluation::route::Evaluated;
+use evaluation::route::RouteEval;
+use models::customer::Customer;
+use models::head::Head;
+use refuse_order::by_call::refuse_evaluating;
+
+pub enum Feasible {
+    Refused(u32),
+    Answer(bool),
+}
+
+// Infinite where the run is not allowed.
+pub enum Cost {
+    Refused(u32),
+    Answer(f64),
+}
+
+pub enum Evaluation {
+    Refused(u32),
+    NotAllowed,
+    Allowed(RouteEval),
+}
+
+// Whether a run serves each call in time, or late at a penalty, places its break and keeps the limits.
+pub fn route_feasible(
+    head: Head,
+    all: [Customer; 64],
+    n: usize,
+    distances: &[f64],
+    times: &[f64],
+    run: &[usize],
+) -> Feasible
+    ensures { λ r.
+        let d = now (distances .entry) in
+        let t = now (times .entry) in
+        ⌜ Answers (λ cs. feasibleAnswer head cs d t (now (run .entry))) n all r ⌝ }
+{
+    let number = refuse_evaluating(head, all, n, distances, times, run);
+    if number != 0 {
+        return Feasible::Refused(number);
+    }
+    let feasible = route::route_feasible(run, all, distances, times, head.places, head.limits);
+    Feasible::Answer(feasible)
+}
+
+// The distance and the lateness cost.
+pub fn effective_cost(
+    head: Head,
+    all: [Customer; 64],
+    n: usize,
+    distances: &[f64],
+    times: &[f64],
+    run: &[usize],
+) -> Cost
+    ensures { λ r.
+        let d = now (distances .entry) in
+        let t = now (times .entry) in
+        ⌜ Answers (λ cs. costAnswer head cs d t (now (run .entry))) n all r ⌝ }
+{
+    let number = refuse_evaluating(head, all, n, distances, times, run);
+    if number != 0 {
+        return Cost::Refused(number);
+    }
+    let cost = route::effective_cost(run, all, distances, times, head.places, head.limits);
+    Cost::Answer(cost)
+}
+
+// What a run comes to, with its break, if it is allowed.
+pub fn route_eval(
+    head: Head,
+    all: [Customer; 64],
+    n: usize,
+    distances: &[f64],
+    times: &[f64],
+    run: &[usize],
+) -> Evaluation
+    ensures { λ r.
+        let d = now (distances .entry) in
+        let t = now (times .entry) in
+        ⌜ Answers (λ cs. evalAnswer head cs d t (now (run .entry))) n all r ⌝ }
+{
+    let number = refuse_evaluating(head, all, n, distances, times, run);
+    if number != 0 {
+        return Evaluation::Refused(number);
+    }
+    match route::route_eval(run, all, distances, times, head.places, head.limits) {
+        Evaluated::NotAllowed => Evaluation::NotAllowed,
+        Evaluated::Allowed(e) => Evaluation::Allowed(e),
+    }
+}

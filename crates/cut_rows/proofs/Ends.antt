@@ -1,0 +1,83 @@
+-- Where a row ends, for every stretch that begins alike: the calls up to the one that ends it decide load, time and clock. Assumes nothing.
+use Prim.Native.Nat.{ℕ, suc, _+_, _<_, _≤_}
+use native.Mathlib.Nat.{le-refl}
+use native.Mathlib.Omega.{arith}
+use mathlib.Core.Path.{_≡_, sym, ap, _∙_}
+use mathlib.Core.Bool.{Bool, false, _&&_, and-false}
+use mathlib.Core.List.{List}
+use mathlib.Core.Option.{none, some}
+use lib.ListN.{length, getD, take}
+use lib.Ieee.{Float}
+use Rattle.cut_table.specs.Table.{Table}
+use Rattle.definitions.specs.Sheet.{BreakOf}
+use Rattle.definitions.specs.Load.{Load, plus, carried}
+use Rattle.clock.specs.Clock.{begunF, aliveF}
+use Rattle.evaluation.specs.Schedule.{clockFromF}
+use Rattle.cut_rows.specs.Stretch.{loadTo, fitsOf}
+use Rattle.cut_rows.specs.Tariff.{Tariff, legalOf, RowOf, Ended}
+use Rattle.cut_rows.specs.Runs.{Instance, tariff, timedOf, clockOf, endOf}
+use Rattle.cut_rows.proofs.Fitting.{none-over}
+use Rattle.cut_rows.proofs.Alike.{load-alike, timed-alike}
+use Rattle.cut_rows.proofs.Along.{Row, Along, load-next, stopped, at-end}
+use Rattle.cut_rows.proofs.Clocks.{not-ended, timed-shut, end-shut, end-dead}
+
+-- ---- the ends
+
+module _ (T : Tariff) (st : List ℕ) (r : ℕ) (b : r ≤ length st) where
+  -- no call is left
+  pub all-over : length st ≤ r → Ended T st r
+  all-over h = record { inside = b; barred = λ k. absurd (omega arith) }
+
+  -- a load that is too much
+  pub heavy-over : carried (loadTo (T .demand) st (suc r)) (T .capacity) ≡ false → Ended T st r
+  unfolding legalOf
+  heavy-over o =
+      record {
+        inside = b;
+        barred =
+            λ _ st' e m h.
+            let z : carried (loadTo (T .demand) st' (suc r)) (T .capacity) ≡ false = rw (load-alike (suc r) st' st e (T .demand) (suc r) (le-refl _)) o in
+            ap (λ (x : Bool). T .allowed st' m && x) (none-over (T .demand) (T .capacity) st' r z m h) ∙ and-false (T .allowed st' m);
+      }
+
+  -- no longer run is allowed
+  not-allowed : ((st' : List ℕ) → take (suc r) st' ≡ take (suc r) st → (m : ℕ) → r < m → T .allowed st' m ≡ false) → Ended T st r
+  unfolding legalOf
+  not-allowed z = record { inside = b; barred = λ _ st' e m h. ap (λ (x : Bool). x && fitsOf (T .demand) (T .capacity) st' m) (z st' e m h) }
+
+module _ (I : Instance) (st : List ℕ) (r : ℕ) (b : r ≤ length st) where
+  -- a window that is shut
+  pub shut-over : I .limits .rest ≡ none → timedOf (I .tables) st (suc r) ≡ none → Ended (tariff I) st r
+  shut-over unbroken e =
+      not-allowed (tariff I) st r b
+      (λ st' a m h.
+      not-ended I st' m
+      (ap (endOf (I .tables) st' m) unbroken
+      ∙ end-shut (I .tables) st' m (timed-shut (I .tables) st' (suc r) (timed-alike (suc r) st' st a (I .tables) (suc r) (le-refl _) ∙ e) m h)))
+
+  -- a clock with no label left
+  pub dead-over : (rest : BreakOf Float) → I .limits .rest ≡ some rest → aliveF (clockOf (I .tables) st rest (suc r)) ≡ false → Ended (tariff I) st r
+  unfolding clockOf
+  dead-over rest broken e =
+      not-allowed (tariff I) st r b
+      (λ st' a m h.
+      not-ended I st' m
+      (ap (endOf (I .tables) st' m) broken
+      ∙ end-dead (I .tables) st' rest (suc r) (ap (λ (l : List ℕ). aliveF (clockFromF (I .tables) (begunF rest) l)) a ∙ e) m h))
+
+-- ---- a row that ends after m calls
+
+module _ {T : Tariff} {R : Row} {new : Table} {load : Load} {gone : Float} {prev m : ℕ} (A : Along T R new load gone prev m) where
+  abbrev EndsHere : Type 0
+  EndsHere = RowOf T (R .st) (R .i) (R .old) new × Ended T (R .st) m
+
+  -- since no call is left
+  pub run-out : length (R .st) ≤ m → EndsHere
+  run-out h = (at-end A h, all-over T (R .st) m (A .within) h)
+
+  -- since the next call is too much
+  pub overloaded : m < length (R .st) → (d load' : Load) → d ≡ T .demand (getD (R .st) m 0) → load' ≡ plus load d
+      → carried load' (T .capacity) ≡ false → EndsHere
+  overloaded b d load' e p o =
+      let E = heavy-over T (R .st) m (A .within) (sym (ap (λ (l : Load). carried l (T .capacity)) (load-next A d load' e p)) ∙ o) in
+      (stopped A b E, E)

@@ -1,0 +1,28 @@
+-- A row over number lists: what its loop keeps, for whatever tables the lists are worked out from. Assumes nothing.
+use Prim.Native.Nat.{ℕ, _≤_}
+use mathlib.Core.Path.{_≡_, subst}
+use mathlib.Core.Option.{Option}
+use lib.ListN.{length}
+use lib.Ieee.{Float}
+use Rattle.definitions.specs.Load.{Load}
+use Rattle.models.specs.Load.{UpTo}
+use Rattle.definitions.specs.Sheet.{BreakOf}
+use Rattle.evaluation.specs.Records.{Tables}
+use Rattle.cut_stops.specs.Stops.{WorkedOut, LegsAre}
+use Rattle.cut_table.specs.Table.{Table}
+use Rattle.cut_rows.specs.declared.terms.Terms.{Terms}
+use Rattle.cut_rows.specs.Runs.{RowLists, overBy, Rowed}
+
+-- what the loop of row i keeps, where the next run is that up to call j and with it: what needs no tables, and the rest for whatever tables
+-- the lists are worked out from
+pub record Going (x : RowLists) (i : ℕ) (load : Load) (j : ℕ) (Keeps : Tables → Type 0) : Type 0 where
+  pub from : i ≤ j
+  pub within : j ≤ length (x .held)
+  pub light : UpTo 1 load
+  pub keeps : (t : Tables) → WorkedOut t (x .places) → LegsAre t (x .held) (x .legs) → Keeps t
+
+-- breaks that are the same have the same rows
+pub same-break : (o o' : Option (BreakOf Float)) → o ≡ o' → (terms : Terms) (x : RowLists) (i : ℕ) (old new : Table) (r : ℕ)
+    → Rowed (λ t. overBy t terms o) x i old new r → Rowed (λ t. overBy t terms o') x i old new r
+same-break o o' e terms x i old new r R =
+    subst (λ (b : Option (BreakOf Float)). Rowed (λ t. overBy t terms b) x i old new r) e R

@@ -1,0 +1,114 @@
+-- Row i without a break, call by call: beside what every row keeps, the time and the lateness cost after m calls. Assumes nothing.
+use Prim.Native.Nat.{ℕ, suc, _+_, _<_, _≤_}
+use native.Mathlib.Numerals.{add-one}
+use mathlib.Core.Path.{_≡_, refl, sym, ap, subst, _∙_}
+use mathlib.Core.Bool.{Bool, true, false}
+use mathlib.Core.List.{List}
+use mathlib.Core.Option.{none, some}
+use lib.ListN.{length, getD}
+use lib.Dec.{eqb}
+use lib.Ieee.{Float, binary64, add}
+use Rattle.models.specs.Limits.{allowF}
+use Rattle.whole.specs.Whole.{fl}
+use Rattle.cut_table.specs.Table.{Table, Offered}
+use Rattle.evaluation.specs.Tables.{placeBefore}
+use Rattle.definitions.specs.Load.{Load, plus, carried}
+use Rattle.cut_stops.specs.Stops.{StopF}
+use Rattle.cut_rows.specs.declared.rows.Elapsed.{Elapsed}
+use Rattle.cut_rows.specs.Stretch.{joinedF}
+use Rattle.cut_rows.specs.Tariff.{RowOf, Ended}
+use Rattle.cut_rows.specs.Runs.{Instance, tariff, visitF, timedOf, End, endOf, allowedF}
+use Rattle.cut_rows.proofs.Along.{Row, Along, OneMore, stopped, in-place, far-is, over, onward}
+use Rattle.cut_rows.proofs.Clocks.{allowed-is, pay-is, timed-more, end-timed}
+use Rattle.cut_rows.proofs.Ends.{shut-over}
+use Rattle.cut_rows.proofs.Calls.{CallIs}
+
+pub record PlainAlong (I : Instance) (R : Row) (new : Table) (load : Load) (gone time late : Float) (m : ℕ) : Type 0 where
+  pub along : Along (tariff I) R new load gone (placeBefore (R .st) m) m
+  pub timed : timedOf (I .tables) (R .st) m ≡ some (record { time = time; «late_cost» = late })
+
+-- before the first call
+pub plain-setout : {I : Instance} {R : Row} {load : Load} {gone time late : Float} → Along (tariff I) R (R .old) load gone 0 0
+    → time ≡ fl 0 → late ≡ fl 0 → PlainAlong I R (R .old) load gone time late 0
+unfolding timedOf
+plain-setout A et el = record { along = in-place A; timed = rw (et, el) refl }
+
+module _ (I : Instance) (unbroken : I .limits .rest ≡ none) {R : Row} {new : Table} {load : Load} {gone time late : Float} {m : ℕ}
+    {load' : Load} {gone' : Float} (s : StopF) (leg travel arrival : Float)
+    (A : PlainAlong I R new load gone time late m) (C : CallIs (I .tables) (R .st) m s leg travel)
+    (b : m < length (R .st)) (short : R .i + length (R .st) ≤ 128)
+    (es : load' ≡ plus load (s .customer .demand))
+    (ef : carried load' (I .capacity) ≡ true)
+    (eg : gone' ≡ joinedF gone leg (eqb m 0))
+    (ea : arrival ≡ joinedF time travel (eqb m 0)) where
+  one-more : OneMore (tariff I) R load gone (placeBefore (R .st) m) m load' gone'
+  one-more =
+      record {
+        inside = b;
+        short = short;
+        demand = s .customer .demand;
+        leg = leg;
+        is-demand = C .demand-is;
+        is-load = es;
+        fits = ef;
+        is-leg = C .leg-is;
+        is-gone = eg;
+      }
+
+  timed-is : timedOf (I .tables) (R .st) (suc m) ≡ visitF (s .customer) arrival late
+  timed-is = timed-more (I .tables) (R .st) m _ (A .timed) ∙ rw (C .record-is, ea, C .travel-is) refl
+
+  -- a window that is shut
+  pub shut : visitF (s .customer) arrival late ≡ none → RowOf (tariff I) (R .st) (R .i) (R .old) new × Ended (tariff I) (R .st) m
+  shut e =
+      let E = shut-over I (R .st) m (A .along .within) unbroken (timed-is ∙ e) in
+      (stopped (A .along) b E, E)
+
+  -- a call that is served
+  module _ (v : Elapsed) (ev : visitF (s .customer) arrival late ≡ some v) where
+    abbrev total : Float
+    total = add binary64 gone' (s .back)
+
+    abbrev endsAt : Float → End
+    endsAt back = record { duration = add binary64 (v .time) back; pay = v .«late_cost» }
+
+    abbrev ending : End
+    ending = endsAt (s .timeBack)
+
+    end-is : endOf (I .tables) (R .st) (suc m) (I .limits .rest) ≡ some ending
+    unfolding placeBefore
+    end-is =
+        ap (endOf (I .tables) (R .st) (suc m)) unbroken
+        ∙ end-timed (I .tables) (R .st) (suc m) v (timed-is ∙ ev)
+        ∙ ap (λ (x : Float). some (endsAt x)) (sym (C .back-is))
+
+    abbrev allows : Bool
+    allows = allowF (I .limits .maxDistance) (I .limits .maxDuration) total (add binary64 (v .time) (s .timeBack))
+
+    allows-is : allowedF I (R .st) (suc m) ≡ allows
+    allows-is =
+        allowed-is I (R .st) (suc m) ending end-is
+        ∙ ap (λ (x : Float). allowF (I .limits .maxDistance) (I .limits .maxDuration) x (add binary64 (v .time) (s .timeBack)))
+        (sym (far-is (A .along) one-more (s .back) (C .home-is)))
+
+    -- after it
+    module _ (k : ℕ) (ek : k ≡ m + 1) where
+      abbrev Next : Table → Type 0
+      Next new' = PlainAlong I R new' load' gone' (v .time) (v .«late_cost») k
+
+      next : (new' : Table) → Along (tariff I) R new' load' gone' (getD (R .st) m 0) (m + 1) → Next new'
+      next new' N =
+          subst (λ (n : ℕ). PlainAlong I R new' load' gone' (v .time) (v .«late_cost») n) (sym ek)
+          (record { along = in-place N; timed = ap (timedOf (I .tables) (R .st)) (add-one m) ∙ timed-is ∙ ev })
+
+      -- over a limit
+      pub skip : allows ≡ false → Next new
+      skip z = next new (over (A .along) one-more (allows-is ∙ z))
+
+      -- within the limits
+      pub put : (j : ℕ) (new' : Table) → allows ≡ true → j ≡ R .i + (m + 1)
+          → Offered j (R .i) (add binary64 (add binary64 (R .base) total) (v .«late_cost»)) (add binary64 (R .ahead) total) new new' → Next new'
+      put j new' z ej O =
+          next new'
+          (onward (A .along) one-more (s .back) _ j new' (C .home-is) (allows-is ∙ z)
+          (ap (add binary64 (add binary64 (R .base) total)) (sym (pay-is I (R .st) (suc m) ending end-is))) ej O)

@@ -1,0 +1,352 @@
+-- `rows::plain_row` meets its contract. The loop's invariant is `PlainAlong` for whatever tables the lists are worked out from: where the next run ends with call j, load, way, time and
+-- lateness cost are those of the calls from i up to it, and the cells up to j are as the row leaves them. The measure is how many calls are left. Assumes nothing.
+use Prim.Native.Nat.{ℕ, _+_, _-_, _<_, _≤_}
+use native.Mathlib.Omega.{arith}
+use mathlib.Core.Path.{_≡_, refl, sym, ap, subst, _∙_}
+use mathlib.Core.Option.{none}
+use mathlib.Core.List.{List}
+use lib.ListN.{length, getD, take, drop, length-drop}
+use lib.Dec.{eqb}
+use lib.Ieee.{Float, nan}
+use denote.Ref.{now}
+use borrow.Author.Needs.{needs}
+use Rattle.basics.proofs.TestLaws.{not-false}
+use Rattle.definitions.specs.Load.{noLoad}
+use Rattle.models.specs.Load.{loadOf, UpTo, none-up-to, up-to-more}
+use Rattle.whole.proofs.Bits.{fl-zero}
+use Rattle.evaluation.specs.Records.{Tables}
+use Rattle.cut_stops.specs.Stops.{stopOf, stopAt, WorkedOut, LegsLong, LegsAre}
+use Rattle.cut_table.specs.Table.{Table, table}
+use Rattle.cut_rows.specs.declared.rows.Visited.the-variants.{Shut, Open}
+use Rattle.cut_rows.specs.Stretch.{joinedF, legTo}
+use Rattle.cut_rows.specs.Runs.{Instance, visitedOf, overBy, tariff, RowLists, rowLists, Rowed}
+use Rattle.cut_rows.proofs.Branches.{fails, holds}
+use Rattle.cut_rows.proofs.Along.{Row, rowFrom, setout}
+use Rattle.cut_rows.proofs.Ends.{run-out, overloaded}
+use Rattle.cut_rows.proofs.Calls.{RunIs, run-is, call-below, way-is, CallIs, call-is}
+use Rattle.cut_rows.proofs.Going.{Going}
+use Rattle.cut_rows.proofs.PlainAlong.{PlainAlong, plain-setout, shut, skip, put}
+use Rattle.cut_rows.proofs.rows.plain_row.Statement.{statement}
+use Rattle.cut_rows.proofs.rows.plain_row.Tie as tie
+
+abbrev Inv-loop : tie.InvT-loop
+Inv-loop cost₀ dist₀ pred₀ held legs time-legs codes figures terms i base before load₀ gone₀ time₀ late-cost₀ j₀ cost dist pred load gone time late-cost j =
+    Going (rowLists held legs time-legs codes figures) i (loadOf load) j
+    (λ t.
+    PlainAlong (overBy t terms none) (rowFrom (drop i held) i (table cost₀ dist₀ pred₀) base before) (table cost dist pred) (loadOf load) gone time late-cost
+    (j - i))
+
+abbrev μ-loop : tie.MeasureT-loop
+μ-loop cost₀ dist₀ pred₀ held legs time-legs codes figures terms i base before load₀ gone₀ time₀ late-cost₀ j₀ cost dist pred load gone time late-cost j =
+    length held - j
+
+-- ---- the places of the code that the needs look back to
+
+-- where the loop is entered: the start of the row, and what it is lent
+module _ (n : tie.After-none Inv-loop μ-loop) where
+  abbrev begun : tie.Start Inv-loop μ-loop
+  begun = let known = n .before .before .before .before in known .before .before .before .before .before
+
+  abbrev lists : RowLists
+  lists = let a = begun .args in rowLists (now (a .held)) (now (a .legs)) (now (a .time-legs)) (now (a .codes)) (now (a .figures))
+
+  abbrev rowAt : Float → Float → Row
+  rowAt base ahead = let a = begun .args in rowFrom (drop (a .i) (now (a .held))) (a .i) (table (now (a .cost)) (now (a .dist)) (now (a .pred))) base ahead
+
+  abbrev over : Tables → Instance
+  over t = overBy t (begun .args .terms) none
+
+-- the next run
+module _ (r : tie.After-run Inv-loop μ-loop) where
+  abbrev turn : tie.At-loop Inv-loop μ-loop
+  turn = r .before .before
+
+  is-run : RunIs (lists (turn .before) .held) (begun (turn .before) .args .i) (turn .loop .j)
+      (take (turn .loop .j + 1 - begun (turn .before) .args .i) (drop (begun (turn .before) .args .i) (lists (turn .before) .held)))
+  is-run = run-is _ _ _ (turn .loop .inv .from) (r .before .loop-test .taken)
+
+-- its last call
+module _ (p : tie.After-stop-at Inv-loop μ-loop) where
+  abbrev top : tie.At-loop Inv-loop μ-loop
+  top = turn (p .before .before)
+
+  -- of the calls held: the numbers of the first call and of this one, and how many calls of the stretch come before it
+  abbrev i : ℕ
+  i = begun (top .before) .args .i
+
+  abbrev j : ℕ
+  j = top .loop .j
+
+  abbrev x : RowLists
+  x = lists (top .before)
+
+  abbrev run : List ℕ
+  run = take (j + 1 - i) (drop i (x .held))
+
+  left : j < length (x .held)
+  left = p .before .before .before .loop-test .taken
+
+  few : (length (x .held) ≤ 128) × LegsLong (x .legs)
+  few = (begun (top .before) .pre .few, begun (top .before) .pre .legs-long)
+
+  inside : j - i < length (drop i (x .held))
+  inside = simp length-drop (omega (arith, left, top .loop .inv .from))
+
+  short : i + length (drop i (x .held)) ≤ 128
+  short = simp length-drop (omega (arith, few .0, begun (top .before) .pre .inside))
+
+  one-more : j + 1 - i ≡ j - i + 1
+  one-more = omega (arith, top .loop .inv .from)
+
+  next-cell : j + 1 ≡ i + (j - i + 1)
+  next-cell = omega (arith, top .loop .inv .from)
+
+  called : (t : Tables) → WorkedOut t (x .places) → LegsAre t (x .held) (x .legs)
+      → (leg travel : Float) → leg ≡ legTo run (stopOf (p .stop-at .result) .out) (getD (x .legs .distances) j nan)
+      → travel ≡ legTo run (stopOf (p .stop-at .result) .timeOut) (getD (x .legs .times) j nan)
+      → CallIs t (drop i (x .held)) (j - i) (stopOf (p .stop-at .result)) leg travel
+  called t W L leg travel el et =
+      call-is t x W L (begun (top .before) .pre .below) (top .loop .inv .from) left (is-run (p .before .before))
+      (stopOf (p .stop-at .result)) leg travel (p .stop-at .ensures ∙ ap (stopAt (x .places)) (p .before .last-call .ensures)) el et
+
+-- its load fits
+abbrev stop : tie.Else1 Inv-loop μ-loop → tie.After-stop-at Inv-loop μ-loop
+stop b = b .before .before .before
+
+-- it is visited
+module _ (v : tie.After-visit Inv-loop μ-loop) where
+  abbrev branch : tie.Else1 Inv-loop μ-loop
+  branch = v .before .before .before .before .before
+
+  far-way : v .before .before .before .way-to .result
+      ≡ joinedF (top (stop branch) .loop .gone) (legTo (run (stop branch)) (stopOf (stop branch .stop-at .result) .out) (getD (x (stop branch) .legs .distances) (j (stop branch)) nan))
+      (eqb (j (stop branch) - i (stop branch)) 0)
+  far-way = way-is (is-run (stop branch .before .before)) _ _ _ _ (v .before .before .before .way-to .ensures)
+
+  time-way : v .before .way-to2 .result
+      ≡ joinedF (top (stop branch) .loop .time) (legTo (run (stop branch)) (stopOf (stop branch .stop-at .result) .timeOut) (getD (x (stop branch) .legs .times) (j (stop branch)) nan))
+      (eqb (j (stop branch) - i (stop branch)) 0)
+  time-way = way-is (is-run (stop branch .before .before)) _ _ _ _ (v .before .way-to2 .ensures)
+
+-- the limits are asked
+abbrev visited : tie.After-allow Inv-loop μ-loop → tie.After-visit Inv-loop μ-loop
+visited g = let told = g .before .before .before in told .before .before .before
+
+-- the run is offered
+abbrev allowed : tie.After-offer-arg3 Inv-loop μ-loop → tie.After-allow Inv-loop μ-loop
+allowed o = o .before .before .before .before
+
+mul-base : tie.Need-mul-base Inv-loop μ-loop
+mul-base c = search needs
+
+element-copy-out-base : tie.Need-element-copy-out-base Inv-loop μ-loop
+element-copy-out-base c = search needs
+
+mul-before : tie.Need-mul-before Inv-loop μ-loop
+mul-before c = search needs
+
+element-copy-out-before : tie.Need-element-copy-out-before Inv-loop μ-loop
+element-copy-out-before c = search needs
+
+none-requires : tie.Need-none-requires Inv-loop μ-loop
+none-requires c κs = search needs
+
+loop-holds : tie.Need-loop-holds Inv-loop μ-loop
+loop-holds c =
+    let s = begun c in
+    let a = s .args in
+    let none-yet : a .i - a .i ≡ 0 = omega arith in
+    record {
+      from = omega arith;
+      within = s .pre .inside;
+      light = subst (UpTo 1) (sym (c .none .ensures)) (up-to-more 0 1 noLoad (omega arith) none-up-to);
+      keeps =
+          λ t W L.
+          rw none-yet
+          (plain-setout (setout (tariff (over c t)) (rowAt c _ _) _ _ (c .none .ensures) (sym fl-zero) (s .pre .table-long) refl refl) (sym fl-zero) (sym fl-zero));
+    }
+
+add-j : tie.Need-add-j Inv-loop μ-loop
+add-j c = search needs
+
+mul-run : tie.Need-mul-run Inv-loop μ-loop
+mul-run c = search needs
+
+sub-run : tie.Need-sub-run Inv-loop μ-loop
+sub-run c = let l = c .before in omega (arith, l .loop .inv .from)
+
+part-run-start : tie.Need-part-run-start Inv-loop μ-loop
+part-run-start c = let l = c .before in omega (arith, l .loop .inv .from)
+
+part-run-end : tie.Need-part-run-end Inv-loop μ-loop
+part-run-end c = search needs
+
+last-call-requires : tie.Need-last-call-requires Inv-loop μ-loop
+last-call-requires c κs = is-run c .some
+
+stop-at-requires : tie.Need-stop-at-requires Inv-loop μ-loop
+stop-at-requires c κs =
+    let r = c .before in
+    let l = turn r in
+    let pre = begun (l .before) .pre in
+    (pre .places-long, subst (λ (k : ℕ). k < 64) (sym (c .last-call .ensures ∙ is-run r .is-last)) (call-below _ _ _ (pre .below) (l .loop .inv .from) (r .before .loop-test .taken)))
+
+plus-requires : tie.Need-plus-requires Inv-loop μ-loop
+plus-requires c κs =
+    let l = top c in
+    up-to-more 1 1000 (loadOf (l .loop .load)) (omega arith) (l .loop .inv .light)
+
+fits-requires : tie.Need-fits-requires Inv-loop μ-loop
+fits-requires c κs = search needs
+
+returns : tie.Need-returns Inv-loop μ-loop
+unfolding Rowed
+returns c =
+    let f = c .before in
+    let p = f .before .before in
+    let l = top p in (
+      λ t W L.
+          overloaded (l .loop .inv .keeps t W L .along) (inside p) _ _ (called p t W L _ _ refl refl .demand-is) (f .before .plus .ensures .0)
+          (fails _ _ (f .fits2 .ensures .0) (c .if1 .taken)),
+      (l .loop .inv .from, l .loop .inv .within),
+    )
+
+mul-way-to : tie.Need-mul-way-to Inv-loop μ-loop
+mul-way-to c = search needs
+
+shared-slice-read-way-to : tie.Need-shared-slice-read-way-to Inv-loop μ-loop
+shared-slice-read-way-to c = let p = stop (c .before) in omega (arith, left p, few p .0, few p .1 .distances-long)
+
+way-to-requires : tie.Need-way-to-requires Inv-loop μ-loop
+way-to-requires c κs = search needs
+
+mul-way-to-2 : tie.Need-mul-way-to-2 Inv-loop μ-loop
+mul-way-to-2 c = let p = stop (c .before .before) in omega (arith, left p, few p .0)
+
+shared-slice-read-way-to-2 : tie.Need-shared-slice-read-way-to-2 Inv-loop μ-loop
+shared-slice-read-way-to-2 c = let p = stop (c .before .before .before) in omega (arith, left p, few p .0, few p .1 .times-long)
+
+way-to-requires-2 : tie.Need-way-to-requires-2 Inv-loop μ-loop
+way-to-requires-2 c κs = search needs
+
+visit-requires : tie.Need-visit-requires Inv-loop μ-loop
+visit-requires c κs = search needs
+
+enum-known-v : tie.Need-enum-known-v Inv-loop μ-loop
+enum-known-v c = search needs
+
+enum-told : tie.Need-enum-told Inv-loop μ-loop
+enum-told c = search needs
+
+returns-2 : tie.Need-returns-2 Inv-loop μ-loop
+unfolding Rowed
+returns-2 c =
+    let v = c .before .before in
+    let b = branch v in
+    let p = stop b in
+    let l = top p in
+    let e : v .visit .result ≡ Shut = search needs in (
+      λ t W L.
+          shut (over (l .before) t) refl _ _ _ _ (l .loop .inv .keeps t W L) (called p t W L _ _ refl refl) (inside p) (short p) (b .before .before .plus .ensures .0)
+          (holds _ _ (b .before .fits2 .ensures .0) (b .if1 .left)) (far-way v) (time-way v) (sym (v .visit .ensures) ∙ ap visitedOf e),
+      (l .loop .inv .from, l .loop .inv .within),
+    )
+
+allow-requires : tie.Need-allow-requires Inv-loop μ-loop
+allow-requires c κs = search needs
+
+loop-less : tie.Need-loop-less Inv-loop μ-loop
+loop-less c = let p = stop (branch (visited (c .before))) in omega (arith, left p)
+
+loop-again : tie.Need-loop-again Inv-loop μ-loop
+loop-again c =
+    let v = visited (c .before) in
+    let b = branch v in
+    let p = stop b in
+    let l = top p in
+    let w = c .before .before .before .before .before in
+    let e : v .visit .result ≡ Open (w .v .given .0 .0) = search (needs, w .v) in
+    record {
+      from = omega (arith, l .loop .inv .from);
+      within = omega (arith, left p);
+      light = b .before .fits2 .ensures .1 (not-false _ (b .if1 .left));
+      keeps =
+          λ t W L.
+          skip (over (l .before) t) refl _ _ _ _ (l .loop .inv .keeps t W L) (called p t W L _ _ refl refl) (inside p) (short p) (b .before .before .plus .ensures .0)
+          (holds _ _ (b .before .fits2 .ensures .0) (b .if1 .left)) (far-way v) (time-way v) _ (sym (v .visit .ensures) ∙ ap visitedOf e) _ (one-more p)
+          (fails _ _ (c .before .allow .ensures) (c .if2 .taken));
+    }
+
+offer-requires : tie.Need-offer-requires Inv-loop μ-loop
+offer-requires c κs = let p = stop (branch (visited (allowed c))) in omega (arith, left p, few p .0)
+
+loop-less-2 : tie.Need-loop-less-2 Inv-loop μ-loop
+loop-less-2 c = let p = stop (branch (visited (allowed (c .before)))) in omega (arith, left p)
+
+loop-again-2 : tie.Need-loop-again-2 Inv-loop μ-loop
+loop-again-2 c =
+    let g = allowed (c .before) in
+    let v = visited g in
+    let b = branch v in
+    let p = stop b in
+    let l = top p in
+    let w = g .before .before .before .before in
+    let e : v .visit .result ≡ Open (w .v .given .0 .0) = search (needs, w .v) in
+    record {
+      from = omega (arith, l .loop .inv .from);
+      within = omega (arith, left p);
+      light = b .before .fits2 .ensures .1 (not-false _ (b .if1 .left));
+      keeps =
+          λ t W L.
+          put (over (l .before) t) refl _ _ _ _ (l .loop .inv .keeps t W L) (called p t W L _ _ refl refl) (inside p) (short p) (b .before .before .plus .ensures .0)
+          (holds _ _ (b .before .fits2 .ensures .0) (b .if1 .left)) (far-way v) (time-way v) _ (sym (v .visit .ensures) ∙ ap visitedOf e) _ (one-more p) _ _
+          (holds _ _ (g .allow .ensures) (c .before .before .before .before .if2 .left)) (next-cell p) (c .offer .ensures);
+    }
+
+returns-3 : tie.Need-returns-3 Inv-loop μ-loop
+unfolding Rowed
+returns-3 c =
+    let l = c .before in (
+      λ t W L. run-out (l .loop .inv .keeps t W L .along) (simp length-drop (omega (arith, c .loop-test .left))),
+      (l .loop .inv .from, l .loop .inv .within),
+    )
+
+pub plain-row-spec : {M : Type 1} → statement M
+plain-row-spec =
+    tie.close
+    (tie.spec
+    Inv-loop
+    μ-loop
+    mul-base
+    element-copy-out-base
+    mul-before
+    element-copy-out-before
+    none-requires
+    loop-holds
+    add-j
+    mul-run
+    sub-run
+    part-run-start
+    part-run-end
+    last-call-requires
+    stop-at-requires
+    plus-requires
+    fits-requires
+    returns
+    mul-way-to
+    shared-slice-read-way-to
+    way-to-requires
+    mul-way-to-2
+    shared-slice-read-way-to-2
+    way-to-requires-2
+    visit-requires
+    enum-known-v
+    enum-told
+    returns-2
+    allow-requires
+    loop-less
+    loop-again
+    offer-requires
+    loop-less-2
+    loop-again-2
+    returns-3)

@@ -1,0 +1,180 @@
+-- The runs along a stretch by windows, limits and break on floats, as the code has them: the clocks of a stretch, the price of a run, and
+-- what a row does. Definitions only.
+use Prim.Native.Nat.{ℕ, zero, suc, _-_, _≤_}
+use mathlib.Core.Path.{_≡_}
+use mathlib.Core.Bool.{Bool, cond}
+use mathlib.Core.List.{List, [], _∷_}
+use mathlib.Core.Option.{Option, none, some}
+use lib.ListN.{length, getD, take, drop}
+use lib.Dec.{eqb}
+use lib.Ieee as Ieee
+use lib.Ieee.{Float, binary64}
+use Rattle.basics.specs.Options.{_>>=_, holds}
+use Rattle.definitions.specs.Load.{Load}
+use Rattle.definitions.specs.Sheet.{WindowOf, BreakOf, CustomerOf}
+use Rattle.models.specs.declared.customer.Customer.{Customer}
+use Rattle.models.specs.declared.load.Space.{Space}
+use Rattle.models.specs.Load.{spaceOf}
+use Rattle.models.specs.declared.limits.RouteLimits.{RouteLimits}
+use Rattle.models.specs.Records.{restOf, limitOf}
+use Rattle.models.specs.Limits.{allowF}
+use Rattle.models.specs.Window.{lateF}
+use Rattle.whole.specs.Whole.{fl}
+use Rattle.whole.specs.Larger.{largerF}
+use Rattle.clock.specs.Records.{ClockF}
+use Rattle.clock.specs.Clock.{begunF, finishF}
+use Rattle.evaluation.specs.Records.{Tables, LimitsF}
+use Rattle.evaluation.specs.Records as Evaluation
+use Rattle.evaluation.specs.Tables as Lookup
+use Rattle.evaluation.specs.Tables.{recordF, demandF, timeF, placeBefore}
+use Rattle.evaluation.specs.Schedule.{clockFromF}
+use Rattle.cut_stops.specs.Stops.{Numbers, numbers, Long, WorkedOut, Below64, LegLists, legLists, LegsLong, LegsAre}
+use Rattle.cut_table.specs.Table.{Table, Sized}
+use Rattle.cut_rows.specs.declared.terms.Terms.{Terms}
+use Rattle.cut_rows.specs.declared.rows.Elapsed.{Elapsed}
+use Rattle.cut_rows.specs.declared.rows.Visited.{Visited}
+use Rattle.cut_rows.specs.declared.rows.Visited.the-variants.{Shut, Open}
+use Rattle.cut_rows.specs.Stretch.{joinedF, wayOf}
+use Rattle.cut_rows.specs.Tariff.{Tariff, RowOf, Ended}
+
+-- ---- what is lent
+
+pub record Instance : Type 0 where
+  pub tables : Tables
+  pub capacity : Load
+  -- the cost added for every run
+  pub fixed : Float
+  pub limits : LimitsF
+
+-- over tables and on these terms, with this break, whatever break the limits have
+abbrev pub overBy : Tables → Terms → Option (BreakOf Float) → Instance
+overBy t terms rest =
+    record {
+      tables = t;
+      capacity = spaceOf (terms .capacity);
+      fixed = terms .fixed;
+      limits =
+          record {
+            maxDistance = limitOf (terms .limits .«max_distance»);
+            maxDuration = limitOf (terms .limits .«max_duration»);
+            rest = rest;
+          };
+    }
+
+abbrev pub over : Tables → Terms → Instance
+over t terms = overBy t terms (restOf (terms .limits .rest))
+
+abbrev pub lent : List Customer → List Float → List Float → ℕ → Space → Float → RouteLimits → Instance
+lent customers distances times size capacity fixed limits =
+    over (Evaluation.lent customers distances times size) (record { capacity = capacity; fixed = fixed; limits = limits })
+
+-- ---- a call without a break, reached at this time with so much lateness cost
+
+abbrev pub visitedOf : Visited → Option Elapsed
+visitedOf Shut = none
+visitedOf (Open v) = some v
+
+-- late ends the run without a penalty; with one, penalty times lateness is added to the cost
+unfoldable pub chargeF : WindowOf Float → Option Float → Float → Float → Option Float
+chargeF w penalty time late =
+    cond (lateF w time)
+    (penalty >>= λ p. some (Ieee.add binary64 late (Ieee.mul binary64 p (Ieee.sub binary64 time (w .due)))))
+    (some late)
+
+-- then the window's opening is waited for
+unfoldable pub enterF : Option (WindowOf Float) → Option Float → Float → Float → Option Elapsed
+enterF none penalty time late = some (record { time = time; «late_cost» = late })
+enterF (some w) penalty time late =
+    chargeF w penalty time late >>= λ l. some (record { time = largerF time (w .ready); «late_cost» = l })
+
+-- and the call served
+unfoldable pub visitF : CustomerOf Float → Float → Float → Option Elapsed
+visitF c time late =
+    enterF (c .window) (c .penalty) time late
+    >>= λ x. some (record { time = Ieee.add binary64 (x .time) (c .service); «late_cost» = x .«late_cost» })
+
+-- ---- the first m calls of a stretch, from the depot at time 0
+
+module _ (t : Tables) (st : List ℕ) where
+  -- without a break
+  unfoldable pub timedOf : ℕ → Option Elapsed
+  timedOf zero = some (record { time = fl 0; «late_cost» = fl 0 })
+  timedOf (suc m) =
+      timedOf m
+      >>= λ x.
+      visitF (recordF t (getD st m 0)) (joinedF (x .time) (timeF t (placeBefore st m) (getD st m 0)) (eqb m 0)) (x .«late_cost»)
+
+  -- with one
+  unfoldable pub clockOf : BreakOf Float → ℕ → ClockF
+  clockOf b m = clockFromF t (begunF b) (take m st)
+
+-- home: how long a run takes, and what is paid for lateness
+pub record End : Type 0 where
+  pub duration : Float
+  pub pay : Float
+
+module _ (t : Tables) (st : List ℕ) (m : ℕ) where
+  -- the leg home is the last
+  abbrev pub backTime : Float
+  backTime = timeF t (placeBefore st m) 0
+
+  unfoldable pub endOf : Option (BreakOf Float) → Option End
+  endOf none = timedOf t st m >>= λ x. some (record { duration = Ieee.add binary64 (x .time) backTime; pay = x .«late_cost» })
+  endOf (some b) =
+      finishF (wayOf (Lookup.distanceF t) st m) backTime (clockOf t st b m)
+      >>= λ s. some (record { duration = s .duration; pay = s .cost })
+
+abbrev pub payOf : Option End → Float
+payOf none = fl 0
+payOf (some e) = e .pay
+
+-- ---- the price of a run
+
+module _ (I : Instance) where
+  -- its clock gives an end, and its totals are allowed
+  unfoldable pub allowedF : List ℕ → ℕ → Bool
+  allowedF st m =
+      holds (endOf (I .tables) st m (I .limits .rest))
+      (λ e.
+      allowF (I .limits .maxDistance) (I .limits .maxDuration) (wayOf (Lookup.distanceF (I .tables)) st m) (e .duration))
+
+  unfoldable pub payF : List ℕ → ℕ → Float
+  payF st m = payOf (endOf (I .tables) st m (I .limits .rest))
+
+  abbrev pub tariff : Tariff
+  tariff =
+      record {
+        demand = demandF (I .tables .customers);
+        capacity = I .capacity;
+        leg = Lookup.distanceF (I .tables);
+        fixed = I .fixed;
+        allowed = allowedF;
+        pays = λ st m. payF st m ∷ [];
+      }
+
+-- ---- a row
+
+-- what it reads: the calls held, the legs between them, and every place as numbers
+pub record RowLists : Type 0 where
+  pub held : List ℕ
+  pub legs : LegLists
+  pub places : Numbers
+
+abbrev pub rowLists : List ℕ → List Float → List Float → List ℕ → List Float → RowLists
+rowLists held legs times codes figures = record { held = held; legs = legLists legs times; places = numbers codes figures }
+
+-- row i of at most 128 calls, each of one of the 64 places, can be filled
+pub record RowReady (x : RowLists) (i : ℕ) (old : Table) : Type 0 where
+  pub inside : i ≤ length (x .held)
+  pub few : length (x .held) ≤ 128
+  pub below : Below64 (x .held)
+  pub legs-long : LegsLong (x .legs)
+  pub places-long : Long (x .places)
+  pub table-long : Sized old
+
+-- row i of the calls held is filled, for whatever tables the lists are worked out from; r is the place of the call that ends it, or the
+-- number of calls
+unfoldable pub Rowed : (Tables → Instance) → RowLists → ℕ → Table → Table → ℕ → Type 0
+Rowed I x i old new r =
+    (t : Tables) → WorkedOut t (x .places) → LegsAre t (x .held) (x .legs)
+    → RowOf (tariff (I t)) (drop i (x .held)) i old new × Ended (tariff (I t)) (drop i (x .held)) (r - i)

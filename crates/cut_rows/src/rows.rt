@@ -1,0 +1,265 @@
+// Row i of the table of the cut by windows, limits and break (ga/split_tw.rs): the runs that start at
+// call i, `held[i..j]` for each j behind it.
+ghost use mathlib.Core.Path.{_≡_};
+ghost use mathlib.Core.Option.{none, some};
+ghost use Prim.Native.Nat.{_<_, _≤_};
+ghost use lib.ListN.{length};
+ghost use Rattle.models.specs.Records.{openingOf, penaltyOf, customerOf, breakOf};
+ghost use Rattle.clock.specs.Records.{clockOf};
+ghost use Rattle.clock.specs.Clock.{pushF};
+ghost use Rattle.cut_table.specs.Table.{table};
+ghost use Rattle.cut_rows.specs.Stretch.{lastOf};
+ghost use Rattle.cut_rows.specs.Runs.{visitedOf, enterF, visitF, overBy, over, rowLists, RowReady, Rowed};
+use crate::terms::Terms;
+use crate::way::last_call;
+use crate::way::leg_to;
+use crate::way::way_to;
+use clock::schedule::BreakClock;
+use clock::schedule::Finished;
+use cut_stops::stops::stop_at;
+use cut_table::cells::offer;
+use models::customer::Customer;
+use models::customer::Opening;
+use models::customer::Penalty;
+use models::load::Load;
+use models::vehicle::Rest;
+use models::vehicle::VehicleBreak;
+use whole::larger;
+
+// The time on the way through a run without a break, and what its lateness costs so far.
+pub struct Elapsed {
+    pub time: f64,
+    pub late_cost: f64,
+}
+
+// A window that ends the run, or the way on.
+pub enum Visited {
+    Shut,
+    Open(Elapsed),
+}
+
+// Late ends the run without a penalty, and costs with one; then the window's opening is waited for.
+pub fn enter(opening: Opening, penalty: Penalty, time: f64, late_cost: f64) -> Visited
+    ensures { λ r. ⌜ visitedOf r ≡ enterF (openingOf opening) (penaltyOf penalty) time «late_cost» ⌝ }
+{
+    let Opening::Window(window) = opening else {
+        return Visited::Open(Elapsed { time, late_cost });
+    };
+    let start = larger(time, window.ready);
+    if !window.is_violated(time) {
+        return Visited::Open(Elapsed {
+            time: start,
+            late_cost,
+        });
+    }
+    match penalty {
+        Penalty::Hard => Visited::Shut,
+        Penalty::Soft(p) => Visited::Open(Elapsed {
+            time: start,
+            late_cost: late_cost + p * (time - window.due),
+        }),
+    }
+}
+
+// A call that is reached at this time: its window, and its service.
+pub fn visit(customer: Customer, time: f64, late_cost: f64) -> Visited
+    ensures { λ r. ⌜ visitedOf r ≡ visitF (customerOf customer) time «late_cost» ⌝ }
+{
+    let opening = customer.time_window;
+    let penalty = customer.lateness_penalty;
+    let Visited::Open(v) = enter(opening, penalty, time, late_cost) else {
+        return Visited::Shut;
+    };
+    Visited::Open(Elapsed {
+        time: v.time + customer.service_duration,
+        late_cost: v.late_cost,
+    })
+}
+
+// Row i without a break: each run that starts at call i, after the best of the calls before it. Gives
+// the place of the call that ends the row, since no run with it is legal, or the number of calls.
+pub fn plain_row(
+    cost: &mut [f64; 129],
+    dist: &mut [f64; 129],
+    pred: &mut [usize; 129],
+    held: &[usize],
+    legs: &[f64],
+    time_legs: &[f64],
+    codes: &[u32],
+    figures: &[f64],
+    terms: Terms,
+    i: usize,
+) -> usize
+    requires { let x = rowLists (now held) (now legs) (now «time_legs») (now codes) (now figures) in
+        ⌜ RowReady x i (table (now cost) (now dist) (now pred)) ⌝ }
+    ensures { λ r.
+        let x = rowLists (now (held .entry)) (now (legs .entry)) (now («time_legs» .entry))
+        (now (codes .entry)) (now (figures .entry)) in
+        let old = table (now (cost .entry)) (now (dist .entry)) (now (pred .entry)) in
+        let new = table (now (cost .exit)) (now (dist .exit)) (now (pred .exit)) in
+        ⌜ Rowed (λ t. overBy t terms none) x i old new r ⌝ }
+    ensures { λ r. ⌜ (i ≤ r) × (r ≤ length (now (held .entry))) ⌝ }
+{
+    let base = cost[i] + terms.fixed;
+    let before = dist[i];
+    let mut load = Load::none();
+    let mut gone = 0.0;
+    let mut time = 0.0;
+    let mut late_cost = 0.0;
+    let mut j = i;
+    while j < held.len() {
+        let last = j;
+        j += 1;
+        let run = &held[i..j];
+        let stop = stop_at(codes, figures, last_call(run));
+        load = load.plus(stop.customer.demand);
+        if !load.fits(terms.capacity) {
+            return last;
+        }
+        gone = way_to(run, stop.out, gone, legs[last]);
+        let arrival = way_to(run, stop.time_out, time, time_legs[last]);
+        let Visited::Open(v) = visit(stop.customer, arrival, late_cost) else {
+            return last;
+        };
+        time = v.time;
+        late_cost = v.late_cost;
+        let total = gone + stop.back;
+        if !terms.limits.allow(total, time + stop.time_back) {
+            continue;
+        }
+        let new = base + total + late_cost;
+        let far = before + total;
+        offer(&mut *cost, &mut *dist, &mut *pred, j, i, new, far);
+    }
+    j
+}
+
+// The clock of a run, from that of the run without its last call: it serves that call, as `push` does.
+// The row alone calls this, so it is compiled into the row's loop and the labels stay in registers;
+// `push`, which has more callers, is too large for that.
+fn pushed(clock: BreakClock, run: &[usize], customer: Customer, travel: f64) -> BreakClock
+    requires { ⌜ (0 < length (now run)) × (clock .index < 0xFFFF_FFFF_FFFF_FFFF) ⌝ }
+    ensures { λ r. ⌜ clockOf r ≡ pushF (clockOf clock) (lastOf (now (run .entry))) (customerOf customer) travel ⌝ }
+{
+    let rest = clock.rest;
+    BreakClock {
+        rest,
+        before: clock.skipped(customer, travel),
+        after: clock.taken(customer, travel),
+        prev: last_call(run),
+        index: clock.index + 1,
+    }
+}
+
+// Row i with a break: the clock is handed each run, which is a call longer than the one before it.
+pub fn rest_row(
+    cost: &mut [f64; 129],
+    dist: &mut [f64; 129],
+    pred: &mut [usize; 129],
+    held: &[usize],
+    legs: &[f64],
+    time_legs: &[f64],
+    codes: &[u32],
+    figures: &[f64],
+    terms: Terms,
+    rest: VehicleBreak,
+    i: usize,
+) -> usize
+    requires { let x = rowLists (now held) (now legs) (now «time_legs») (now codes) (now figures) in
+        ⌜ RowReady x i (table (now cost) (now dist) (now pred)) ⌝ }
+    ensures { λ r.
+        let x = rowLists (now (held .entry)) (now (legs .entry)) (now («time_legs» .entry))
+        (now (codes .entry)) (now (figures .entry)) in
+        let old = table (now (cost .entry)) (now (dist .entry)) (now (pred .entry)) in
+        let new = table (now (cost .exit)) (now (dist .exit)) (now (pred .exit)) in
+        ⌜ Rowed (λ t. overBy t terms (some (breakOf rest))) x i old new r ⌝ }
+    ensures { λ r. ⌜ (i ≤ r) × (r ≤ length (now (held .entry))) ⌝ }
+{
+    let base = cost[i] + terms.fixed;
+    let before = dist[i];
+    let mut load = Load::none();
+    let mut gone = 0.0;
+    let mut clock = BreakClock::new(rest);
+    let mut j = i;
+    while j < held.len() {
+        let last = j;
+        j += 1;
+        let run = &held[i..j];
+        let stop = stop_at(codes, figures, last_call(run));
+        load = load.plus(stop.customer.demand);
+        if !load.fits(terms.capacity) {
+            return last;
+        }
+        gone = way_to(run, stop.out, gone, legs[last]);
+        let travel = leg_to(run, stop.time_out, time_legs[last]);
+        clock = pushed(clock, run, stop.customer, travel);
+        if !clock.alive() {
+            return last;
+        }
+        let total = gone + stop.back;
+        let Finished::Home(done) = clock.finish(total, stop.time_back) else {
+            continue;
+        };
+        if !terms.limits.allow(total, done.duration) {
+            continue;
+        }
+        let new = base + total + done.cost;
+        let far = before + total;
+        offer(&mut *cost, &mut *dist, &mut *pred, j, i, new, far);
+    }
+    j
+}
+
+// Row i, with the break of the limits or without one.
+pub fn row(
+    cost: &mut [f64; 129],
+    dist: &mut [f64; 129],
+    pred: &mut [usize; 129],
+    held: &[usize],
+    legs: &[f64],
+    time_legs: &[f64],
+    codes: &[u32],
+    figures: &[f64],
+    terms: Terms,
+    i: usize,
+) -> usize
+    requires { let x = rowLists (now held) (now legs) (now «time_legs») (now codes) (now figures) in
+        ⌜ RowReady x i (table (now cost) (now dist) (now pred)) ⌝ }
+    ensures { λ r.
+        let x = rowLists (now (held .entry)) (now (legs .entry)) (now («time_legs» .entry))
+        (now (codes .entry)) (now (figures .entry)) in
+        let old = table (now (cost .entry)) (now (dist .entry)) (now (pred .entry)) in
+        let new = table (now (cost .exit)) (now (dist .exit)) (now (pred .exit)) in
+        ⌜ Rowed (λ t. over t terms) x i old new r ⌝ }
+    ensures { λ r. ⌜ (i ≤ r) × (r ≤ length (now (held .entry))) ⌝ }
+{
+    let limits = terms.limits;
+    let rest = limits.rest;
+    match rest {
+        Rest::Unbroken => plain_row(
+            &mut *cost,
+            &mut *dist,
+            &mut *pred,
+            held,
+            legs,
+            time_legs,
+            codes,
+            figures,
+            terms,
+            i,
+        ),
+        Rest::Break(b) => rest_row(
+            &mut *cost,
+            &mut *dist,
+            &mut *pred,
+            held,
+            legs,
+            time_legs,
+            codes,
+            figures,
+            terms,
+            b,
+            i,
+        ),
+    }
+}

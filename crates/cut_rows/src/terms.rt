@@ -1,0 +1,11 @@
+// What every run of a cut is held to, and the cost that is added for it.
+use models::limits::RouteLimits;
+use models::load::Space;
+
+pub struct Terms {
+    // what a vehicle holds
+    pub capacity: Space,
+    // the cost added for every run
+    pub fixed: f64,
+    pub limits: RouteLimits,
+}

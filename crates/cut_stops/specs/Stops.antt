@@ -1,0 +1,158 @@
+-- What the cut reads of each place and leg, worked out once and held as numbers in lists that are lent on. Definitions only.
+use Prim.Native.Nat.{ℕ, _*_, _+_, _<_, _≤_}
+use mathlib.Core.Path.{_≡_}
+use mathlib.Core.Bool.{cond}
+use mathlib.Core.List.{List, [], _∷_}
+use mathlib.Core.Option.{Option, none, some}
+use lib.ListN.{length, getD}
+use lib.Dec.{eqb}
+use lib.Ieee.{Float, nan}
+use Rattle.definitions.specs.Load.{ofSeats}
+use Rattle.definitions.specs.Sheet.{WindowOf, CustomerOf, timeTable}
+use Rattle.distance.specs.Lookup.{lookupF}
+use Rattle.models.specs.Records.{customerOf}
+use Rattle.whole.specs.Whole.{fl}
+use Rattle.evaluation.specs.Records.{Tables}
+use Rattle.evaluation.specs.Tables.{recordF, distanceF, timeF, placeBefore}
+use Rattle.cut_stops.specs.declared.stops.Stop.{Stop}
+
+-- a place as a stop: its record, and the legs from the depot and home, in distance and in time
+pub record StopF : Type 0 where
+  pub customer : CustomerOf Float
+  pub out : Float
+  pub back : Float
+  pub timeOut : Float
+  pub timeBack : Float
+
+abbrev pub stopOf : Stop → StopF
+stopOf s = record { customer = customerOf (s .customer); out = s .out; back = s .back; timeOut = s .«time_out»; timeBack = s .«time_back» }
+
+-- what the tables say of place c
+unfoldable pub stopIn : Tables → ℕ → StopF
+stopIn t c = record { customer = recordF t c; out = distanceF t 0 c; back = distanceF t c 0; timeOut = timeF t 0 c; timeBack = timeF t c 0 }
+
+-- ---- a stop as numbers
+
+-- a window and a penalty from a code, which is 1 where there is one
+abbrev pub openingAt : ℕ → Float → Float → Option (WindowOf Float)
+openingAt windowed ready due = cond (eqb windowed 1) (some (record { ready = ready; due = due })) none
+
+abbrev pub penaltyAt : ℕ → Float → Option Float
+penaltyAt charged each = cond (eqb charged 1) (some each) none
+
+-- and as one; zeros stand where there is none
+abbrev pub code : {A : Type 0} → Option A → ℕ
+code none = 0
+code (some x) = 1
+
+abbrev pub timesIn : Option (WindowOf Float) → WindowOf Float
+timesIn none = record { ready = fl 0; due = fl 0 }
+timesIn (some w) = w
+
+abbrev pub priceIn : Option Float → Float
+priceIn none = fl 0
+priceIn (some p) = p
+
+-- a record as codes (demand, window, penalty) and four figures, and a stop as these and four figures before them
+unfoldable pub codesOf : CustomerOf Float → List ℕ
+codesOf x = x .demand .seats ∷ code (x .window) ∷ code (x .penalty) ∷ []
+
+abbrev pub recordFigures : CustomerOf Float → List Float
+recordFigures x = x .service ∷ timesIn (x .window) .ready ∷ timesIn (x .window) .due ∷ priceIn (x .penalty) ∷ []
+
+unfoldable pub figuresOf : StopF → List Float
+figuresOf s = s .out ∷ s .back ∷ s .timeOut ∷ s .timeBack ∷ recordFigures (s .customer)
+
+-- so many codes and figures for each place
+abbrev pub codesEach : ℕ
+codesEach = 3
+
+abbrev pub figuresEach : ℕ
+figuresEach = 8
+
+-- ---- every place as numbers, in two lists
+
+pub record Numbers : Type 0 where
+  pub codes : List ℕ
+  pub figures : List Float
+
+abbrev pub numbers : List ℕ → List Float → Numbers
+numbers codes figures = record { codes = codes; figures = figures }
+
+-- as long as 64 places need
+abbrev pub allCodes : ℕ
+allCodes = 64 * codesEach
+
+abbrev pub allFigures : ℕ
+allFigures = 64 * figuresEach
+
+pub record Long (x : Numbers) : Type 0 where
+  pub codes-long : length (x .codes) ≡ allCodes
+  pub figures-long : length (x .figures) ≡ allFigures
+
+-- what the lists hold of place c
+unfoldable pub stopAt : Numbers → ℕ → StopF
+stopAt x c =
+    let f : ℕ → Float = λ k. getD (x .figures) (figuresEach * c + k) nan in
+    let n : ℕ → ℕ = λ k. getD (x .codes) (codesEach * c + k) 0 in
+    record {
+      customer = record { demand = ofSeats (n 0); service = f 4; window = openingAt (n 1) (f 5) (f 6); penalty = penaltyAt (n 2) (f 7) };
+      out = f 0;
+      back = f 1;
+      timeOut = f 2;
+      timeBack = f 3;
+    }
+
+-- the lists hold the places below n as the tables have them
+pub record HoldsTo (t : Tables) (x : Numbers) (n : ℕ) : Type 0 where
+  pub long : Long x
+  pub stops-are : (c : ℕ) → c < n → stopAt x c ≡ stopIn t c
+
+abbrev pub WorkedOut : Tables → Numbers → Type 0
+WorkedOut t x = HoldsTo t x 64
+
+-- calls of the 64 places
+unfoldable pub Below64 : List ℕ → Type 0
+Below64 calls = (k : ℕ) → k < length calls → getD calls k 0 < 64
+
+-- ---- the legs between the calls held
+
+-- the two lookups of a leg
+pub record Lookups : Type 0 where
+  pub distance : ℕ → ℕ → Float
+  pub time : ℕ → ℕ → Float
+
+abbrev pub lookups : List Float → List Float → ℕ → Lookups
+lookups distances times size = record { distance = lookupF distances size; time = lookupF (timeTable distances times) size }
+
+abbrev pub lookupsIn : Tables → Lookups
+lookupsIn t = record { distance = distanceF t; time = timeF t }
+
+-- each from the call before it, in distance and in time
+pub record LegLists : Type 0 where
+  pub distances : List Float
+  pub times : List Float
+
+abbrev pub legLists : List Float → List Float → LegLists
+legLists distances times = record { distances = distances; times = times }
+
+-- there is a leg for each of at most 128 calls
+pub record LegsLong (legs : LegLists) : Type 0 where
+  pub distances-long : length (legs .distances) ≡ 128
+  pub times-long : length (legs .times) ≡ 128
+
+-- leg number k of the calls held
+pub record LegIs (by : Lookups) (held : List ℕ) (legs : LegLists) (k : ℕ) : Type 0 where
+  pub distance-is : getD (legs .distances) k nan ≡ by .distance (placeBefore held k) (getD held k 0)
+  pub time-is : getD (legs .times) k nan ≡ by .time (placeBefore held k) (getD held k 0)
+
+-- each leg but the first
+unfoldable pub LegsAre : Tables → List ℕ → LegLists → Type 0
+LegsAre t held legs = (k : ℕ) → 0 < k → k < length held → LegIs (lookupsIn t) held legs k
+
+-- the legs are written from number `from` on, and what stands before stays
+pub record LegsWritten (by : Lookups) (held : List ℕ) (from : ℕ) (old new : LegLists) : Type 0 where
+  pub long : LegsLong new
+  pub written : (k : ℕ) → from ≤ k → 0 < k → k < length held → LegIs by held new k
+  pub kept : (k : ℕ) → k < from
+      → (getD (new .distances) k nan ≡ getD (old .distances) k nan) × (getD (new .times) k nan ≡ getD (old .times) k nan)

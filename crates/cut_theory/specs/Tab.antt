@@ -1,0 +1,16 @@
+-- A list by its elements, and the length of the arrays that hold a table.
+use Prim.Native.Nat.{ℕ, zero, suc}
+use mathlib.Core.List.{List, [], _∷_}
+
+-- the cells of a table: one for each beginning of a tour, the empty one included, and a tour has at most 128 calls
+abbrev pub cells : ℕ
+cells = 129
+
+module _ {A : Type 0} where
+  unfoldable pub tabFrom : (ℕ → A) → ℕ → ℕ → List A
+  tabFrom f i zero = []
+  tabFrom f i (suc n) = f i ∷ tabFrom f (suc i) n
+
+  -- f 0, f 1, .. f (n - 1)
+  abbrev pub tab : (ℕ → A) → ℕ → List A
+  tab f n = tabFrom f 0 n

@@ -1,0 +1,113 @@
+-- A run whose first calls are fixed: from where they leave the bus it ends as the whole run does. Assumes nothing.
+use Prim.Native.Nat.{ℕ, suc, _+_, _-_, _<_, _≤_}
+use native.Mathlib.Numerals.{add-one}
+use native.Mathlib.Omega.{arith}
+use mathlib.Core.Path.{_≡_, refl, sym, ap, _∙_}
+use mathlib.Core.Bool.{Bool, true, false, false≢true}
+use mathlib.Core.List.{List, [], _∷_, _++_, append-assoc}
+use mathlib.Core.Option.{Option, none, some}
+use lib.ListN.{length, getD, take, drop, length-append, length-drop}
+use lib.Seq.{take-suc, take-all, drop-at, length-take-le}
+use lib.Ieee as Ieee
+use lib.Ieee.{Float, binary64}
+use Rattle.basics.proofs.TestLaws.{by-test}
+use Rattle.basics.specs.Options.{_>>=_, given, present}
+use Rattle.definitions.specs.Sheet.{BreakOf, CustomerOf}
+use Rattle.clock.specs.declared.schedule.Scheduled.{Scheduled}
+use Rattle.clock.specs.Records.{ClockF}
+use Rattle.clock.specs.Clock.{pushF, aliveF}
+use Rattle.evaluation.specs.declared.way.Way.{Way}
+use Rattle.evaluation.specs.Records.{Tables, LimitsF}
+use Rattle.evaluation.specs.Tables.{recordF, distanceF, timeF, legsF}
+use Rattle.evaluation.specs.Schedule.{tickF, clockFromF, endF}
+use Rattle.evaluation.specs.Way.{wayOnF, throughF, wayF, homewardF, plainF}
+use Rattle.evaluation.specs.Route.{totalsF, keptF, allowedF, feasibleF}
+use Rattle.evaluation.proofs.Growing.{end-gone}
+use Rattle.improve_base.specs.Prefix.{PrefixF, failed, plain, clocked, failedF, indexF, setOutF, reachedF, onF, endedF, feasibleFromF, Leads}
+
+-- ---- the run, ended
+
+ended-start : (t : Tables) (r : Option (BreakOf Float)) (calls : List ℕ) → endedF t (setOutF r) calls ≡ totalsF t r calls
+unfolding endedF totalsF
+ended-start t none calls = refl
+ended-start t (some b) calls = refl
+
+reached-on : (t : Tables) (cs : List ℕ) (o : Option Way)
+    → ((o >>= λ v. wayF t v cs) >>= λ d. some (homewardF t d)) ≡ endedF t (reachedF o) cs
+unfolding endedF plainF
+reached-on t cs none = refl
+reached-on t cs (some v) = refl
+
+end-on : (t : Tables) (x : ClockF) (far : Float) (c : ℕ) (cs : List ℕ) → endF t x far (c ∷ cs) ≡ endF t (tickF t x c) (Ieee.add binary64 far (distanceF t (x .prev) c)) cs
+unfolding endF clockFromF legsF pushF
+end-on t x far c cs = refl
+
+ended-on : (t : Tables) (b : PrefixF) (c : ℕ) (cs : List ℕ) → endedF t b (c ∷ cs) ≡ endedF t (onF (distanceF t) (timeF t) (recordF t c) b c) cs
+unfolding endedF onF plainF throughF
+ended-on t failed c cs = refl
+ended-on t (plain w) c cs = reached-on t cs (wayOnF (recordF t c) (distanceF t (w .prev) c) (timeF t (w .prev) c) w c)
+ended-on t (clocked x far) c cs =
+    by-test (aliveF (tickF t x c)) (λ y. rw y (end-on t x far c cs)) (λ n. rw n (end-on t x far c cs ∙ end-gone t (tickF t x c) (Ieee.add binary64 far (distanceF t (x .prev) c)) cs n))
+
+-- a limit that is kept leaves the totals there
+pub given-there : (b : Bool) (s : Scheduled) → b ≡ present (given b s)
+given-there true s = refl
+given-there false s = refl
+
+-- ---- where calls lead
+
+start-index : (r : Option (BreakOf Float)) → indexF (setOutF r) ≤ 1
+start-index none = omega arith
+start-index (some b) = omega arith
+
+pub leads-start : (t : Tables) (limits : LimitsF) → Leads t limits [] (setOutF (limits .rest))
+unfolding feasibleF allowedF feasibleFromF
+leads-start t limits = record { feasible = λ rest. rw (ended-start t (limits .rest) rest); index = start-index (limits .rest) }
+
+reached-index : (o : Option Way) → indexF (reachedF o) ≤ 1
+reached-index none = omega arith
+reached-index (some w) = omega arith
+
+on-index : (leg time : ℕ → ℕ → Float) (k : CustomerOf Float) (b : PrefixF) (c : ℕ) → indexF (onF leg time k b c) ≤ suc (indexF b)
+unfolding onF pushF
+on-index leg time k failed c = omega arith
+on-index leg time k (plain w) c = reached-index (wayOnF k (leg (w .prev) c) (time (w .prev) c) w c)
+on-index leg time k (clocked x far) c = by-test (aliveF (pushF x c k (time (x .prev) c))) (λ y. rw y (omega arith)) (λ n. rw n (omega arith))
+
+module _ (t : Tables) (limits : LimitsF) where
+  from-on : (b : PrefixF) (c : ℕ) (rest : List ℕ) → feasibleFromF t limits b (c ∷ rest) ≡ feasibleFromF t limits (onF (distanceF t) (timeF t) (recordF t c) b c) rest
+  unfolding feasibleFromF
+  from-on b c rest =
+      ap (λ (o : Option Scheduled). present (keptF limits o)) (ended-on t b c rest)
+
+  leads-on : (calls : List ℕ) (b : PrefixF) (c : ℕ) → Leads t limits calls b → Leads t limits (calls ++ (c ∷ [])) (onF (distanceF t) (timeF t) (recordF t c) b c)
+  leads-on calls b c L =
+      record {
+        feasible = λ rest. ap (feasibleF t limits) (append-assoc calls (c ∷ []) rest) ∙ (L .feasible (c ∷ rest) ∙ from-on b c rest);
+        index = omega (arith, on-index (distanceF t) (timeF t) (recordF t c) b c, L .index, length-append calls (c ∷ []));
+      }
+
+  -- the next call of a run whose calls before it stayed
+  pub leads-next : (i : ℕ) (run new : List ℕ) (b n : PrefixF) → i < length new → take i new ≡ take i run → Leads t limits (take i run) b
+      → (k : CustomerOf Float) → k ≡ recordF t (getD new i 0) → n ≡ onF (distanceF t) (timeF t) k b (getD new i 0) → Leads t limits (take (i + 1) new) n
+  leads-next i run new b n h e L k ek en = rw (en, ek, add-one i, take-suc new i 0 h, e) (leads-on (take i run) b (getD new i 0) L)
+
+  -- a run that keeps the first i calls, asked from there on
+  pub asked : (i : ℕ) (run behind : List ℕ) (b : PrefixF) → i ≤ length run → Leads t limits (take i run) b
+      → (r : Bool) → r ≡ feasibleFromF t limits b (take (length (take i run ++ behind) - i) (drop i (take i run ++ behind)))
+      → feasibleF t limits (take i run ++ behind) ≡ r
+  asked i run behind b h L r e =
+      let new = take i run ++ behind in
+      let tail : take (length new - i) (drop i new) ≡ behind =
+      take-all (length new - i) (drop i new) (omega (arith, length-drop i new)) ∙ drop-at (take i run) behind i (length-take-le i run h) in
+      L .feasible behind ∙ sym (e ∙ ap (feasibleFromF t limits b) tail)
+
+  -- where the first calls cannot be served, no run is feasible
+  never : (b : PrefixF) (rest : List ℕ) → failedF b ≡ true → feasibleFromF t limits b rest ≡ false
+  unfolding feasibleFromF endedF
+  never failed rest f = refl
+  never (plain w) rest f = absurd (false≢true f)
+  never (clocked x far) rest f = absurd (false≢true f)
+
+  pub not-feasible : (calls rest : List ℕ) (b : PrefixF) → failedF b ≡ true → Leads t limits calls b → feasibleF t limits (calls ++ rest) ≡ false
+  not-feasible calls rest b f L = L .feasible rest ∙ never b rest f

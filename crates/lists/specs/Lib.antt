@@ -1,2 +1,0 @@
--- The lengths that a call asks for, and its run ends and break places.
-pub mod Needs

@@ -1,4 +1,0 @@
-// What the listing program prints for any bytes, as a function on lent memory.
-pub mod cut;
-pub mod held;
-pub mod text;

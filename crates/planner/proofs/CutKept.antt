@@ -1,0 +1,126 @@
+-- The contract of a cutting, for any way to cut that keeps demand 3. Assumes nothing.
+use Prim.Native.Nat.{ℕ, _≤_}
+use mathlib.Core.Path.{_≡_, refl, sym, subst}
+use mathlib.Core.List.{List, [], _∷_}
+use mathlib.Core.Option.{Option, none, some}
+use lib.ListN.{length, take, drop}
+use lib.Seq.{take-append-seam}
+use Rattle.bounds.proofs.Inside.{sized, few-calls}
+use Rattle.bounds.proofs.CostBoundLaws.{arc-priced, plain-priced, plan-fits}
+use Rattle.definitions.specs.Sheet.{Sheet}
+use Rattle.definitions.specs.Clock.{arc}
+use Rattle.definitions.specs.Drop.{Held, Result, result, cutOf as bestOf, plainArc, split, splitTw}
+use Rattle.definitions.specs.Lent.{cutting}
+use Rattle.definitions.specs.Refusals.{refusalOf, Within, WithinCalls}
+use Rattle.definitions.specs.Room.{written}
+use Rattle.definitions.specs.Answers.{Answer, front, unlessRefused, answer}
+use Rattle.definitions.specs.Clauses.{bare, Clauses}
+use Rattle.theorems.proofs.Accepted.{accepted-within}
+use Rattle.theorems.proofs.Agreement.{plain-drops}
+use Rattle.theorems.proofs.Bare.{split-kept}
+use Rattle.theorems.proofs.Sentences.{split-tw-kept}
+use Rattle.whole.specs.Whole.{limit}
+use Rattle.whole.specs.Value.{value}
+use Rattle.whole.proofs.ValueLaws.{value-fl}
+use Rattle.call_cuts.specs.declared.cutting.Cut.{Cut}
+use Rattle.call_cuts.specs.Cutting.{cutIn}
+use Rattle.planner.specs.Calls.{LentSheet, meant}
+use Rattle.planner.specs.Cutting.{CutOutput, cutOutput, cutOn, cutAnswer, CutContract}
+
+-- ---- they are kept of what stands at the front of the lists
+
+abbrev firsts : List ℕ → List ℕ → List ℕ
+firsts new old = take (length new) (written new old)
+
+first-are : (new old : List ℕ) → firsts new old ≡ new
+first-are new old = take-append-seam new (drop (length new) old)
+
+module _ (s : Sheet) (tour served ends dropped : List ℕ) (x : Result) (kept : Clauses s tour (x .served) (x .ends) (x .dropped) (x .cost)) where
+  front-kept : Clauses s tour (firsts (x .served) served) (firsts (x .ends) ends) (firsts (x .dropped) dropped) (x .cost)
+  front-kept = rw (first-are (x .served) served, first-are (x .ends) ends, first-are (x .dropped) dropped) kept
+
+-- ---- the two ways to cut
+
+-- a way to cut keeps demand 3 of what it looks at of a sheet, and on a sheet within the limits a float holds its cost
+pub record Keeps (cut : Sheet → List ℕ → Result) (looksAt : Sheet → Sheet) : Type 0 where
+  pub clauses : (s : Sheet) (tour : List ℕ) → let x = cut s tour in Clauses (looksAt s) tour (x .served) (x .ends) (x .dropped) (x .cost)
+  pub cost-small : (s : Sheet) → Within s → (tour : List ℕ) → WithinCalls s tour → cut s tour .cost ≤ limit
+
+pub split-keeps : Keeps split bare
+unfolding split
+split-keeps =
+    record {
+      clauses = split-kept;
+      cost-small = λ s W tour T.
+          let S = sized s W in
+          subst (λ (h : Held). result s tour h (bestOf (plainArc s) tour h) .cost ≤ limit) (plain-drops s tour) (plan-fits (plainArc s) (plain-priced s S) tour (few-calls s tour T) s S .0);
+    }
+
+pub split-tw-keeps : Keeps splitTw (λ s. s)
+unfolding splitTw
+split-tw-keeps =
+    record {
+      clauses = split-tw-kept;
+      cost-small = λ s W tour T. let S = sized s W in plan-fits (arc s) (arc-priced s S) tour (few-calls s tour T) s S .0;
+    }
+
+-- ---- what a call that answers so keeps
+
+module _ (cut : Sheet → List ℕ → Result) (looksAt : Sheet → Sheet) (keeps : Keeps cut looksAt) (q : LentSheet) (tour : List ℕ) (old : CutOutput) where
+  abbrev x : Result
+  x = cut (meant q) tour
+
+  abbrev answered : Answer Result
+  answered = cutAnswer cut q tour old
+
+  -- the lists, with an answer written into them
+  abbrev pub left : Answer Result → CutOutput
+  left a =
+      cutOutput (written (front (λ y. y .served) a) (old .served)) (written (front (λ y. y .ends) a) (old .ends))
+      (written (front (λ y. y .dropped) a) (old .dropped))
+
+  kept-by : (refusal : Option ℕ) → refusalOf value cutting (cutOn q tour old) ≡ refusal → answered ≡ unlessRefused refusal x
+      → (refusal ≡ none → x .cost ≤ limit) → CutContract cut looksAt q tour old (cutIn answered) (left answered)
+  kept-by (some number) is by small =
+      rw by record {
+        result = rw by refl;
+        served-left = rw by refl;
+        ends-left = rw by refl;
+        dropped-left = rw by refl;
+        refused = sym is;
+        untouched = refl;
+        legal = tt;
+        sum = tt;
+        least = tt;
+        ties = tt;
+        held = [];
+        served-are = tt;
+        drops = tt;
+        partition = tt;
+      }
+  kept-by none is by small =
+      let K = front-kept (looksAt (meant q)) tour (old .served) (old .ends) (old .dropped) x (keeps .clauses (meant q) tour) in
+      let means = value-fl (x .cost) (small refl) in
+      rw by record {
+        result = rw by refl;
+        served-left = rw by refl;
+        ends-left = rw by refl;
+        dropped-left = rw by refl;
+        refused = sym is;
+        untouched = tt;
+        legal = K .legal;
+        sum = (x .cost, means, K .sum);
+        least = (x .cost, means, K .least);
+        ties = K .ties;
+        held = K .held;
+        served-are = K .served-are;
+        drops = K .drops;
+        partition = K .partition;
+      }
+
+  pub kept : {r : Cut} {new : CutOutput} → r ≡ cutIn answered → new ≡ left answered → CutContract cut looksAt q tour old r new
+  unfolding answer
+  kept is left-is =
+      subst (λ (z : Cut × CutOutput). CutContract cut looksAt q tour old (z .0) (z .1)) (λ i. (sym is i, sym left-is i))
+      (kept-by (refusalOf value cutting (cutOn q tour old)) refl refl
+      (λ e. let a = accepted-within value cutting (cutOn q tour old) e in keeps .cost-small (meant q) (a .within) tour (a .tour)))

@@ -1,0 +1,6 @@
+-- Squares that do not wrap.
+mod Squares
+-- Walks along run ends, break places and lengths.
+mod Walking
+-- The code's numbers and tests as one list of refusals.
+pub mod Numbers

@@ -1,0 +1,7 @@
+// The numbers of a sheet looked at one by one: out of range, ready above due, and soft windows.
+// Behind refusals 1, 2 and 4.
+pub mod calls;
+pub mod customers;
+pub mod numbers;
+pub mod records;
+pub mod tables;

@@ -1,6 +1,0 @@
--- What the contracts of the listing's text cite.
-pub mod Put
-pub mod Lines
-pub mod Number
-pub mod Shown
-pub mod Plan

@@ -1,0 +1,5 @@
+// Route elimination (local_search/route_elimination.rs): a run goes when the others take its calls for less than it
+// costs.
+pub mod insertion;
+pub mod loads;
+pub mod route_elimination;

@@ -1,3 +1,0 @@
--- What the contracts of the recorded answers cite.
-pub mod Alike
-pub mod Along

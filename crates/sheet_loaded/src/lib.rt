@@ -1,0 +1,2 @@
+// An accepted sheet in memory.
+pub mod load;

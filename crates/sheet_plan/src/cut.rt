@@ -1,0 +1,45 @@
+// The cut of the tour on a sheet that is held in memory.
+ghost use Prim.Native.Nat.{_≤_};
+ghost use lib.ListN.{length};
+ghost use Rattle.definitions.specs.Sheet.{Sheet};
+ghost use Rattle.definitions.specs.Drop.{splitTw};
+ghost use Rattle.sheet_loaded.specs.Held.{InMemory, Held};
+ghost use Rattle.sheet_plan.specs.Cut.{cutLists, CutLeft};
+use models::customer::Customer;
+use models::head::Head;
+use split::split::SplitResult;
+use split_tw::split_tw::split_tw;
+
+// The served customers, the run ends and the dropped positions are written at the front of the lists.
+pub fn cut_held(
+    tour: &[usize],
+    head: Head,
+    customers: [Customer; 64],
+    distances: &[f64],
+    times: &[f64],
+    served: &mut [usize],
+    run_ends: &mut [usize],
+    dropped: &mut [usize],
+) -> SplitResult
+    requires { ⌜ Held (now tour) head customers (now distances) (now times) ⌝ }
+    requires { ⌜ (128 ≤ length (now served)) × (128 ≤ length (now «run_ends»)) × (128 ≤ length (now dropped)) ⌝ }
+    ensures { λ r.
+        let old = cutLists (now (served .entry)) (now («run_ends» .entry)) (now (dropped .entry)) in
+        let new = cutLists (now (served .exit)) (now («run_ends» .exit)) (now (dropped .exit)) in
+        ⌜ ((s : Sheet) → InMemory s (now (tour .entry)) head customers (now (distances .entry)) (now (times .entry))
+        → CutLeft (splitTw s (now (tour .entry))) r old new) ⌝ }
+{
+    split_tw(
+        tour,
+        customers,
+        distances,
+        times,
+        head.places,
+        head.capacity,
+        head.fixed_cost,
+        head.limits,
+        &mut *served,
+        &mut *run_ends,
+        &mut *dropped,
+    )
+}

@@ -1,0 +1,85 @@
+-- `state::State::in_range` meets its contract. Assumes nothing.
+use borrow.Author.Tests.{ne-eqb}
+use borrow.Author.Needs.{needs}
+use Rattle.definitions.specs.Reader.{inRange}
+use Rattle.sheet_words.proofs.state.State.in_range.Statement.{statement}
+use Rattle.sheet_words.proofs.state.State.in_range.Tie as tie
+
+cast-is-places : tie.Need-cast-is-places
+cast-is-places c = search needs
+
+is-places-requires : tie.Need-is-places-requires
+is-places-requires c κs = search needs
+
+is-capacity-requires : tie.Need-is-capacity-requires
+is-capacity-requires c κs = search needs
+
+is-demand-requires : tie.Need-is-demand-requires
+is-demand-requires c κs = search needs
+
+is-penalty-requires : tie.Need-is-penalty-requires
+is-penalty-requires c κs = search needs
+
+call-in-range-requires : tie.Need-call-in-range-requires
+call-in-range-requires c κs = search needs
+
+is-number-requires : tie.Need-is-number-requires
+is-number-requires c κs = search needs
+
+returns : tie.Need-returns
+unfolding inRange
+returns c = rw (c .before .before .match .keys1) (c .is-places .ensures)
+
+returns-2 : tie.Need-returns-2
+unfolding inRange
+returns-2 c = rw (c .before .match .keys2) (c .is-capacity .ensures)
+
+returns-3 : tie.Need-returns-3
+unfolding inRange
+returns-3 c = rw (c .before .match .keys3) (c .is-demand .ensures)
+
+returns-4 : tie.Need-returns-4
+unfolding inRange
+returns-4 c = rw (c .before .match .keys4) (c .is-penalty .ensures)
+
+returns-5 : tie.Need-returns-5
+unfolding inRange
+returns-5 c = rw (c .before .match .keys5) (c .call-in-range .ensures)
+
+returns-6 : tie.Need-returns-6
+unfolding inRange
+returns-6 c = rw (c .match .keys6)
+
+returns-7 : tie.Need-returns-7
+unfolding inRange
+returns-7 c =
+    let k = c .before .before .args .w .kind in
+    let r = c .before .match .rest in
+    rw (
+      ne-eqb k 1 (r .0 .0 .0 .0 .0 .1),
+      ne-eqb k 2 (r .0 .0 .0 .0 .1),
+      ne-eqb k 7 (r .0 .0 .0 .1),
+      ne-eqb k 11 (r .0 .0 .1),
+      ne-eqb k 14 (r .0 .1),
+      ne-eqb k 15 (r .1),
+    )
+    (c .is-number .ensures)
+
+pub in-range-spec : {M : Type 1} → statement M
+in-range-spec =
+    tie.close
+    (tie.spec
+    cast-is-places
+    is-places-requires
+    is-capacity-requires
+    is-demand-requires
+    is-penalty-requires
+    call-in-range-requires
+    is-number-requires
+    returns
+    returns-2
+    returns-3
+    returns-4
+    returns-5
+    returns-6
+    returns-7)

@@ -1,0 +1,29 @@
+-- What the code's structs and enums hold, as the records of crates/definitions. Definitions only.
+use Prim.Native.Nat.{ℕ}
+use mathlib.Core.Option.{Option, none, some}
+use Rattle.definitions.specs.Words as D
+use Rattle.definitions.specs.Reader as Reader
+use Rattle.sheet_words.specs.declared.Word.{Word}
+use Rattle.sheet_words.specs.declared.state.State.{State}
+use Rattle.sheet_words.specs.declared.state.Fault.{Fault}
+use Rattle.sheet_words.specs.declared.state.Fault.the-variants.{Sound, Number}
+use Rattle.sheet_words.specs.declared.check.Checked.{Checked}
+use Rattle.sheet_words.specs.declared.check.Checked.the-variants.{Accepted, Refused}
+
+abbrev pub heldWord : Word → D.Word
+heldWord w = record { kind = w .kind; value = w .value }
+
+-- where there is no word: a kind that no word has
+abbrev pub noWord : D.Word
+noWord = D.word 16 0
+
+abbrev pub stateOf : State → Reader.State
+stateOf s = record { last = heldWord (s .last); row = s .row; places = s .places; coming = s .coming }
+
+abbrev pub faultOf : Fault → Option ℕ
+faultOf Sound = none
+faultOf (Number n) = some n
+
+abbrev pub outcomeOf : Checked → Reader.Outcome
+outcomeOf Accepted = Reader.accepted
+outcomeOf (Refused number word) = Reader.refused number word

@@ -1,0 +1,162 @@
+// The cut of a tour by capacity, windows, limits and break (ga/split_tw.rs), from the calls that are
+// held and the table of their rows (holding) to the answer.
+ghost use mathlib.Core.Path.{_≡_};
+ghost use Prim.Native.Nat.{_≤_};
+ghost use lib.ListN.{length};
+ghost use Rattle.definitions.specs.Room.{written};
+ghost use Rattle.cut_stops.specs.Stops.{Below64};
+ghost use Rattle.cut_rows.specs.Runs.{lent};
+ghost use Rattle.cut_drops.specs.Drops.{dropsF};
+ghost use Rattle.split.specs.Answer.{Counted};
+ghost use Rattle.split_tw.specs.SplitTw.{Settled, splitTwF};
+use cut_drops::hold::hold;
+use cut_rows::terms::Terms;
+use cut_stops::stops::ALL_CODES;
+use cut_stops::stops::ALL_FIGURES;
+use cut_stops::stops::work_out;
+use cut_table::cells::read_back;
+use cut_table::held::write_front;
+use models::customer::Customer;
+use models::limits::RouteLimits;
+use models::load::Space;
+use split::split::SplitResult;
+use whole::infinity;
+
+// What the drops come to: how many calls are held at the end, and their cut.
+pub struct Settlement {
+    pub held: usize,
+    pub cost: f64,
+    pub distance: f64,
+    // where the ends of the runs start in `ends`
+    pub at: usize,
+}
+
+// The calls that stay and their cut. They stand at the front of `held`, and the ends of their runs at
+// the end of `ends`.
+pub fn settle(
+    tour: &[usize],
+    customers: [Customer; 64],
+    distances: &[f64],
+    times: &[f64],
+    size: usize,
+    capacity: Space,
+    fixed: f64,
+    limits: RouteLimits,
+    held: &mut [usize],
+    ends: &mut [usize; 129],
+    dropped: &mut [usize],
+) -> Settlement
+    requires { ⌜ (length (now tour) ≤ 128) × Below64 (now tour) × (length (now ends) ≡ 129) ⌝ }
+    requires { ⌜ (length (now tour) ≤ length (now held)) × (length (now tour) ≤ length (now dropped)) ⌝ }
+    ensures { λ r.
+        let I = lent customers (now (distances .entry)) (now (times .entry)) size capacity fixed limits in
+        let calls = now (tour .entry) in
+        ⌜ Settled I calls (r .held) (r .cost) (r .distance) (r .at) (now (held .exit)) (now (ends .exit)) ⌝ }
+    ensures { λ _.
+        let I = lent customers (now (distances .entry)) (now (times .entry)) size capacity fixed limits in
+        ⌜ now (dropped .exit) ≡ written (dropsF I (now (tour .entry)) .dropped) (now (dropped .entry)) ⌝ }
+{
+    let mut codes = [0u32; ALL_CODES];
+    let mut figures = [0.0; ALL_FIGURES];
+    work_out(customers, distances, times, size, &mut codes, &mut figures);
+    let top = infinity();
+    let mut cost = [top; 129];
+    let mut dist = [0.0; 129];
+    let mut pred = [0usize; 129];
+    cost[0] = 0.0;
+    write_front(tour, &mut *held);
+    let n = hold(
+        &mut *held,
+        tour.len(),
+        &mut *dropped,
+        distances,
+        times,
+        size,
+        &codes,
+        &figures,
+        Terms {
+            capacity,
+            fixed,
+            limits,
+        },
+        &mut cost,
+        &mut dist,
+        &mut pred,
+    );
+    let at = read_back(&pred, n, &mut *ends);
+    let total = cost[n];
+    let far = dist[n];
+    Settlement {
+        held: n,
+        cost: total,
+        distance: far,
+        at,
+    }
+}
+
+// Calls are dropped until every beginning of those held can be cut, and these are cut at least cost.
+// The served customers, the run ends and the dropped positions are written at the front of the lent
+// lists.
+pub fn split_tw(
+    tour: &[usize],
+    customers: [Customer; 64],
+    distances: &[f64],
+    times: &[f64],
+    size: usize,
+    capacity: Space,
+    fixed: f64,
+    limits: RouteLimits,
+    served: &mut [usize],
+    run_ends: &mut [usize],
+    dropped: &mut [usize],
+) -> SplitResult
+    requires { ⌜ (length (now tour) ≤ 128) × Below64 (now tour) ⌝ }
+    requires { ⌜ (length (now tour) ≤ length (now served))
+        × (length (now tour) ≤ length (now «run_ends»))
+        × (length (now tour) ≤ length (now dropped)) ⌝ }
+    ensures { λ r.
+        let plan = splitTwF (lent customers (now (distances .entry)) (now (times .entry)) size capacity fixed limits)
+        (now (tour .entry)) in
+        ⌜ Counted plan (r .served) (r .runs) (r .dropped) (r .cost) (r .distance) ⌝ }
+    ensures { λ _.
+        let plan = splitTwF (lent customers (now (distances .entry)) (now (times .entry)) size capacity fixed limits)
+        (now (tour .entry)) in
+        ⌜ now (served .exit) ≡ written (plan .served) (now (served .entry)) ⌝ }
+    ensures { λ _.
+        let plan = splitTwF (lent customers (now (distances .entry)) (now (times .entry)) size capacity fixed limits)
+        (now (tour .entry)) in
+        ⌜ now («run_ends» .exit) ≡ written (plan .ends) (now («run_ends» .entry)) ⌝ }
+    ensures { λ _.
+        let plan = splitTwF (lent customers (now (distances .entry)) (now (times .entry)) size capacity fixed limits)
+        (now (tour .entry)) in
+        ⌜ now (dropped .exit) ≡ written (plan .dropped) (now (dropped .entry)) ⌝ }
+{
+    let mut held = [0usize; 128];
+    let mut ends = [0usize; 129];
+    let s = settle(
+        tour,
+        customers,
+        distances,
+        times,
+        size,
+        capacity,
+        fixed,
+        limits,
+        &mut held,
+        &mut ends,
+        &mut *dropped,
+    );
+    let n = s.held;
+    let at = s.at;
+    write_front(&held[..n], &mut *served);
+    write_front(&ends[at..], &mut *run_ends);
+    let runs = 129 - at;
+    let gone = tour.len() - n;
+    SplitResult {
+        served: n,
+        runs,
+        dropped: gone,
+        cost: s.cost,
+        distance: s.distance,
+    }
+}

@@ -1,0 +1,210 @@
+// The bench cases a to q, each cut by the planner: a line says the runs as customers, with the break and the time at
+// home where the sheet has a break, then the dropped positions, cost and distance.
+// A tour is written as the digits of a number.
+use call_cuts::cutting::Cut;
+use call_runs::evaluating::Evaluation;
+use evaluation::route::RouteEval;
+use evaluation::route::Start;
+use io::print_decimal;
+use io::write_all;
+use listing_lines::number::whole_part;
+use split::split::SplitResult;
+use test_sheets::changes::Change;
+use test_sheets::changes::changed;
+use test_sheets::digits::begin;
+use test_sheets::digits::digits;
+
+fn text(bytes: &[u8]) {
+    write_all(1, bytes);
+}
+
+// A word, and a number behind it.
+fn numbered(word: &[u8], n: u64) {
+    text(word);
+    print_decimal(1, n);
+}
+
+// The same of a float that holds a whole number.
+fn amount(word: &[u8], x: f64) {
+    numbered(word, whole_part(x));
+}
+
+fn after_blank(n: usize) {
+    numbered(b" ", n as u64);
+}
+
+fn numbers(list: &[usize]) {
+    let mut i = 0;
+    while i < list.len() {
+        after_blank(list[i]);
+        i += 1;
+    }
+}
+
+fn evaluate(change: Change, run: &[usize]) -> Evaluation {
+    let sheet = changed(change);
+    let head = sheet.head;
+    let customers = sheet.customers;
+    let distances = sheet.distances;
+    let times = [0.0];
+    test_calls::route_eval(head, customers, &distances, &times[..0], run)
+}
+
+// The break, if one is taken, and the time at home.
+fn show_times(eval: RouteEval) {
+    let start = eval.start;
+    if let Start::At(time) = start {
+        numbered(b" rest ", eval.place as u64);
+        amount(b" at ", time);
+    }
+    amount(b" home ", eval.duration);
+}
+
+// Whether the sheet has a break.
+fn has_break(change: Change) -> bool {
+    match change {
+        Change::Break(_, _) => true,
+        Change::BreakAtPrice => true,
+        _ => false,
+    }
+}
+
+// A run as customers, with its break where the sheet has one.
+fn show_run(change: Change, run: &[usize]) {
+    text(b" run");
+    numbers(run);
+    if has_break(change) {
+        if let Evaluation::Allowed(eval) = evaluate(change, run) {
+            show_times(eval);
+        }
+    }
+    text(b";");
+}
+
+fn show_stretch(change: Change, served: &[usize], from: usize, to: usize) {
+    if from <= to {
+        if to <= served.len() {
+            show_run(change, &served[from..to]);
+        }
+    }
+}
+
+fn item(list: &[usize], i: usize) -> usize {
+    if i < list.len() { list[i] } else { 0 }
+}
+
+// The runs that end at the first n of the ends.
+fn show_runs(change: Change, served: &[usize], ends: &[usize], n: usize) {
+    let mut from = 0;
+    let mut i = 0;
+    while i < n {
+        let to = item(ends, i);
+        show_stretch(change, served, from, to);
+        from = to;
+        i += 1;
+    }
+}
+
+fn show_drops(positions: &[usize]) {
+    text(b" drop");
+    numbers(positions);
+    text(b";");
+}
+
+// The first n of the dropped positions, if there are any.
+fn show_dropped(dropped: &[usize], n: usize) {
+    if n > 0 {
+        if n <= dropped.len() {
+            show_drops(&dropped[0..n]);
+        }
+    }
+}
+
+fn cut(
+    change: Change,
+    tour: &[usize],
+    served: &mut [usize],
+    ends: &mut [usize],
+    dropped: &mut [usize],
+) -> Cut {
+    let sheet = changed(change);
+    let head = sheet.head;
+    let customers = sheet.customers;
+    let distances = sheet.distances;
+    let times = [0.0];
+    test_calls::split_tw(
+        head,
+        customers,
+        &distances,
+        &times[..0],
+        tour,
+        served,
+        ends,
+        dropped,
+    )
+}
+
+fn show_totals(counts: SplitResult) {
+    amount(b" cost ", counts.cost);
+    amount(b" distance ", counts.distance);
+}
+
+// The runs of a tour, its drops, and what they come to.
+fn show_cut(change: Change, tour: &[usize]) {
+    let mut served = [0; 2];
+    let mut ends = [0; 2];
+    let mut dropped = [0; 2];
+    let Cut::Cut(counts) = cut(change, tour, &mut served, &mut ends, &mut dropped) else {
+        text(b" refused");
+        return;
+    };
+    show_runs(change, &served, &ends, counts.runs);
+    show_dropped(&dropped, counts.dropped);
+    show_totals(counts);
+}
+
+// A case, with its letter.
+fn show(letter: u8, change: Change, tour: usize) {
+    let calls = digits(tour);
+    text(&[letter]);
+    text(b":");
+    show_cut(change, &calls[begin(tour)..]);
+    text(b"\n");
+}
+
+// In the fourth case there are no calls, and in the fifth one run is as far as two.
+fn loads() {
+    show(b'a', Change::Nothing, 12);
+    show(b'b', Change::Capacity(3), 12);
+    show(b'c', Change::Capacity(1), 12);
+    show(b'd', Change::Nothing, 0);
+    show(b'e', Change::Between(22.0), 12);
+}
+
+fn windows() {
+    show(b'f', Change::Due(10.0), 12);
+    show(b'g', Change::Due(9.0), 12);
+    show(b'h', Change::DueAtPrice(9.0, 3.0), 12);
+}
+
+fn limits() {
+    show(b'i', Change::DistanceLimit(27.0), 12);
+    show(b'j', Change::DistanceLimit(26.0), 12);
+    show(b'k', Change::DistanceLimit(23.0), 12);
+    show(b'l', Change::FarHome(30.0, 27.0), 12);
+}
+
+fn breaks() {
+    show(b'm', Change::Break(20.0, 30.0), 12);
+    show(b'n', Change::Break(20.0, 30.0), 1);
+    show(b'o', Change::Break(5.0, 9.0), 12);
+    show(b'p', Change::Break(5.0, 10.0), 12);
+    show(b'q', Change::BreakAtPrice, 12);
+}
+
+fn main() {
+    loads();
+    windows();
+    limits();
+    breaks();
+}

@@ -1,0 +1,45 @@
+-- `alike::sheet_alike` meets its contract. Assumes nothing.
+use mathlib.Core.Path.{sym, ap, _∙_}
+use mathlib.Core.Bool.{false≢true}
+use denote.Ref.{now}
+use Rattle.sheet_read.specs.Summary.{heldCounts, heldSummary}
+use Rattle.sheet_loaded.proofs.Reading.{is-accepted}
+use borrow.Author.Needs.{needs}
+use Rattle.test_lists.proofs.alike.sheet_alike.Statement.{statement}
+use Rattle.test_lists.proofs.alike.sheet_alike.Tie as tie
+
+read-requires : tie.Need-read-requires
+read-requires c κs = search needs
+
+enum-told : tie.Need-enum-told
+enum-told c = search needs
+
+enum-known-found : tie.Need-enum-known-found
+enum-known-found c = search needs
+
+accepted-alike-requires : tie.Need-accepted-alike-requires
+accepted-alike-requires c κs =
+    let r = c .before .before .before in
+    let k = c .before .found .given in
+    sym (ap heldSummary (k .1)) ∙ r .read .ensures
+
+returns : tie.Need-returns
+returns c h = absurd (false≢true h)
+
+returns-2 : tie.Need-returns-2
+returns-2 c h =
+    let f = c .before .before in
+    let r = f .before .before in
+    let a = r .before .before .before .before .args in
+    is-accepted (now (a .sheet)) (heldCounts (f .found .given .0 .0)) (accepted-alike-requires (c .before) (c .accepted-alike .lifetimes))
+
+pub sheet-alike-spec : {M : Type 1} → statement M
+sheet-alike-spec =
+    tie.close
+    (tie.spec
+    read-requires
+    enum-told
+    enum-known-found
+    accepted-alike-requires
+    returns
+    returns-2)

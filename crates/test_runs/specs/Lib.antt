@@ -1,0 +1,4 @@
+-- What the contracts of the recorded answers cite.
+pub mod Alike
+pub mod Along
+pub mod Runs

@@ -1,0 +1,132 @@
+// The lines of a run that is built: its visits, its violations and its totals.
+ghost use Rattle.test_runs.specs.Along.{Inside};
+use crate::recorded::UNLIKE;
+use crate::recorded::figure;
+use crate::recorded::number;
+use crate::recorded::word;
+use evaluation::route::Start;
+use models::count::fewer;
+use visits::evaluator::Built;
+use visits::visit::Violation;
+use visits::visit::ViolationType;
+use visits::visit::Visit;
+
+// A number, and two figures.
+fn number_and_two(recorded: &[u8], at: usize, n: u64, first: f64, second: f64) -> usize {
+    let mut end = number(recorded, at, n);
+    end = figure(recorded, end, first);
+    figure(recorded, end, second)
+}
+
+// A customer, the times of arrival and departure, and the load.
+fn visit_line(recorded: &[u8], at: usize, visit: Visit) -> usize {
+    let customer = visit.customer_id as u64;
+    let mut end = word(recorded, at, b"visit");
+    end = number_and_two(
+        recorded,
+        end,
+        customer,
+        visit.arrival_time,
+        visit.departure_time,
+    );
+    end = number(recorded, end, visit.load_after);
+    word(recorded, end, b"\n")
+}
+
+// The number of a violation, and its figures.
+fn violation_figures(recorded: &[u8], at: usize, kind: ViolationType) -> usize {
+    match kind {
+        ViolationType::TimeWindowViolated {
+            customer_id,
+            arrival,
+            due,
+        } => {
+            let end = number(recorded, at, 1);
+            number_and_two(recorded, end, customer_id as u64, arrival, due)
+        }
+        ViolationType::BreakNotPlaceable => number(recorded, at, 2),
+        ViolationType::CapacityExceeded { load, capacity } => {
+            let mut end = number(recorded, at, 3);
+            end = number(recorded, end, load);
+            number(recorded, end, capacity as u64)
+        }
+        ViolationType::MaxDistanceExceeded {
+            distance,
+            max_distance,
+        } => number_and_two(recorded, at, 4, distance, max_distance),
+        ViolationType::MaxDurationExceeded {
+            duration,
+            max_duration,
+        } => number_and_two(recorded, at, 5, duration, max_duration),
+    }
+}
+
+// The number of a violation with its figures, as a line.
+fn violation_line(recorded: &[u8], at: usize, violation: Violation) -> usize {
+    let kind = violation.kind;
+    let mut end = word(recorded, at, b"violation");
+    end = violation_figures(recorded, end, kind);
+    word(recorded, end, b"\n")
+}
+
+// The line with an index: the violations are behind the visits.
+fn line(recorded: &[u8], at: usize, built: Built, k: usize) -> usize {
+    let count = built.count;
+    if k < count {
+        if 128 <= k {
+            return UNLIKE;
+        }
+        let visits = built.visits;
+        return visit_line(recorded, at, visits[k]);
+    }
+    let j = k - count;
+    if 131 <= j {
+        return UNLIKE;
+    }
+    let violations = built.violations;
+    violation_line(recorded, at, violations[j])
+}
+
+// The visits, and the violations.
+fn visits_and_violations(recorded: &[u8], at: usize, built: Built) -> usize {
+    let n = fewer(built.count, 128) + fewer(built.found, 131);
+    let mut end = at;
+    let mut k = 0;
+    while k < n {
+        end = line(recorded, end, built, k);
+        k += 1;
+    }
+    end
+}
+
+// The break's place and start, where there is a break.
+fn break_figures(recorded: &[u8], at: usize, place: usize, start: Start) -> usize {
+    match start {
+        Start::Unbroken => at,
+        Start::At(time) => {
+            let end = number(recorded, at, place as u64);
+            figure(recorded, end, time)
+        }
+    }
+}
+
+// Distance, duration, lateness with its cost, and load.
+fn total_figures(recorded: &[u8], at: usize, built: Built) -> usize {
+    let mut end = figure(recorded, at, built.distance);
+    end = figure(recorded, end, built.duration);
+    end = figure(recorded, end, built.lateness);
+    end = figure(recorded, end, built.lateness_cost);
+    number(recorded, end, built.load)
+}
+
+// All lines of the run: the visits and the violations, then the totals and the break.
+pub fn built_lines(recorded: &[u8], at: usize, built: Built) -> usize
+    ensures { λ r. ⌜ Inside (now (recorded .entry)) r ⌝ }
+{
+    let start = built.start;
+    let mut end = visits_and_violations(recorded, at, built);
+    end = word(recorded, end, b"route");
+    end = total_figures(recorded, end, built);
+    end = break_figures(recorded, end, built.place, start);
+    word(recorded, end, b"\n")
+}
