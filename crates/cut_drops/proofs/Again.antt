@@ -64,7 +64,7 @@ module _ (I : Tables → Instance) (x : RowLists) (q : ℕ) where
 
   -- from the rows `from`, whose table is cleared behind q
   unfoldable pub Again : ℕ → Rows → Rows → Type 0
-  Again s from r = (t : Tables) → WorkedOut t (x .places) → LegsAre t (x .held) (x .legs) → Kept t 0 from → Kept t s r
+  Again s from r = (t : Tables) → WorkedOut t (x .stops) → LegsAre t (x .held) (x .legs) → Kept t 0 from → Kept t s r
 
   module _ (from : Rows) where
     pub none-again : Again 0 from from

@@ -1,5 +1,5 @@
 -- Row i of the calls held, with its end noted, and the legs between them. Assumes nothing.
-use Prim.Native.Nat.{ℕ, _<_, _≤_}
+use Prim.Native.Nat.{ℕ, _+_, _-_, _<_, _≤_}
 use native.Mathlib.Omega.{arith}
 use mathlib.Core.Path.{_≡_, refl, ap, _∙_}
 use mathlib.Core.List.{List}
@@ -49,15 +49,16 @@ legs-begun by held n old new W k p b h = W .written k (omega arith) p h
 
 -- ---- a row that is noted
 
-pub noted : (I : Tables → Instance) (x : RowLists) (i : ℕ) (old : Rows) (new : Table) (r : ℕ) → Rowed I x i (old .table) new r → i < length (old .reach)
-    → Noted I x i old (record { table = new; reach = set (old .reach) i r })
+pub noted : (I : Tables → Instance) (x : RowLists) (i : ℕ) (old : Rows) (new : Table) (m : ℕ) → Rowed I x i (old .table) new m → i < length (old .reach)
+    → Noted I x i old (record { table = new; reach = set (old .reach) i (i + m) })
 unfolding Rowed Noted
-noted I x i old new r R b t W L =
-    let e : getD (set (old .reach) i r) i 0 ≡ r = getD-set-same (old .reach) i r 0 b in
+noted I x i old new m R b t W L =
+    let e : getD (set (old .reach) i (i + m)) i 0 ≡ i + m = getD-set-same (old .reach) i (i + m) 0 b in
+    let z : i + m - i ≡ m = omega arith in
     record {
       done = held-row (tariff (I t)) (x .held) i (old .table) new (R t W L .0);
       put = rw e refl;
-      reached = rw e (R t W L .1);
+      reached = rw (e, z) (R t W L .1);
     }
 
 -- the arrays keep their lengths
@@ -78,7 +79,7 @@ unfolding Listed Noted
 listed-long I x i old new g l N = noted-long (tariff (I (g .0))) (x .held) i old new l (N (g .0) (g .1) (g .2))
 
 -- the lists are worked out from these tables
-module _ (I : Tables → Instance) (x : RowLists) (t : Tables) (W : WorkedOut t (x .places)) (L : LegsAre t (x .held) (x .legs)) where
+module _ (I : Tables → Instance) (x : RowLists) (t : Tables) (W : WorkedOut t (x .stops)) (L : LegsAre t (x .held) (x .legs)) where
   pub listed : Listed x
   unfolding Listed
   listed = (t, W, L)

@@ -19,7 +19,7 @@ use Rattle.cut_table.specs.Table.{Calls, DropCall}
 use Rattle.cut_rows.specs.Tariff.{stretches, runsOf, farsOf}
 use Rattle.cut_rows.specs.Runs.{Instance, over, tariff, RowLists}
 use Rattle.cut_drops.specs.Drops.{haveF}
-use Rattle.cut_drops.specs.Refill.{Rows, RowsLong, NotedRow, Noted, Refilled, Given, lookupsGiven, tablesWith, instanceWith, ListsOf, SomeLists, Work, work, Filled, Turned, RowOrDrop, Unfilled, Front, StuckReady, Holds}
+use Rattle.cut_drops.specs.Refill.{Rows, RowsLong, NotedRow, Noted, Refilled, Given, lookupsGiven, tablesWith, instanceWith, ListsOf, SomeLists, Work, work, Filled, Turned, RowOrDrop, Unfilled, StuckReady, Holds}
 use Rattle.cut_drops.proofs.Noting.{noted-long, legs-joined, noted-at, refilled-at}
 use Rattle.cut_drops.proofs.Settling.{legs-kept, below-after, have-is, filled-more, front-after, early-after, Settling, Roomy, one-on, one-less, all-settling, stayed}
 
@@ -41,7 +41,7 @@ module _ (E : Given) where
   byTables t = over t (E .terms)
 
   abbrev pub rowsOf : List ℕ → LegLists → RowLists
-  rowsOf held legs = record { held = held; legs = legs; places = E .places }
+  rowsOf held legs = record { held = held; legs = legs; stops = E .stops }
 
   -- ---- row i of the n calls held, over the lists
 

@@ -89,18 +89,18 @@ LegsTo by held q legs = (k : ℕ) → 0 < k → k < q → k < length held → Le
 
 -- the lists are worked out from some tables
 unfoldable pub Listed : RowLists → Type 0
-Listed x = (t : Tables) × WorkedOut t (x .places) × LegsAre t (x .held) (x .legs)
+Listed x = (t : Tables) × WorkedOut t (x .stops) × LegsAre t (x .held) (x .legs)
 
 -- over number lists, for whatever tables these are worked out from
 module _ (I : Tables → Instance) (x : RowLists) where
   unfoldable pub Noted : ℕ → Rows → Rows → Type 0
   Noted i old new =
-      (t : Tables) → WorkedOut t (x .places) → LegsAre t (x .held) (x .legs) → NotedRow (tariff (I t)) (x .held) i old new
+      (t : Tables) → WorkedOut t (x .stops) → LegsAre t (x .held) (x .legs) → NotedRow (tariff (I t)) (x .held) i old new
 
   -- where the cells up to q and the rows that ended before q are those of the calls held, the table of the rows below q is made
   unfoldable pub Refilled : ℕ → Rows → Rows → Type 0
   Refilled q old new =
-      (t : Tables) → WorkedOut t (x .places) → LegsAre t (x .held) (x .legs)
+      (t : Tables) → WorkedOut t (x .stops) → LegsAre t (x .held) (x .legs)
       → FrontOf (tariff (I t)) (x .held) q (old .table) → EarlyBelow (tariff (I t)) (x .held) q (old .reach)
       → TableOf (tariff (I t)) (x .held) q (new .table)
       × ReachedBelow (tariff (I t)) (x .held) q (new .reach)
@@ -113,12 +113,12 @@ pub record Given : Type 0 where
   pub distances : List Float
   pub times : List Float
   pub size : ℕ
-  pub places : Numbers
+  pub stops : Numbers
   pub terms : Terms
 
 abbrev pub given : List Float → List Float → ℕ → List ℕ → List Float → Terms → Given
 given distances times size codes figures terms =
-    record { distances = distances; times = times; size = size; places = numbers codes figures; terms = terms }
+    record { distances = distances; times = times; size = size; stops = numbers codes figures; terms = terms }
 
 module _ (E : Given) where
   abbrev pub lookupsGiven : Lookups
@@ -133,7 +133,7 @@ module _ (E : Given) where
 
   -- the numbers are those of these customers, and of some
   abbrev pub ListsOf : List Customer → Type 0
-  ListsOf customers = WorkedOut (tablesWith customers) (E .places)
+  ListsOf customers = WorkedOut (tablesWith customers) (E .stops)
 
   unfoldable pub SomeLists : Type 0
   SomeLists = (customers : List Customer) × ListsOf customers

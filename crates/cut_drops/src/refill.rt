@@ -30,7 +30,7 @@ pub fn noted_row(
         let new = rows (now (cost .exit)) (now (dist .exit)) (now (pred .exit)) (now (reach .exit)) in
         ⌜ Noted (λ t. over t terms) x i old new ⌝ }
 {
-    let end = row(
+    let m = row(
         &mut *cost,
         &mut *dist,
         &mut *pred,
@@ -42,7 +42,7 @@ pub fn noted_row(
         terms,
         i,
     );
-    reach[i] = end;
+    reach[i] = i + m;
 }
 
 // Clears the cells from `from` on.

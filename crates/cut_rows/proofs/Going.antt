@@ -1,5 +1,5 @@
 -- A row over number lists: what its loop keeps, for whatever tables the lists are worked out from. Assumes nothing.
-use Prim.Native.Nat.{ℕ, _≤_}
+use Prim.Native.Nat.{ℕ, _+_, _≤_}
 use mathlib.Core.Path.{_≡_, subst}
 use mathlib.Core.Option.{Option}
 use lib.ListN.{length}
@@ -13,13 +13,11 @@ use Rattle.cut_table.specs.Table.{Table}
 use Rattle.cut_rows.specs.declared.terms.Terms.{Terms}
 use Rattle.cut_rows.specs.Runs.{RowLists, overBy, Rowed}
 
--- what the loop of row i keeps, where the next run is that up to call j and with it: what needs no tables, and the rest for whatever tables
--- the lists are worked out from
-pub record Going (x : RowLists) (i : ℕ) (load : Load) (j : ℕ) (Keeps : Tables → Type 0) : Type 0 where
-  pub from : i ≤ j
-  pub within : j ≤ length (x .held)
+-- what the loop of row i keeps after m calls: what needs no tables, and the rest for whatever tables the lists are worked out from
+pub record Going (x : RowLists) (i : ℕ) (load : Load) (m : ℕ) (Keeps : Tables → Type 0) : Type 0 where
+  pub within : i + m ≤ length (x .held)
   pub light : UpTo 1 load
-  pub keeps : (t : Tables) → WorkedOut t (x .places) → LegsAre t (x .held) (x .legs) → Keeps t
+  pub keeps : (t : Tables) → WorkedOut t (x .stops) → LegsAre t (x .held) (x .legs) → Keeps t
 
 -- breaks that are the same have the same rows
 pub same-break : (o o' : Option (BreakOf Float)) → o ≡ o' → (terms : Terms) (x : RowLists) (i : ℕ) (old new : Table) (r : ℕ)

@@ -1,9 +1,8 @@
 -- Row i without a break, call by call: beside what every row keeps, the time and the lateness cost after m calls. Assumes nothing.
 use Prim.Native.Nat.{ℕ, suc, _+_, _<_, _≤_}
 use native.Mathlib.Numerals.{add-one}
-use mathlib.Core.Path.{_≡_, refl, sym, ap, subst, _∙_}
+use mathlib.Core.Path.{_≡_, refl, sym, ap, _∙_}
 use mathlib.Core.Bool.{Bool, true, false}
-use mathlib.Core.List.{List}
 use mathlib.Core.Option.{none, some}
 use lib.ListN.{length, getD}
 use lib.Dec.{eqb}
@@ -92,23 +91,20 @@ module _ (I : Instance) (unbroken : I .limits .rest ≡ none) {R : Row} {new : T
         (sym (far-is (A .along) one-more (s .back) (C .home-is)))
 
     -- after it
-    module _ (k : ℕ) (ek : k ≡ m + 1) where
-      abbrev Next : Table → Type 0
-      Next new' = PlainAlong I R new' load' gone' (v .time) (v .«late_cost») k
+    abbrev Next : Table → Type 0
+    Next new' = PlainAlong I R new' load' gone' (v .time) (v .«late_cost») (m + 1)
 
-      next : (new' : Table) → Along (tariff I) R new' load' gone' (getD (R .st) m 0) (m + 1) → Next new'
-      next new' N =
-          subst (λ (n : ℕ). PlainAlong I R new' load' gone' (v .time) (v .«late_cost») n) (sym ek)
-          (record { along = in-place N; timed = ap (timedOf (I .tables) (R .st)) (add-one m) ∙ timed-is ∙ ev })
+    next : (new' : Table) → Along (tariff I) R new' load' gone' (getD (R .st) m 0) (m + 1) → Next new'
+    next new' N = record { along = in-place N; timed = ap (timedOf (I .tables) (R .st)) (add-one m) ∙ timed-is ∙ ev }
 
-      -- over a limit
-      pub skip : allows ≡ false → Next new
-      skip z = next new (over (A .along) one-more (allows-is ∙ z))
+    -- over a limit
+    pub skip : allows ≡ false → Next new
+    skip z = next new (over (A .along) one-more (allows-is ∙ z))
 
-      -- within the limits
-      pub put : (j : ℕ) (new' : Table) → allows ≡ true → j ≡ R .i + (m + 1)
-          → Offered j (R .i) (add binary64 (add binary64 (R .base) total) (v .«late_cost»)) (add binary64 (R .ahead) total) new new' → Next new'
-      put j new' z ej O =
-          next new'
-          (onward (A .along) one-more (s .back) _ j new' (C .home-is) (allows-is ∙ z)
-          (ap (add binary64 (add binary64 (R .base) total)) (sym (pay-is I (R .st) (suc m) ending end-is))) ej O)
+    -- within the limits
+    pub put : (j : ℕ) (new' : Table) → allows ≡ true → j ≡ R .i + (m + 1)
+        → Offered j (R .i) (add binary64 (add binary64 (R .base) total) (v .«late_cost»)) (add binary64 (R .ahead) total) new new' → Next new'
+    put j new' z ej O =
+        next new'
+        (onward (A .along) one-more (s .back) _ j new' (C .home-is) (allows-is ∙ z)
+        (ap (add binary64 (add binary64 (R .base) total)) (sym (pay-is I (R .st) (suc m) ending end-is))) ej O)

@@ -3,7 +3,6 @@ use Prim.Native.Nat.{ℕ, suc, _+_, _<_, _≤_}
 use native.Mathlib.Numerals.{add-one}
 use mathlib.Core.Path.{_≡_, refl, sym, ap, subst, _∙_}
 use mathlib.Core.Bool.{Bool, true, false}
-use mathlib.Core.List.{List}
 use mathlib.Core.Option.{Option, none, some}
 use lib.ListN.{length, getD}
 use lib.Dec.{eqb}
@@ -41,13 +40,13 @@ rest-setout {I} {rest} {R} {load} {gone} A e =
     }
 
 -- the number of the next call, from 1
-pub first-index : (rest : BreakOf Float) (clock : ClockF) (m : ℕ) → m ≡ 0 → clock ≡ begunF rest → clock .index ≡ m + 1
-first-index rest clock m z e = ap (λ (x : ClockF). x .index) e ∙ ap (λ (n : ℕ). n + 1) (sym z)
+pub first-index : (rest : BreakOf Float) (clock : ClockF) → clock ≡ begunF rest → clock .index ≡ 0 + 1
+first-index rest clock e = ap (λ (x : ClockF). x .index) e
 
-pub next-index : (clock clock' : ClockF) (cid : ℕ) (c : CustomerOf Float) (travel : Float) (m k : ℕ) → k ≡ m + 1
-    → clock' ≡ pushF clock cid c travel → clock .index ≡ m + 1 → clock' .index ≡ k + 1
+pub next-index : (clock clock' : ClockF) (cid : ℕ) (c : CustomerOf Float) (travel : Float) (m : ℕ) → clock' ≡ pushF clock cid c travel
+    → clock .index ≡ m + 1 → clock' .index ≡ m + 1 + 1
 unfolding pushF
-next-index clock clock' cid c travel m k ek e h = ap (λ (x : ClockF). x .index) e ∙ ap (λ (n : ℕ). n + 1) (h ∙ sym ek)
+next-index clock clock' cid c travel m e h = ap (λ (x : ClockF). x .index) e ∙ ap (λ (n : ℕ). n + 1) h
 
 module _ (I : Instance) (rest : BreakOf Float) (broken : I .limits .rest ≡ some rest) {R : Row} {new : Table} {load : Load} {gone : Float}
     {clock : ClockF} {m : ℕ} {load' : Load} {gone' : Float} {clock' : ClockF} (s : StopF) (leg travel : Float)
@@ -94,7 +93,7 @@ module _ (I : Instance) (rest : BreakOf Float) (broken : I .limits .rest ≡ som
   total = add binary64 gone' (s .back)
 
   -- the way back, and what the clock reports of the run that ends here
-  module _ (o : Option Scheduled) (eo : o ≡ finishF total (s .timeBack) clock') (k : ℕ) (ek : k ≡ m + 1) where
+  module _ (o : Option Scheduled) (eo : o ≡ finishF total (s .timeBack) clock') where
     total-is : total ≡ wayOf (distanceF (I .tables)) (R .st) (suc m)
     total-is = far-is (A .along) one-more (s .back) (C .home-is)
 
@@ -107,16 +106,15 @@ module _ (I : Instance) (rest : BreakOf Float) (broken : I .limits .rest ≡ som
 
     -- after it
     abbrev Next : Table → Type 0
-    Next new' = RestAlong I rest R new' load' gone' clock' k
+    Next new' = RestAlong I rest R new' load' gone' clock' (m + 1)
 
     next : (new' : Table) → Along (tariff I) R new' load' gone' call (m + 1) → Next new'
     unfolding pushF
     next new' N =
-        subst (λ (n : ℕ). RestAlong I rest R new' load' gone' clock' n) (sym ek)
-        (record {
+        record {
           along = subst (λ (p : ℕ). Along (tariff I) R new' load' gone' p (m + 1)) (sym (ap (λ (x : ClockF). x .prev) ep)) N;
           is-clock = clock-is ∙ ap (clockOf (I .tables) (R .st) rest) (sym (add-one m));
-        })
+        }
 
     passed-over : allowedF I (R .st) (suc m) ≡ false → Next new
     passed-over z = next new (over (A .along) one-more z)

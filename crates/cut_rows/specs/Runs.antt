@@ -1,7 +1,6 @@
 -- The runs along a stretch by windows, limits and break on floats, as the code has them: the clocks of a stretch, the price of a run, and
 -- what a row does. Definitions only.
-use Prim.Native.Nat.{ℕ, zero, suc, _-_, _≤_}
-use mathlib.Core.Path.{_≡_}
+use Prim.Native.Nat.{ℕ, zero, suc, _≤_}
 use mathlib.Core.Bool.{Bool, cond}
 use mathlib.Core.List.{List, [], _∷_}
 use mathlib.Core.Option.{Option, none, some}
@@ -158,10 +157,10 @@ module _ (I : Instance) where
 pub record RowLists : Type 0 where
   pub held : List ℕ
   pub legs : LegLists
-  pub places : Numbers
+  pub stops : Numbers
 
 abbrev pub rowLists : List ℕ → List Float → List Float → List ℕ → List Float → RowLists
-rowLists held legs times codes figures = record { held = held; legs = legLists legs times; places = numbers codes figures }
+rowLists held legs times codes figures = record { held = held; legs = legLists legs times; stops = numbers codes figures }
 
 -- row i of at most 128 calls, each of one of the 64 places, can be filled
 pub record RowReady (x : RowLists) (i : ℕ) (old : Table) : Type 0 where
@@ -169,12 +168,11 @@ pub record RowReady (x : RowLists) (i : ℕ) (old : Table) : Type 0 where
   pub few : length (x .held) ≤ 128
   pub below : Below64 (x .held)
   pub legs-long : LegsLong (x .legs)
-  pub places-long : Long (x .places)
+  pub stops-long : Long (x .stops)
   pub table-long : Sized old
 
--- row i of the calls held is filled, for whatever tables the lists are worked out from; r is the place of the call that ends it, or the
--- number of calls
+-- row i of the calls held is filled, for whatever tables the lists are worked out from; r is how many calls it goes over
 unfoldable pub Rowed : (Tables → Instance) → RowLists → ℕ → Table → Table → ℕ → Type 0
 Rowed I x i old new r =
-    (t : Tables) → WorkedOut t (x .places) → LegsAre t (x .held) (x .legs)
-    → RowOf (tariff (I t)) (drop i (x .held)) i old new × Ended (tariff (I t)) (drop i (x .held)) (r - i)
+    (t : Tables) → WorkedOut t (x .stops) → LegsAre t (x .held) (x .legs)
+    → RowOf (tariff (I t)) (drop i (x .held)) i old new × Ended (tariff (I t)) (drop i (x .held)) r

@@ -2,7 +2,7 @@
 // call i, `held[i..j]` for each j behind it.
 ghost use mathlib.Core.Path.{_≡_};
 ghost use mathlib.Core.Option.{none, some};
-ghost use Prim.Native.Nat.{_<_, _≤_};
+ghost use Prim.Native.Nat.{_+_, _<_, _≤_};
 ghost use lib.ListN.{length};
 ghost use Rattle.models.specs.Records.{openingOf, penaltyOf, customerOf, breakOf};
 ghost use Rattle.clock.specs.Records.{clockOf};
@@ -77,7 +77,7 @@ pub fn visit(customer: Customer, time: f64, late_cost: f64) -> Visited
 }
 
 // Row i without a break: each run that starts at call i, after the best of the calls before it. Gives
-// the place of the call that ends the row, since no run with it is legal, or the number of calls.
+// how many calls the row goes over; no run that goes on from there is legal.
 pub fn plain_row(
     cost: &mut [f64; 129],
     dist: &mut [f64; 129],
@@ -98,7 +98,7 @@ pub fn plain_row(
         let old = table (now (cost .entry)) (now (dist .entry)) (now (pred .entry)) in
         let new = table (now (cost .exit)) (now (dist .exit)) (now (pred .exit)) in
         ⌜ Rowed (λ t. overBy t terms none) x i old new r ⌝ }
-    ensures { λ r. ⌜ (i ≤ r) × (r ≤ length (now (held .entry))) ⌝ }
+    ensures { λ r. ⌜ i + r ≤ length (now (held .entry)) ⌝ }
 {
     let base = cost[i] + terms.fixed;
     let before = dist[i];
@@ -106,23 +106,25 @@ pub fn plain_row(
     let mut gone = 0.0;
     let mut time = 0.0;
     let mut late_cost = 0.0;
-    let mut j = i;
-    while j < held.len() {
-        let last = j;
-        j += 1;
+    let left = held.len() - i;
+    let mut m = 0;
+    while m < left {
+        let last = i + m;
+        let j = last + 1;
         let run = &held[i..j];
         let stop = stop_at(codes, figures, last_call(run));
         load = load.plus(stop.customer.demand);
         if !load.fits(terms.capacity) {
-            return last;
+            return m;
         }
         gone = way_to(run, stop.out, gone, legs[last]);
         let arrival = way_to(run, stop.time_out, time, time_legs[last]);
         let Visited::Open(v) = visit(stop.customer, arrival, late_cost) else {
-            return last;
+            return m;
         };
         time = v.time;
         late_cost = v.late_cost;
+        m += 1;
         let total = gone + stop.back;
         if !terms.limits.allow(total, time + stop.time_back) {
             continue;
@@ -131,7 +133,7 @@ pub fn plain_row(
         let far = before + total;
         offer(&mut *cost, &mut *dist, &mut *pred, j, i, new, far);
     }
-    j
+    m
 }
 
 // The clock of a run, from that of the run without its last call: it serves that call, as `push` does.
@@ -173,29 +175,31 @@ pub fn rest_row(
         let old = table (now (cost .entry)) (now (dist .entry)) (now (pred .entry)) in
         let new = table (now (cost .exit)) (now (dist .exit)) (now (pred .exit)) in
         ⌜ Rowed (λ t. overBy t terms (some (breakOf rest))) x i old new r ⌝ }
-    ensures { λ r. ⌜ (i ≤ r) × (r ≤ length (now (held .entry))) ⌝ }
+    ensures { λ r. ⌜ i + r ≤ length (now (held .entry)) ⌝ }
 {
     let base = cost[i] + terms.fixed;
     let before = dist[i];
     let mut load = Load::none();
     let mut gone = 0.0;
     let mut clock = BreakClock::new(rest);
-    let mut j = i;
-    while j < held.len() {
-        let last = j;
-        j += 1;
+    let left = held.len() - i;
+    let mut m = 0;
+    while m < left {
+        let last = i + m;
+        let j = last + 1;
         let run = &held[i..j];
         let stop = stop_at(codes, figures, last_call(run));
         load = load.plus(stop.customer.demand);
         if !load.fits(terms.capacity) {
-            return last;
+            return m;
         }
         gone = way_to(run, stop.out, gone, legs[last]);
         let travel = leg_to(run, stop.time_out, time_legs[last]);
         clock = pushed(clock, run, stop.customer, travel);
         if !clock.alive() {
-            return last;
+            return m;
         }
+        m += 1;
         let total = gone + stop.back;
         let Finished::Home(done) = clock.finish(total, stop.time_back) else {
             continue;
@@ -207,7 +211,7 @@ pub fn rest_row(
         let far = before + total;
         offer(&mut *cost, &mut *dist, &mut *pred, j, i, new, far);
     }
-    j
+    m
 }
 
 // Row i, with the break of the limits or without one.
@@ -231,7 +235,7 @@ pub fn row(
         let old = table (now (cost .entry)) (now (dist .entry)) (now (pred .entry)) in
         let new = table (now (cost .exit)) (now (dist .exit)) (now (pred .exit)) in
         ⌜ Rowed (λ t. over t terms) x i old new r ⌝ }
-    ensures { λ r. ⌜ (i ≤ r) × (r ≤ length (now (held .entry))) ⌝ }
+    ensures { λ r. ⌜ i + r ≤ length (now (held .entry)) ⌝ }
 {
     let limits = terms.limits;
     let rest = limits.rest;

@@ -1,5 +1,5 @@
 -- What is gathered once for a cut: what each record asks for, and the legs along the calls. Written one by one, and read along a row. Assumes nothing.
-use Prim.Native.Nat.{ℕ, suc, _+_, _-_, _<_, _≤_}
+use Prim.Native.Nat.{ℕ, suc, _+_, _<_, _≤_}
 use native.Mathlib.Nat.{not-suc-le-zero}
 use native.Mathlib.Omega.{arith}
 use mathlib.Core.Path.{_≡_, refl, sym, ap, subst, fun-ext, _∙_}
@@ -97,41 +97,40 @@ module _ (leg : ℕ → ℕ → Float) (calls : List ℕ) where
 
 -- ---- a row
 
--- what the loop of row i keeps, where the next run is that up to call j and with it
-pub record Running (T : Tariff) (held : List ℕ) (R : Row) (new : Table) (out : Float) (load : Load) (gone : Float) (j : ℕ) : Type 0 where
+-- what the loop of row i keeps after m calls
+pub record Running (T : Tariff) (held : List ℕ) (R : Row) (new : Table) (out : Float) (load : Load) (gone : Float) (m : ℕ) : Type 0 where
   pub out-is : out ≡ T .leg 0 (getD held (R .i) 0)
-  pub from : R .i ≤ j
-  pub within : j ≤ length held
+  pub within : R .i + m ≤ length held
   pub light : UpTo 1 load
-  pub along : Along T R new load gone (placeBefore (R .st) (j - R .i)) (j - R .i)
+  pub along : Along T R new load gone (placeBefore (R .st) m) m
 
 -- a call fits, and its run is offered
-module _ {T : Tariff} {held : List ℕ} {i : ℕ} {old : Table} {base ahead : Float} {new : Table} {out : Float} {load : Load} {gone : Float} {j : ℕ}
-    (A : Running T held (rowFrom (drop i held) i old base ahead) new out load gone j) (few : length held ≤ 128) (h : j < length held)
-    (ins backs : List Float) (L : LegsOf (T .leg) held ins backs) {run : List ℕ} (Q : RunIs held i j run) where
+module _ {T : Tariff} {held : List ℕ} {i : ℕ} {old : Table} {base ahead : Float} {new : Table} {out : Float} {load : Load} {gone : Float} {m : ℕ}
+    (A : Running T held (rowFrom (drop i held) i old base ahead) new out load gone m) (few : length held ≤ 128) (h : i + m < length held)
+    (ins backs : List Float) (L : LegsOf (T .leg) held ins backs) {run : List ℕ} (Q : RunIs held i m run) where
   abbrev st : List ℕ
   st = drop i held
 
-  pub home-is : getD backs j nan ≡ T .leg (getD st (j - i) 0) 0
-  home-is = let e : i + (j - i) ≡ j = omega (arith, A .from) in L .backs-are j h ∙ rw (getD-drop i held (j - i) 0, e) refl
+  pub home-is : getD backs (i + m) nan ≡ T .leg (getD st m 0) 0
+  home-is = L .backs-are (i + m) h ∙ rw (getD-drop i held m 0) refl
 
-  leg-is : legTo run out (getD ins j nan) ≡ T .leg (placeBefore st (j - i)) (getD st (j - i) 0)
+  leg-is : legTo run out (getD ins (i + m) nan) ≡ T .leg (placeBefore st m) (getD st m 0)
   leg-is =
-      leg-into (T .leg) held (A .from) Q out (getD ins j nan)
-      (λ z. let e : i + (j - i) ≡ i = omega arith in A .out-is ∙ rw (getD-drop i held (j - i) 0, e) refl)
-      (λ p. L .ins-are j (omega arith) h)
+      leg-into (T .leg) Q out (getD ins (i + m) nan)
+      (λ z. let e : i + m ≡ i = omega arith in A .out-is ∙ rw (getD-drop i held m 0, e) refl)
+      (λ p. L .ins-are (i + m) (omega arith) h)
 
   pub one-more : (load' : Load) (gone' : Float) (d : Load) → d ≡ T .demand (lastOf run) → load' ≡ plus load d → carried load' (T .capacity) ≡ true
-      → gone' ≡ wayTo run out gone (getD ins j nan) → OneMore T (rowFrom st i old base ahead) load gone (placeBefore st (j - i)) (j - i) load' gone'
+      → gone' ≡ wayTo run out gone (getD ins (i + m) nan) → OneMore T (rowFrom st i old base ahead) load gone (placeBefore st m) m load' gone'
   one-more load' gone' d ed es ef eg =
       record {
-        inside = simp length-drop (omega (arith, A .from));
-        short = simp length-drop (omega (arith, A .from));
+        inside = simp length-drop (omega arith);
+        short = simp length-drop (omega arith);
         demand = d;
-        leg = legTo run out (getD ins j nan);
+        leg = legTo run out (getD ins (i + m) nan);
         is-demand = ed ∙ ap (T .demand) (Q .is-last);
         is-load = es;
         fits = ef;
         is-leg = leg-is;
-        is-gone = way-is Q gone' out gone (getD ins j nan) eg;
+        is-gone = way-is Q gone' out gone (getD ins (i + m) nan) eg;
       }

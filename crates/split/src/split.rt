@@ -84,10 +84,11 @@ pub fn row(
     let out = get(distances, size, 0, call_at(held, i));
     let mut load = Load::none();
     let mut gone = 0.0;
-    let mut j = i;
-    while j < held.len() {
-        let last = j;
-        j += 1;
+    let left = held.len() - i;
+    let mut m = 0;
+    while m < left {
+        let last = i + m;
+        let j = last + 1;
         let run = &held[i..j];
         load = load.plus(demand_at(demands, last_call(run)));
         if !load.fits(capacity) {
@@ -95,6 +96,7 @@ pub fn row(
         }
         gone = way_to(run, out, gone, ins[last]);
         let total = gone + backs[last];
+        m += 1;
         let new = base + total;
         let far = before + total;
         offer(&mut *cost, &mut *dist, &mut *pred, j, i, new, far);

@@ -26,7 +26,7 @@ pub fn split_tw(
         let new = cutOutput (now (served .exit)) (now («run_ends» .exit)) (now (dropped .exit)) in
         ⌜ SplitTwContract sheet (now (tour .entry)) old r new ⌝ }
 {
-    cut_theory::split_tw(
+    cutting::split_tw(
         head,
         &customers,
         distances,

@@ -42,7 +42,7 @@ refill-requires c κs =
               few = r .few;
               below = r .below;
               legs-long = g .write-legs .ensures .long;
-              places-long = r .places-long;
+              stops-long = r .stops-long;
               table-long = r .table-long;
             };
         reach-long = s .pre .0 .reach-long;

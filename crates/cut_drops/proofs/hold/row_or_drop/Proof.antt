@@ -2,8 +2,6 @@
 use Prim.Native.Nat.{_-_}
 use native.Mathlib.Omega.{arith}
 use mathlib.Core.Path.{sym}
-use mathlib.Core.List.{List}
-use lib.ListN.{take}
 use lib.Seq.{length-take-le}
 use denote.Ref.{now}
 use Rattle.cut_stops.specs.Stops.{legLists}
@@ -77,7 +75,7 @@ noted-row-requires c κs =
             few = omega (arith, m, p .few);
             below = p .below;
             legs-long = p .legs-long;
-            places-long = some-lists (lent top) (p .lists) .long;
+            stops-long = some-lists (lent top) (p .lists) .long;
             table-long = p .rows-long .table-long;
           };
       reach-long = p .rows-long .reach-long;
@@ -150,7 +148,7 @@ close-gap-requires c κs =
               few = omega (arith, m, p .few);
               below = below-after (a .n) (a .i) (now (a .held)) _ b long less (p .below);
               legs-long = p .legs-long;
-              places-long = w .long;
+              stops-long = w .long;
               table-long = z .table-long;
             };
         reach-long = z .reach-long;

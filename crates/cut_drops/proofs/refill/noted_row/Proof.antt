@@ -12,6 +12,9 @@ use Rattle.cut_drops.proofs.refill.noted_row.Tie as tie
 row-requires : tie.Need-row-requires
 row-requires c κs = search needs
 
+add-reach : tie.Need-add-reach
+add-reach c = search needs
+
 mul-reach : tie.Need-mul-reach
 mul-reach c = search needs
 
@@ -28,4 +31,4 @@ returns c =
     (omega (arith, s .pre .reach-long, s .pre .row .inside, s .pre .row .few))
 
 pub noted-row-spec : {M : Type 1} → statement M
-noted-row-spec = tie.close (tie.spec row-requires mul-reach element-write-reach returns)
+noted-row-spec = tie.close (tie.spec row-requires add-reach mul-reach element-write-reach returns)

@@ -95,7 +95,7 @@ noted-row-requires c κs =
             few = r .few;
             below = r .below;
             legs-long = r .legs-long;
-            places-long = r .places-long;
+            stops-long = r .stops-long;
             table-long = v .table-long;
           };
       reach-long = v .reach-long;

@@ -1,5 +1,5 @@
--- `rows::plain_row` meets its contract. The loop's invariant is `PlainAlong` for whatever tables the lists are worked out from: where the next run ends with call j, load, way, time and
--- lateness cost are those of the calls from i up to it, and the cells up to j are as the row leaves them. The measure is how many calls are left. Assumes nothing.
+-- `rows::plain_row` meets its contract. The loop's invariant is `PlainAlong` for whatever tables the lists are worked out from: after m calls of the row, load, way, time and lateness cost are
+-- those of these calls, and the cells up to i + m are as the row leaves them. The measure is how many calls are left. Assumes nothing.
 use Prim.Native.Nat.{ℕ, _+_, _-_, _<_, _≤_}
 use native.Mathlib.Omega.{arith}
 use mathlib.Core.Path.{_≡_, refl, sym, ap, subst, _∙_}
@@ -16,7 +16,7 @@ use Rattle.models.specs.Load.{loadOf, UpTo, none-up-to, up-to-more}
 use Rattle.whole.proofs.Bits.{fl-zero}
 use Rattle.evaluation.specs.Records.{Tables}
 use Rattle.cut_stops.specs.Stops.{stopOf, stopAt, WorkedOut, LegsLong, LegsAre}
-use Rattle.cut_table.specs.Table.{Table, table}
+use Rattle.cut_table.specs.Table.{table}
 use Rattle.cut_rows.specs.declared.rows.Visited.the-variants.{Shut, Open}
 use Rattle.cut_rows.specs.Stretch.{joinedF, legTo}
 use Rattle.cut_rows.specs.Runs.{Instance, visitedOf, overBy, tariff, RowLists, rowLists, Rowed}
@@ -30,15 +30,14 @@ use Rattle.cut_rows.proofs.rows.plain_row.Statement.{statement}
 use Rattle.cut_rows.proofs.rows.plain_row.Tie as tie
 
 abbrev Inv-loop : tie.InvT-loop
-Inv-loop cost₀ dist₀ pred₀ held legs time-legs codes figures terms i base before load₀ gone₀ time₀ late-cost₀ j₀ cost dist pred load gone time late-cost j =
-    Going (rowLists held legs time-legs codes figures) i (loadOf load) j
+Inv-loop cost₀ dist₀ pred₀ held legs time-legs codes figures terms i base before load₀ gone₀ time₀ late-cost₀ left m₀ cost dist pred load gone time late-cost m =
+    Going (rowLists held legs time-legs codes figures) i (loadOf load) m
     (λ t.
-    PlainAlong (overBy t terms none) (rowFrom (drop i held) i (table cost₀ dist₀ pred₀) base before) (table cost dist pred) (loadOf load) gone time late-cost
-    (j - i))
+    PlainAlong (overBy t terms none) (rowFrom (drop i held) i (table cost₀ dist₀ pred₀) base before) (table cost dist pred) (loadOf load) gone time late-cost m)
 
 abbrev μ-loop : tie.MeasureT-loop
-μ-loop cost₀ dist₀ pred₀ held legs time-legs codes figures terms i base before load₀ gone₀ time₀ late-cost₀ j₀ cost dist pred load gone time late-cost j =
-    length held - j
+μ-loop cost₀ dist₀ pred₀ held legs time-legs codes figures terms i base before load₀ gone₀ time₀ late-cost₀ left m₀ cost dist pred load gone time late-cost m =
+    left - m
 
 -- ---- the places of the code that the needs look back to
 
@@ -61,53 +60,53 @@ module _ (r : tie.After-run Inv-loop μ-loop) where
   abbrev turn : tie.At-loop Inv-loop μ-loop
   turn = r .before .before
 
-  is-run : RunIs (lists (turn .before) .held) (begun (turn .before) .args .i) (turn .loop .j)
-      (take (turn .loop .j + 1 - begun (turn .before) .args .i) (drop (begun (turn .before) .args .i) (lists (turn .before) .held)))
-  is-run = run-is _ _ _ (turn .loop .inv .from) (r .before .loop-test .taken)
+  ahead-run : begun (turn .before) .args .i + turn .loop .m < length (lists (turn .before) .held)
+  ahead-run = omega (arith, r .before .loop-test .taken)
+
+  is-run : RunIs (lists (turn .before) .held) (begun (turn .before) .args .i) (turn .loop .m)
+      (take (begun (turn .before) .args .i + turn .loop .m + 1 - begun (turn .before) .args .i) (drop (begun (turn .before) .args .i) (lists (turn .before) .held)))
+  is-run = run-is _ _ _ ahead-run
 
 -- its last call
 module _ (p : tie.After-stop-at Inv-loop μ-loop) where
   abbrev top : tie.At-loop Inv-loop μ-loop
   top = turn (p .before .before)
 
-  -- of the calls held: the numbers of the first call and of this one, and how many calls of the stretch come before it
+  -- the number of the row's first call, and how many calls of the row come before this one
   abbrev i : ℕ
   i = begun (top .before) .args .i
 
-  abbrev j : ℕ
-  j = top .loop .j
+  abbrev m : ℕ
+  m = top .loop .m
 
   abbrev x : RowLists
   x = lists (top .before)
 
   abbrev run : List ℕ
-  run = take (j + 1 - i) (drop i (x .held))
+  run = take (i + m + 1 - i) (drop i (x .held))
 
-  left : j < length (x .held)
-  left = p .before .before .before .loop-test .taken
+  ahead : i + m < length (x .held)
+  ahead = ahead-run (p .before .before)
 
   few : (length (x .held) ≤ 128) × LegsLong (x .legs)
   few = (begun (top .before) .pre .few, begun (top .before) .pre .legs-long)
 
-  inside : j - i < length (drop i (x .held))
-  inside = simp length-drop (omega (arith, left, top .loop .inv .from))
+  inside : m < length (drop i (x .held))
+  inside = simp length-drop (omega (arith, ahead))
 
   short : i + length (drop i (x .held)) ≤ 128
   short = simp length-drop (omega (arith, few .0, begun (top .before) .pre .inside))
 
-  one-more : j + 1 - i ≡ j - i + 1
-  one-more = omega (arith, top .loop .inv .from)
+  next-cell : i + m + 1 ≡ i + (m + 1)
+  next-cell = omega arith
 
-  next-cell : j + 1 ≡ i + (j - i + 1)
-  next-cell = omega (arith, top .loop .inv .from)
-
-  called : (t : Tables) → WorkedOut t (x .places) → LegsAre t (x .held) (x .legs)
-      → (leg travel : Float) → leg ≡ legTo run (stopOf (p .stop-at .result) .out) (getD (x .legs .distances) j nan)
-      → travel ≡ legTo run (stopOf (p .stop-at .result) .timeOut) (getD (x .legs .times) j nan)
-      → CallIs t (drop i (x .held)) (j - i) (stopOf (p .stop-at .result)) leg travel
+  called : (t : Tables) → WorkedOut t (x .stops) → LegsAre t (x .held) (x .legs)
+      → (leg travel : Float) → leg ≡ legTo run (stopOf (p .stop-at .result) .out) (getD (x .legs .distances) (i + m) nan)
+      → travel ≡ legTo run (stopOf (p .stop-at .result) .timeOut) (getD (x .legs .times) (i + m) nan)
+      → CallIs t (drop i (x .held)) m (stopOf (p .stop-at .result)) leg travel
   called t W L leg travel el et =
-      call-is t x W L (begun (top .before) .pre .below) (top .loop .inv .from) left (is-run (p .before .before))
-      (stopOf (p .stop-at .result)) leg travel (p .stop-at .ensures ∙ ap (stopAt (x .places)) (p .before .last-call .ensures)) el et
+      call-is t x W L (begun (top .before) .pre .below) (is-run (p .before .before)) ahead
+      (stopOf (p .stop-at .result)) leg travel (p .stop-at .ensures ∙ ap (stopAt (x .stops)) (p .before .last-call .ensures)) el et
 
 -- its load fits
 abbrev stop : tie.Else1 Inv-loop μ-loop → tie.After-stop-at Inv-loop μ-loop
@@ -119,13 +118,15 @@ module _ (v : tie.After-visit Inv-loop μ-loop) where
   branch = v .before .before .before .before .before
 
   far-way : v .before .before .before .way-to .result
-      ≡ joinedF (top (stop branch) .loop .gone) (legTo (run (stop branch)) (stopOf (stop branch .stop-at .result) .out) (getD (x (stop branch) .legs .distances) (j (stop branch)) nan))
-      (eqb (j (stop branch) - i (stop branch)) 0)
+      ≡ joinedF (top (stop branch) .loop .gone)
+      (legTo (run (stop branch)) (stopOf (stop branch .stop-at .result) .out) (getD (x (stop branch) .legs .distances) (i (stop branch) + m (stop branch)) nan))
+      (eqb (m (stop branch)) 0)
   far-way = way-is (is-run (stop branch .before .before)) _ _ _ _ (v .before .before .before .way-to .ensures)
 
   time-way : v .before .way-to2 .result
-      ≡ joinedF (top (stop branch) .loop .time) (legTo (run (stop branch)) (stopOf (stop branch .stop-at .result) .timeOut) (getD (x (stop branch) .legs .times) (j (stop branch)) nan))
-      (eqb (j (stop branch) - i (stop branch)) 0)
+      ≡ joinedF (top (stop branch) .loop .time)
+      (legTo (run (stop branch)) (stopOf (stop branch .stop-at .result) .timeOut) (getD (x (stop branch) .legs .times) (i (stop branch) + m (stop branch)) nan))
+      (eqb (m (stop branch)) 0)
   time-way = way-is (is-run (stop branch .before .before)) _ _ _ _ (v .before .way-to2 .ensures)
 
 -- the limits are asked
@@ -151,35 +152,38 @@ element-copy-out-before c = search needs
 none-requires : tie.Need-none-requires Inv-loop μ-loop
 none-requires c κs = search needs
 
+sub-left : tie.Need-sub-left Inv-loop μ-loop
+sub-left c = search needs
+
 loop-holds : tie.Need-loop-holds Inv-loop μ-loop
 loop-holds c =
     let s = begun c in
     let a = s .args in
-    let none-yet : a .i - a .i ≡ 0 = omega arith in
     record {
-      from = omega arith;
-      within = s .pre .inside;
+      within = omega (arith, s .pre .inside);
       light = subst (UpTo 1) (sym (c .none .ensures)) (up-to-more 0 1 noLoad (omega arith) none-up-to);
       keeps =
           λ t W L.
-          rw none-yet
           (plain-setout (setout (tariff (over c t)) (rowAt c _ _) _ _ (c .none .ensures) (sym fl-zero) (s .pre .table-long) refl refl) (sym fl-zero) (sym fl-zero));
     }
 
+add-last : tie.Need-add-last Inv-loop μ-loop
+add-last c = let s = begun (c .before .before) in omega (arith, s .pre .inside, c .loop-test .taken)
+
 add-j : tie.Need-add-j Inv-loop μ-loop
-add-j c = search needs
+add-j c = let s = begun (c .before .before) in omega (arith, s .pre .inside, c .loop-test .taken)
 
 mul-run : tie.Need-mul-run Inv-loop μ-loop
-mul-run c = search needs
+mul-run c = let s = begun (c .before .before) in omega (arith, s .pre .inside, s .pre .few, c .loop-test .taken)
 
 sub-run : tie.Need-sub-run Inv-loop μ-loop
-sub-run c = let l = c .before in omega (arith, l .loop .inv .from)
+sub-run c = omega arith
 
 part-run-start : tie.Need-part-run-start Inv-loop μ-loop
-part-run-start c = let l = c .before in omega (arith, l .loop .inv .from)
+part-run-start c = omega arith
 
 part-run-end : tie.Need-part-run-end Inv-loop μ-loop
-part-run-end c = search needs
+part-run-end c = let s = begun (c .before .before) in omega (arith, s .pre .inside, c .loop-test .taken)
 
 last-call-requires : tie.Need-last-call-requires Inv-loop μ-loop
 last-call-requires c κs = is-run c .some
@@ -189,7 +193,7 @@ stop-at-requires c κs =
     let r = c .before in
     let l = turn r in
     let pre = begun (l .before) .pre in
-    (pre .places-long, subst (λ (k : ℕ). k < 64) (sym (c .last-call .ensures ∙ is-run r .is-last)) (call-below _ _ _ (pre .below) (l .loop .inv .from) (r .before .loop-test .taken)))
+    (pre .stops-long, subst (λ (k : ℕ). k < 64) (sym (c .last-call .ensures ∙ is-run r .is-last)) (call-below _ _ _ (pre .below) (ahead-run r)))
 
 plus-requires : tie.Need-plus-requires Inv-loop μ-loop
 plus-requires c κs =
@@ -208,23 +212,23 @@ returns c =
       λ t W L.
           overloaded (l .loop .inv .keeps t W L .along) (inside p) _ _ (called p t W L _ _ refl refl .demand-is) (f .before .plus .ensures .0)
           (fails _ _ (f .fits2 .ensures .0) (c .if1 .taken)),
-      (l .loop .inv .from, l .loop .inv .within),
+      l .loop .inv .within,
     )
 
 mul-way-to : tie.Need-mul-way-to Inv-loop μ-loop
 mul-way-to c = search needs
 
 shared-slice-read-way-to : tie.Need-shared-slice-read-way-to Inv-loop μ-loop
-shared-slice-read-way-to c = let p = stop (c .before) in omega (arith, left p, few p .0, few p .1 .distances-long)
+shared-slice-read-way-to c = let p = stop (c .before) in omega (arith, ahead p, few p .0, few p .1 .distances-long)
 
 way-to-requires : tie.Need-way-to-requires Inv-loop μ-loop
 way-to-requires c κs = search needs
 
 mul-way-to-2 : tie.Need-mul-way-to-2 Inv-loop μ-loop
-mul-way-to-2 c = let p = stop (c .before .before) in omega (arith, left p, few p .0)
+mul-way-to-2 c = let p = stop (c .before .before) in omega (arith, ahead p, few p .0)
 
 shared-slice-read-way-to-2 : tie.Need-shared-slice-read-way-to-2 Inv-loop μ-loop
-shared-slice-read-way-to-2 c = let p = stop (c .before .before .before) in omega (arith, left p, few p .0, few p .1 .times-long)
+shared-slice-read-way-to-2 c = let p = stop (c .before .before .before) in omega (arith, ahead p, few p .0, few p .1 .times-long)
 
 way-to-requires-2 : tie.Need-way-to-requires-2 Inv-loop μ-loop
 way-to-requires-2 c κs = search needs
@@ -249,14 +253,17 @@ returns-2 c =
       λ t W L.
           shut (over (l .before) t) refl _ _ _ _ (l .loop .inv .keeps t W L) (called p t W L _ _ refl refl) (inside p) (short p) (b .before .before .plus .ensures .0)
           (holds _ _ (b .before .fits2 .ensures .0) (b .if1 .left)) (far-way v) (time-way v) (sym (v .visit .ensures) ∙ ap visitedOf e),
-      (l .loop .inv .from, l .loop .inv .within),
+      l .loop .inv .within,
     )
+
+add-m : tie.Need-add-m Inv-loop μ-loop
+add-m c = let p = stop (branch (c .before .before .before)) in omega (arith, ahead p, few p .0)
 
 allow-requires : tie.Need-allow-requires Inv-loop μ-loop
 allow-requires c κs = search needs
 
 loop-less : tie.Need-loop-less Inv-loop μ-loop
-loop-less c = let p = stop (branch (visited (c .before))) in omega (arith, left p)
+loop-less c = let p = stop (branch (visited (c .before))) in omega (arith, ahead p)
 
 loop-again : tie.Need-loop-again Inv-loop μ-loop
 loop-again c =
@@ -267,21 +274,20 @@ loop-again c =
     let w = c .before .before .before .before .before in
     let e : v .visit .result ≡ Open (w .v .given .0 .0) = search (needs, w .v) in
     record {
-      from = omega (arith, l .loop .inv .from);
-      within = omega (arith, left p);
+      within = omega (arith, ahead p);
       light = b .before .fits2 .ensures .1 (not-false _ (b .if1 .left));
       keeps =
           λ t W L.
           skip (over (l .before) t) refl _ _ _ _ (l .loop .inv .keeps t W L) (called p t W L _ _ refl refl) (inside p) (short p) (b .before .before .plus .ensures .0)
-          (holds _ _ (b .before .fits2 .ensures .0) (b .if1 .left)) (far-way v) (time-way v) _ (sym (v .visit .ensures) ∙ ap visitedOf e) _ (one-more p)
+          (holds _ _ (b .before .fits2 .ensures .0) (b .if1 .left)) (far-way v) (time-way v) _ (sym (v .visit .ensures) ∙ ap visitedOf e)
           (fails _ _ (c .before .allow .ensures) (c .if2 .taken));
     }
 
 offer-requires : tie.Need-offer-requires Inv-loop μ-loop
-offer-requires c κs = let p = stop (branch (visited (allowed c))) in omega (arith, left p, few p .0)
+offer-requires c κs = let p = stop (branch (visited (allowed c))) in omega (arith, ahead p, few p .0)
 
 loop-less-2 : tie.Need-loop-less-2 Inv-loop μ-loop
-loop-less-2 c = let p = stop (branch (visited (allowed (c .before)))) in omega (arith, left p)
+loop-less-2 c = let p = stop (branch (visited (allowed (c .before)))) in omega (arith, ahead p)
 
 loop-again-2 : tie.Need-loop-again-2 Inv-loop μ-loop
 loop-again-2 c =
@@ -293,13 +299,12 @@ loop-again-2 c =
     let w = g .before .before .before .before in
     let e : v .visit .result ≡ Open (w .v .given .0 .0) = search (needs, w .v) in
     record {
-      from = omega (arith, l .loop .inv .from);
-      within = omega (arith, left p);
+      within = omega (arith, ahead p);
       light = b .before .fits2 .ensures .1 (not-false _ (b .if1 .left));
       keeps =
           λ t W L.
           put (over (l .before) t) refl _ _ _ _ (l .loop .inv .keeps t W L) (called p t W L _ _ refl refl) (inside p) (short p) (b .before .before .plus .ensures .0)
-          (holds _ _ (b .before .fits2 .ensures .0) (b .if1 .left)) (far-way v) (time-way v) _ (sym (v .visit .ensures) ∙ ap visitedOf e) _ (one-more p) _ _
+          (holds _ _ (b .before .fits2 .ensures .0) (b .if1 .left)) (far-way v) (time-way v) _ (sym (v .visit .ensures) ∙ ap visitedOf e) _ _
           (holds _ _ (g .allow .ensures) (c .before .before .before .before .if2 .left)) (next-cell p) (c .offer .ensures);
     }
 
@@ -308,7 +313,7 @@ unfolding Rowed
 returns-3 c =
     let l = c .before in (
       λ t W L. run-out (l .loop .inv .keeps t W L .along) (simp length-drop (omega (arith, c .loop-test .left))),
-      (l .loop .inv .from, l .loop .inv .within),
+      l .loop .inv .within,
     )
 
 pub plain-row-spec : {M : Type 1} → statement M
@@ -322,7 +327,9 @@ plain-row-spec =
     mul-before
     element-copy-out-before
     none-requires
+    sub-left
     loop-holds
+    add-last
     add-j
     mul-run
     sub-run
@@ -343,6 +350,7 @@ plain-row-spec =
     enum-known-v
     enum-told
     returns-2
+    add-m
     allow-requires
     loop-less
     loop-again

@@ -1,5 +1,5 @@
--- `rows::rest_row` meets its contract. The loop's invariant is `RestAlong` for whatever tables the lists are worked out from: where the next run ends with call j, load, way and clock are
--- those of the calls from i up to it, and the cells up to j are as the row leaves them. The measure is how many calls are left. Assumes nothing.
+-- `rows::rest_row` meets its contract. The loop's invariant is `RestAlong` for whatever tables the lists are worked out from: after m calls of the row, load, way and clock are those of these calls,
+-- and the cells up to i + m are as the row leaves them. The measure is how many calls are left. Assumes nothing.
 use Prim.Native.Nat.{ℕ, _+_, _-_, _<_, _≤_}
 use native.Mathlib.Omega.{arith}
 use mathlib.Core.Path.{_≡_, refl, sym, ap, subst, _∙_}
@@ -34,16 +34,16 @@ use Rattle.cut_rows.proofs.rows.rest_row.Statement.{statement}
 use Rattle.cut_rows.proofs.rows.rest_row.Tie as tie
 
 abbrev Inv-loop : tie.InvT-loop
-Inv-loop cost₀ dist₀ pred₀ held legs time-legs codes figures terms i base before load₀ gone₀ clock₀ j₀ cost dist pred load gone clock j =
-    Going (rowLists held legs time-legs codes figures) i (loadOf load) j
+Inv-loop cost₀ dist₀ pred₀ held legs time-legs codes figures terms i base before load₀ gone₀ clock₀ left m₀ cost dist pred load gone clock m =
+    Going (rowLists held legs time-legs codes figures) i (loadOf load) m
     (λ t.
     RestAlong (overBy t terms (some (clockOf clock₀ .rest))) (clockOf clock₀ .rest) (rowFrom (drop i held) i (table cost₀ dist₀ pred₀) base before) (table cost dist pred)
-    (loadOf load) gone (clockOf clock) (j - i))
-    × (clockOf clock .index ≡ j - i + 1)
+    (loadOf load) gone (clockOf clock) m)
+    × (clockOf clock .index ≡ m + 1)
 
 abbrev μ-loop : tie.MeasureT-loop
-μ-loop cost₀ dist₀ pred₀ held legs time-legs codes figures terms i base before load₀ gone₀ clock₀ j₀ cost dist pred load gone clock j =
-    length held - j
+μ-loop cost₀ dist₀ pred₀ held legs time-legs codes figures terms i base before load₀ gone₀ clock₀ left m₀ cost dist pred load gone clock m =
+    left - m
 
 -- ---- the places of the code that the needs look back to
 
@@ -77,53 +77,53 @@ module _ (r : tie.After-run Inv-loop μ-loop) where
   abbrev turn : tie.At-loop Inv-loop μ-loop
   turn = r .before .before
 
-  is-run : RunIs (lists (turn .before) .held) (begun (turn .before) .args .i) (turn .loop .j)
-      (take (turn .loop .j + 1 - begun (turn .before) .args .i) (drop (begun (turn .before) .args .i) (lists (turn .before) .held)))
-  is-run = run-is _ _ _ (turn .loop .inv .0 .from) (r .before .loop-test .taken)
+  ahead-run : begun (turn .before) .args .i + turn .loop .m < length (lists (turn .before) .held)
+  ahead-run = omega (arith, r .before .loop-test .taken)
+
+  is-run : RunIs (lists (turn .before) .held) (begun (turn .before) .args .i) (turn .loop .m)
+      (take (begun (turn .before) .args .i + turn .loop .m + 1 - begun (turn .before) .args .i) (drop (begun (turn .before) .args .i) (lists (turn .before) .held)))
+  is-run = run-is _ _ _ ahead-run
 
 -- its last call
 module _ (p : tie.After-stop-at Inv-loop μ-loop) where
   abbrev top : tie.At-loop Inv-loop μ-loop
   top = turn (p .before .before)
 
-  -- of the calls held: the numbers of the first call and of this one, and how many calls of the stretch come before it
+  -- the number of the row's first call, and how many calls of the row come before this one
   abbrev i : ℕ
   i = begun (top .before) .args .i
 
-  abbrev j : ℕ
-  j = top .loop .j
+  abbrev m : ℕ
+  m = top .loop .m
 
   abbrev x : RowLists
   x = lists (top .before)
 
   abbrev run : List ℕ
-  run = take (j + 1 - i) (drop i (x .held))
+  run = take (i + m + 1 - i) (drop i (x .held))
 
-  left : j < length (x .held)
-  left = p .before .before .before .loop-test .taken
+  ahead : i + m < length (x .held)
+  ahead = ahead-run (p .before .before)
 
   few : (length (x .held) ≤ 128) × LegsLong (x .legs)
   few = (begun (top .before) .pre .few, begun (top .before) .pre .legs-long)
 
-  inside : j - i < length (drop i (x .held))
-  inside = simp length-drop (omega (arith, left, top .loop .inv .0 .from))
+  inside : m < length (drop i (x .held))
+  inside = simp length-drop (omega (arith, ahead))
 
   short : i + length (drop i (x .held)) ≤ 128
   short = simp length-drop (omega (arith, few .0, begun (top .before) .pre .inside))
 
-  one-more : j + 1 - i ≡ j - i + 1
-  one-more = omega (arith, top .loop .inv .0 .from)
+  next-cell : i + m + 1 ≡ i + (m + 1)
+  next-cell = omega arith
 
-  next-cell : j + 1 ≡ i + (j - i + 1)
-  next-cell = omega (arith, top .loop .inv .0 .from)
-
-  called : (t : Tables) → WorkedOut t (x .places) → LegsAre t (x .held) (x .legs)
-      → (leg travel : Float) → leg ≡ legTo run (stopOf (p .stop-at .result) .out) (getD (x .legs .distances) j nan)
-      → travel ≡ legTo run (stopOf (p .stop-at .result) .timeOut) (getD (x .legs .times) j nan)
-      → CallIs t (drop i (x .held)) (j - i) (stopOf (p .stop-at .result)) leg travel
+  called : (t : Tables) → WorkedOut t (x .stops) → LegsAre t (x .held) (x .legs)
+      → (leg travel : Float) → leg ≡ legTo run (stopOf (p .stop-at .result) .out) (getD (x .legs .distances) (i + m) nan)
+      → travel ≡ legTo run (stopOf (p .stop-at .result) .timeOut) (getD (x .legs .times) (i + m) nan)
+      → CallIs t (drop i (x .held)) m (stopOf (p .stop-at .result)) leg travel
   called t W L leg travel el et =
-      call-is t x W L (begun (top .before) .pre .below) (top .loop .inv .0 .from) left (is-run (p .before .before))
-      (stopOf (p .stop-at .result)) leg travel (p .stop-at .ensures ∙ ap (stopAt (x .places)) (p .before .last-call .ensures)) el et
+      call-is t x W L (begun (top .before) .pre .below) (is-run (p .before .before)) ahead
+      (stopOf (p .stop-at .result)) leg travel (p .stop-at .ensures ∙ ap (stopAt (x .stops)) (p .before .last-call .ensures)) el et
 
 -- its load fits
 abbrev stop : tie.Else1 Inv-loop μ-loop → tie.After-stop-at Inv-loop μ-loop
@@ -135,12 +135,13 @@ module _ (c : tie.After-pushed Inv-loop μ-loop) where
   branch = c .before .before .before .before .before
 
   far-way : c .before .before .before .way-to .result
-      ≡ joinedF (top (stop branch) .loop .gone) (legTo (run (stop branch)) (stopOf (stop branch .stop-at .result) .out) (getD (x (stop branch) .legs .distances) (j (stop branch)) nan))
-      (eqb (j (stop branch) - i (stop branch)) 0)
+      ≡ joinedF (top (stop branch) .loop .gone)
+      (legTo (run (stop branch)) (stopOf (stop branch .stop-at .result) .out) (getD (x (stop branch) .legs .distances) (i (stop branch) + m (stop branch)) nan))
+      (eqb (m (stop branch)) 0)
   far-way = way-is (is-run (stop branch .before .before)) _ _ _ _ (c .before .before .before .way-to .ensures)
 
   served : clockOf (c .pushed .result)
-      ≡ pushF (clockOf (top (stop branch) .loop .clock)) (getD (drop (i (stop branch)) (x (stop branch) .held)) (j (stop branch) - i (stop branch)) 0)
+      ≡ pushF (clockOf (top (stop branch) .loop .clock)) (getD (drop (i (stop branch)) (x (stop branch) .held)) (m (stop branch)) 0)
       (stopOf (stop branch .stop-at .result) .customer) (c .before .leg-to .result)
   served =
       c .pushed .ensures
@@ -177,38 +178,41 @@ none-requires c κs = search needs
 new-requires : tie.Need-new-requires Inv-loop μ-loop
 new-requires c κs = search needs
 
+sub-left : tie.Need-sub-left Inv-loop μ-loop
+sub-left c = search needs
+
 loop-holds : tie.Need-loop-holds Inv-loop μ-loop
 loop-holds c =
     let s = begun c in
-    let a = s .args in
-    let none-yet : a .i - a .i ≡ 0 = omega arith in (
+    let a = s .args in (
       record {
-        from = omega arith;
-        within = s .pre .inside;
+        within = omega (arith, s .pre .inside);
         light = subst (UpTo 1) (sym (c .before .none .ensures)) (up-to-more 0 1 noLoad (omega arith) none-up-to);
         keeps =
             λ t W L.
-            rw none-yet
             (rest-setout (setout (tariff (over c t)) (rowAt c _ _) _ _ (c .before .none .ensures) (sym fl-zero) (s .pre .table-long) refl refl)
             (c .new .ensures ∙ ap begunF (sym (ap (λ (x : ClockF). x .rest) (c .new .ensures)))));
       },
-      first-index _ _ _ none-yet (c .new .ensures),
+      first-index _ _ (c .new .ensures),
     )
 
+add-last : tie.Need-add-last Inv-loop μ-loop
+add-last c = let s = begun (c .before .before) in omega (arith, s .pre .inside, c .loop-test .taken)
+
 add-j : tie.Need-add-j Inv-loop μ-loop
-add-j c = search needs
+add-j c = let s = begun (c .before .before) in omega (arith, s .pre .inside, c .loop-test .taken)
 
 mul-run : tie.Need-mul-run Inv-loop μ-loop
-mul-run c = search needs
+mul-run c = let s = begun (c .before .before) in omega (arith, s .pre .inside, s .pre .few, c .loop-test .taken)
 
 sub-run : tie.Need-sub-run Inv-loop μ-loop
-sub-run c = let l = c .before in omega (arith, l .loop .inv .0 .from)
+sub-run c = omega arith
 
 part-run-start : tie.Need-part-run-start Inv-loop μ-loop
-part-run-start c = let l = c .before in omega (arith, l .loop .inv .0 .from)
+part-run-start c = omega arith
 
 part-run-end : tie.Need-part-run-end Inv-loop μ-loop
-part-run-end c = search needs
+part-run-end c = let s = begun (c .before .before) in omega (arith, s .pre .inside, c .loop-test .taken)
 
 last-call-requires : tie.Need-last-call-requires Inv-loop μ-loop
 last-call-requires c κs = is-run c .some
@@ -218,7 +222,7 @@ stop-at-requires c κs =
     let r = c .before in
     let l = turn r in
     let pre = begun (l .before) .pre in
-    (pre .places-long, subst (λ (k : ℕ). k < 64) (sym (c .last-call .ensures ∙ is-run r .is-last)) (call-below _ _ _ (pre .below) (l .loop .inv .0 .from) (r .before .loop-test .taken)))
+    (pre .stops-long, subst (λ (k : ℕ). k < 64) (sym (c .last-call .ensures ∙ is-run r .is-last)) (call-below _ _ _ (pre .below) (ahead-run r)))
 
 plus-requires : tie.Need-plus-requires Inv-loop μ-loop
 plus-requires c κs =
@@ -238,23 +242,23 @@ returns c =
           (λ t W L.
           overloaded (l .loop .inv .0 .keeps t W L .along) (inside p) _ _ (called p t W L _ _ refl refl .demand-is) (f .before .plus .ensures .0)
           (fails _ _ (f .fits2 .ensures .0) (c .if1 .taken))),
-      (l .loop .inv .0 .from, l .loop .inv .0 .within),
+      l .loop .inv .0 .within,
     )
 
 mul-way-to : tie.Need-mul-way-to Inv-loop μ-loop
-mul-way-to c = let p = stop c in omega (arith, left p, few p .0)
+mul-way-to c = let p = stop c in omega (arith, ahead p, few p .0)
 
 shared-slice-read-way-to : tie.Need-shared-slice-read-way-to Inv-loop μ-loop
-shared-slice-read-way-to c = let p = stop (c .before) in omega (arith, left p, few p .0, few p .1 .distances-long)
+shared-slice-read-way-to c = let p = stop (c .before) in omega (arith, ahead p, few p .0, few p .1 .distances-long)
 
 way-to-requires : tie.Need-way-to-requires Inv-loop μ-loop
 way-to-requires c κs = search needs
 
 mul-leg-to : tie.Need-mul-leg-to Inv-loop μ-loop
-mul-leg-to c = let p = stop (c .before .before) in omega (arith, left p, few p .0)
+mul-leg-to c = let p = stop (c .before .before) in omega (arith, ahead p, few p .0)
 
 shared-slice-read-leg-to : tie.Need-shared-slice-read-leg-to Inv-loop μ-loop
-shared-slice-read-leg-to c = let p = stop (c .before .before .before) in omega (arith, left p, few p .0, few p .1 .times-long)
+shared-slice-read-leg-to c = let p = stop (c .before .before .before) in omega (arith, ahead p, few p .0, few p .1 .times-long)
 
 leg-to-requires : tie.Need-leg-to-requires Inv-loop μ-loop
 leg-to-requires c κs = search needs
@@ -262,7 +266,7 @@ leg-to-requires c κs = search needs
 pushed-requires : tie.Need-pushed-requires Inv-loop μ-loop
 pushed-requires c κs =
     let p = stop (c .before .before .before .before) in
-    (is-run (p .before .before) .some, omega (arith, top p .loop .inv .1, left p, few p .0))
+    (is-run (p .before .before) .some, omega (arith, top p .loop .inv .1, ahead p, few p .0))
 
 alive-requires : tie.Need-alive-requires Inv-loop μ-loop
 alive-requires c κs = search needs
@@ -279,8 +283,11 @@ returns-2 c =
           dead (over (l .before) t) (pause (l .before)) refl _ _ _ (l .loop .inv .0 .keeps t W L) (called p t W L _ _ refl (k .before .leg-to .ensures)) (inside p) (short p)
           (b .before .before .plus .ensures .0) (holds _ _ (b .before .fits2 .ensures .0) (b .if1 .left)) (far-way k) (served k)
           (fails _ _ (c .before .alive .ensures) (c .if2 .taken))),
-      (l .loop .inv .0 .from, l .loop .inv .0 .within),
+      l .loop .inv .0 .within,
     )
+
+add-m : tie.Need-add-m Inv-loop μ-loop
+add-m c = let p = stop (branch (c .before .before)) in omega (arith, ahead p, few p .0)
 
 finish-requires : tie.Need-finish-requires Inv-loop μ-loop
 finish-requires c κs = search needs
@@ -292,7 +299,7 @@ enum-told : tie.Need-enum-told Inv-loop μ-loop
 enum-told c = search needs
 
 loop-less : tie.Need-loop-less Inv-loop μ-loop
-loop-less c = let p = stop (branch (pushed-at (c .before .before))) in omega (arith, left p)
+loop-less c = let p = stop (branch (pushed-at (c .before .before))) in omega (arith, ahead p)
 
 loop-again : tie.Need-loop-again Inv-loop μ-loop
 loop-again c =
@@ -303,23 +310,22 @@ loop-again c =
     let l = top p in
     let e : f .finish .result ≡ Impossible = search needs in (
       record {
-        from = omega (arith, l .loop .inv .0 .from);
-        within = omega (arith, left p);
+        within = omega (arith, ahead p);
         light = b .before .fits2 .ensures .1 (not-false _ (b .if1 .left));
         keeps =
             λ t W L.
             endless (over (l .before) t) (pause (l .before)) refl _ _ _ (l .loop .inv .0 .keeps t W L) (called p t W L _ _ refl (k .before .leg-to .ensures)) (inside p) (short p)
             (b .before .before .plus .ensures .0) (holds _ _ (b .before .fits2 .ensures .0) (b .if1 .left)) (far-way k) (served k)
-            _ (f .finish .ensures) _ (one-more p) (ap finishedOf e);
+            _ (f .finish .ensures) (ap finishedOf e);
       },
-      next-index _ _ _ _ _ _ _ (one-more p) (served k) (l .loop .inv .1),
+      next-index _ _ _ _ _ _ (served k) (l .loop .inv .1),
     )
 
 allow-requires : tie.Need-allow-requires Inv-loop μ-loop
 allow-requires c κs = search needs
 
 loop-less-2 : tie.Need-loop-less-2 Inv-loop μ-loop
-loop-less-2 c = let p = stop (branch (pushed-at (finished (c .before)))) in omega (arith, left p)
+loop-less-2 c = let p = stop (branch (pushed-at (finished (c .before)))) in omega (arith, ahead p)
 
 loop-again-2 : tie.Need-loop-again-2 Inv-loop μ-loop
 loop-again-2 c =
@@ -331,23 +337,22 @@ loop-again-2 c =
     let w = c .before .before .before in
     let e : f .finish .result ≡ Home (w .done .given .0 .0) = search (needs, w .done) in (
       record {
-        from = omega (arith, l .loop .inv .0 .from);
-        within = omega (arith, left p);
+        within = omega (arith, ahead p);
         light = b .before .fits2 .ensures .1 (not-false _ (b .if1 .left));
         keeps =
             λ t W L.
             skip (over (l .before) t) (pause (l .before)) refl _ _ _ (l .loop .inv .0 .keeps t W L) (called p t W L _ _ refl (k .before .leg-to .ensures)) (inside p) (short p)
             (b .before .before .plus .ensures .0) (holds _ _ (b .before .fits2 .ensures .0) (b .if1 .left)) (far-way k) (served k)
-            _ (f .finish .ensures) _ (one-more p) _ (ap finishedOf e) (fails _ _ (c .before .allow .ensures) (c .if3 .taken));
+            _ (f .finish .ensures) _ (ap finishedOf e) (fails _ _ (c .before .allow .ensures) (c .if3 .taken));
       },
-      next-index _ _ _ _ _ _ _ (one-more p) (served k) (l .loop .inv .1),
+      next-index _ _ _ _ _ _ (served k) (l .loop .inv .1),
     )
 
 offer-requires : tie.Need-offer-requires Inv-loop μ-loop
-offer-requires c κs = let p = stop (branch (pushed-at (finished (allowed c)))) in omega (arith, left p, few p .0)
+offer-requires c κs = let p = stop (branch (pushed-at (finished (allowed c)))) in omega (arith, ahead p, few p .0)
 
 loop-less-3 : tie.Need-loop-less-3 Inv-loop μ-loop
-loop-less-3 c = let p = stop (branch (pushed-at (finished (allowed (c .before))))) in omega (arith, left p)
+loop-less-3 c = let p = stop (branch (pushed-at (finished (allowed (c .before))))) in omega (arith, ahead p)
 
 loop-again-3 : tie.Need-loop-again-3 Inv-loop μ-loop
 loop-again-3 c =
@@ -360,17 +365,16 @@ loop-again-3 c =
     let w = g .before .before in
     let e : f .finish .result ≡ Home (w .done .given .0 .0) = search (needs, w .done) in (
       record {
-        from = omega (arith, l .loop .inv .0 .from);
-        within = omega (arith, left p);
+        within = omega (arith, ahead p);
         light = b .before .fits2 .ensures .1 (not-false _ (b .if1 .left));
         keeps =
             λ t W L.
             put (over (l .before) t) (pause (l .before)) refl _ _ _ (l .loop .inv .0 .keeps t W L) (called p t W L _ _ refl (k .before .leg-to .ensures)) (inside p) (short p)
             (b .before .before .plus .ensures .0) (holds _ _ (b .before .fits2 .ensures .0) (b .if1 .left)) (far-way k) (served k)
-            _ (f .finish .ensures) _ (one-more p) _ (ap finishedOf e) _ _ (holds _ _ (g .allow .ensures) (c .before .before .before .before .before .if3 .left)) (next-cell p)
+            _ (f .finish .ensures) _ (ap finishedOf e) _ _ (holds _ _ (g .allow .ensures) (c .before .before .before .before .before .if3 .left)) (next-cell p)
             (c .offer .ensures);
       },
-      next-index _ _ _ _ _ _ _ (one-more p) (served k) (l .loop .inv .1),
+      next-index _ _ _ _ _ _ (served k) (l .loop .inv .1),
     )
 
 returns-3 : tie.Need-returns-3 Inv-loop μ-loop
@@ -378,7 +382,7 @@ unfolding Rowed
 returns-3 c =
     let l = c .before in (
       as-lent (l .before) _ _ (λ t W L. run-out (l .loop .inv .0 .keeps t W L .along) (simp length-drop (omega (arith, c .loop-test .left)))),
-      (l .loop .inv .0 .from, l .loop .inv .0 .within),
+      l .loop .inv .0 .within,
     )
 
 pub rest-row-spec : {M : Type 1} → statement M
@@ -393,7 +397,9 @@ rest-row-spec =
     element-copy-out-before
     none-requires
     new-requires
+    sub-left
     loop-holds
+    add-last
     add-j
     mul-run
     sub-run
@@ -413,6 +419,7 @@ rest-row-spec =
     pushed-requires
     alive-requires
     returns-2
+    add-m
     finish-requires
     enum-known-done
     enum-told

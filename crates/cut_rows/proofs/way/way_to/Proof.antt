@@ -2,7 +2,6 @@
 use lib.ListN.{length}
 use denote.Ref.{now}
 use borrow.Author.Tests.{eq-eqb, ne-eqb}
-use borrow.Author.Needs.{needs}
 use Rattle.cut_rows.proofs.way.way_to.Statement.{statement}
 use Rattle.cut_rows.proofs.way.way_to.Tie as tie
 

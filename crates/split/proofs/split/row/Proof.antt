@@ -1,5 +1,5 @@
--- `split::row` meets its contract. A row whose start is not reached would win no cell. The loop's invariant is `Running`: where the next run ends with call j, load and way are those of the
--- calls from i up to it, and the cells up to j are as the row leaves them. The measure is how many calls are left. Assumes nothing.
+-- `split::row` meets its contract. A row whose start is not reached would win no cell. The loop's invariant is `Running`: after m calls of the row, load and way are those of these
+-- calls, and the cells up to i + m are as the row leaves them. The measure is how many calls are left. Assumes nothing.
 use Prim.Native.Nat.{ℕ, _+_, _-_, _<_}
 use native.Mathlib.Omega.{arith}
 use mathlib.Core.Path.{_≡_, refl, sym, ap, subst, _∙_}
@@ -16,19 +16,19 @@ use Rattle.cut_table.specs.Table.{Table, table}
 use Rattle.cut_rows.specs.Tariff.{Tariff}
 use Rattle.split.specs.Split.{tariffAsked}
 use Rattle.cut_rows.proofs.Branches.{fails, holds}
-use Rattle.cut_rows.proofs.Along.{rowFrom, setout, at-count, overfull, at-end, onward, unreached, held-row}
+use Rattle.cut_rows.proofs.Along.{rowFrom, setout, in-place, overfull, at-end, onward, unreached, held-row}
 use Rattle.cut_rows.proofs.Calls.{RunIs, run-is}
 use Rattle.split.proofs.Gathered.{Running, home-is, one-more}
 use Rattle.split.proofs.split.row.Statement.{statement}
 use Rattle.split.proofs.split.row.Tie as tie
 
 abbrev Inv-loop : tie.InvT-loop
-Inv-loop cost₀ dist₀ pred₀ held demands ins backs distances size capacity fixed i base before out load₀ gone₀ j₀ cost dist pred load gone j =
-    Running (tariffAsked demands distances size capacity fixed) held (rowFrom (drop i held) i (table cost₀ dist₀ pred₀) base before) (table cost dist pred) out (loadOf load) gone j
+Inv-loop cost₀ dist₀ pred₀ held demands ins backs distances size capacity fixed i base before out load₀ gone₀ left m₀ cost dist pred load gone m =
+    Running (tariffAsked demands distances size capacity fixed) held (rowFrom (drop i held) i (table cost₀ dist₀ pred₀) base before) (table cost dist pred) out (loadOf load) gone m
 
 abbrev μ-loop : tie.MeasureT-loop
-μ-loop cost₀ dist₀ pred₀ held demands ins backs distances size capacity fixed i base before out load₀ gone₀ j₀ cost dist pred load gone j =
-    length held - j
+μ-loop cost₀ dist₀ pred₀ held demands ins backs distances size capacity fixed i base before out load₀ gone₀ left m₀ cost dist pred load gone m =
+    left - m
 
 -- ---- the places of the code that the needs look back to
 
@@ -58,15 +58,18 @@ module _ (r : tie.After-run Inv-loop μ-loop) where
   abbrev held : List ℕ
   held = now (begun (turn .before) .args .held)
 
-  is-run : RunIs held i (turn .loop .j) (take (turn .loop .j + 1 - i) (drop i held))
-  is-run = run-is _ _ _ (turn .loop .inv .from) (r .before .loop-test .taken)
+  ahead : i + turn .loop .m < length held
+  ahead = omega (arith, r .before .loop-test .taken)
+
+  is-run : RunIs held i (turn .loop .m) (take (i + turn .loop .m + 1 - i) (drop i held))
+  is-run = run-is _ _ _ ahead
 
 -- what its last call asks for
 module _ (d : tie.After-demand-at Inv-loop μ-loop) where
   abbrev run : tie.After-run Inv-loop μ-loop
   run = d .before .before
 
-  asked : spaceOf (d .demand-at .result) ≡ tariffOf (begun (turn run .before)) .demand (getD (drop (i run) (held run)) (turn run .loop .j - i run) 0)
+  asked : spaceOf (d .demand-at .result) ≡ tariffOf (begun (turn run .before)) .demand (getD (drop (i run) (held run)) (turn run .loop .m) 0)
   asked = d .demand-at .ensures ∙ ap (tariffOf (begun (turn run .before)) .demand) (d .before .last-call .ensures ∙ is-run run .is-last)
 
 -- its load fits
@@ -113,33 +116,37 @@ get-requires c κs = search needs
 none-requires : tie.Need-none-requires Inv-loop μ-loop
 none-requires c κs = search needs
 
+sub-left : tie.Need-sub-left Inv-loop μ-loop
+sub-left c = let s = begun c in s .pre .1 .0 .0
+
 loop-holds : tie.Need-loop-holds Inv-loop μ-loop
 loop-holds c =
     let s = begun c in
     let a = s .args in
-    let none-yet : a .i - a .i ≡ 0 = omega arith in
     record {
       out-is = c .before .get .ensures ∙ ap (lookupF (now (a .distances)) (a .size) 0) (c .before .before .call-at .ensures);
-      from = omega arith;
-      within = s .pre .1 .0 .0;
+      within = omega (arith, s .pre .1 .0 .0);
       light = subst (UpTo 1) (sym (c .none .ensures)) (up-to-more 0 1 noLoad (omega arith) none-up-to);
-      along = at-count (setout (tariffOf s) (rowFrom (drop (a .i) (now (a .held))) (a .i) (old s) _ _) _ _ (c .none .ensures) (sym fl-zero) (s .pre .0) refl refl) _ none-yet;
+      along = in-place (setout (tariffOf s) (rowFrom (drop (a .i) (now (a .held))) (a .i) (old s) _ _) _ _ (c .none .ensures) (sym fl-zero) (s .pre .0) refl refl);
     }
 
+add-last : tie.Need-add-last Inv-loop μ-loop
+add-last c = let s = begun (c .before .before) in omega (arith, s .pre .1 .0 .0, c .loop-test .taken)
+
 add-j : tie.Need-add-j Inv-loop μ-loop
-add-j c = search needs
+add-j c = let s = begun (c .before .before) in omega (arith, s .pre .1 .0 .0, c .loop-test .taken)
 
 mul-run : tie.Need-mul-run Inv-loop μ-loop
-mul-run c = search needs
+mul-run c = let s = begun (c .before .before) in omega (arith, s .pre .1 .0, c .loop-test .taken)
 
 sub-run : tie.Need-sub-run Inv-loop μ-loop
-sub-run c = let l = c .before in omega (arith, l .loop .inv .from)
+sub-run c = omega arith
 
 part-run-start : tie.Need-part-run-start Inv-loop μ-loop
-part-run-start c = let l = c .before in omega (arith, l .loop .inv .from)
+part-run-start c = omega arith
 
 part-run-end : tie.Need-part-run-end Inv-loop μ-loop
-part-run-end c = search needs
+part-run-end c = let s = begun (c .before .before) in omega (arith, s .pre .1 .0 .0, c .loop-test .taken)
 
 last-call-requires : tie.Need-last-call-requires Inv-loop μ-loop
 last-call-requires c κs = is-run c .some
@@ -165,22 +172,25 @@ returns-2 c =
     (overfull (l .loop .inv .along) _ _ (asked d) (f .before .plus .ensures .0) (fails _ _ (f .fits2 .ensures .0) (c .if2 .taken)))
 
 mul-way-to : tie.Need-mul-way-to Inv-loop μ-loop
-mul-way-to c = let r = run-at c in omega (arith, r .before .loop-test .taken, begun (turn r .before) .pre .1 .0 .1)
+mul-way-to c = let r = run-at c in omega (arith, ahead r, begun (turn r .before) .pre .1 .0 .1)
 
 shared-slice-read-way-to : tie.Need-shared-slice-read-way-to Inv-loop μ-loop
-shared-slice-read-way-to c = let r = run-at (c .before) in omega (arith, r .before .loop-test .taken, begun (turn r .before) .pre .1 .1 .ins-long)
+shared-slice-read-way-to c = let r = run-at (c .before) in omega (arith, ahead r, begun (turn r .before) .pre .1 .1 .ins-long)
 
 way-to-requires : tie.Need-way-to-requires Inv-loop μ-loop
 way-to-requires c κs = search needs
 
 mul-total : tie.Need-mul-total Inv-loop μ-loop
-mul-total c = let r = run-at (c .before .before) in omega (arith, r .before .loop-test .taken, begun (turn r .before) .pre .1 .0 .1)
+mul-total c = let r = run-at (c .before .before) in omega (arith, ahead r, begun (turn r .before) .pre .1 .0 .1)
 
 shared-slice-read-total : tie.Need-shared-slice-read-total Inv-loop μ-loop
-shared-slice-read-total c = let r = run-at (c .before .before .before) in omega (arith, r .before .loop-test .taken, begun (turn r .before) .pre .1 .1 .backs-long)
+shared-slice-read-total c = let r = run-at (c .before .before .before) in omega (arith, ahead r, begun (turn r .before) .pre .1 .1 .backs-long)
+
+add-m : tie.Need-add-m Inv-loop μ-loop
+add-m c = let r = run-at (c .before .before .before) in omega (arith, ahead r, begun (turn r .before) .pre .1 .0 .1)
 
 offer-requires : tie.Need-offer-requires Inv-loop μ-loop
-offer-requires c κs = let r = run-at (fitting c) in omega (arith, r .before .loop-test .taken, begun (turn r .before) .pre .1 .0 .1)
+offer-requires c κs = let r = run-at (fitting c) in omega (arith, ahead r, begun (turn r .before) .pre .1 .0 .1)
 
 loop-less : tie.Need-loop-less Inv-loop μ-loop
 loop-less c = let r = run-at (fitting (c .before)) in omega (arith, r .before .loop-test .taken)
@@ -193,7 +203,7 @@ loop-again c =
     let l = turn r in
     let s = begun (l .before) in
     let a = s .args in
-    let h = r .before .loop-test .taken in
+    let h = ahead r in
     let A = l .loop .inv in
     let w = c .before .before .before .before .before in
     let O =
@@ -201,13 +211,11 @@ loop-again c =
     (b .before .before .plus .ensures .0) (holds _ _ (b .before .fits2 .ensures .0) (b .if2 .left)) (w .way-to .ensures) in
     record {
       out-is = A .out-is;
-      from = omega (arith, A .from);
       within = omega (arith, h);
       light = b .before .fits2 .ensures .1 (not-false _ (b .if2 .left));
       along =
-          at-count
-          (onward (A .along) O _ _ _ _ (home-is A (s .pre .1 .0 .1) h (now (a .ins)) (now (a .backs)) (s .pre .1 .1) (is-run r)) refl refl (omega (arith, A .from)) (c .offer .ensures))
-          _ (omega (arith, A .from));
+          in-place
+          (onward (A .along) O _ _ _ _ (home-is A (s .pre .1 .0 .1) h (now (a .ins)) (now (a .backs)) (s .pre .1 .1) (is-run r)) refl refl (omega arith) (c .offer .ensures));
     }
 
 returns-3 : tie.Need-returns-3 Inv-loop μ-loop
@@ -234,7 +242,9 @@ row-spec =
     call-at-requires
     get-requires
     none-requires
+    sub-left
     loop-holds
+    add-last
     add-j
     mul-run
     sub-run
@@ -250,6 +260,7 @@ row-spec =
     way-to-requires
     mul-total
     shared-slice-read-total
+    add-m
     offer-requires
     loop-less
     loop-again
