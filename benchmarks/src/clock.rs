@@ -3,10 +3,29 @@ use std::hint::black_box;
 use std::time::Instant;
 
 /// Microseconds of one call of each.
+#[derive(Clone, Copy)]
 pub struct Times {
     pub original: f64,
     pub port: f64,
 }
+
+impl Times {
+    pub fn ratio(&self) -> f64 {
+        self.port / self.original
+    }
+}
+
+/// How long it is measured, in seconds.
+#[derive(Clone, Copy)]
+pub struct Pace {
+    /// A turn of the original, as long as one call of it is not longer.
+    pub turn: f64,
+    /// All turns of both together; there are three at least.
+    pub whole: f64,
+}
+
+const LEAST_TURNS: u32 = 3;
+const MOST_ROUNDS: f64 = 5_000.0;
 
 fn seconds(work: impl FnOnce()) -> f64 {
     let start = Instant::now();
@@ -14,32 +33,44 @@ fn seconds(work: impl FnOnce()) -> f64 {
     start.elapsed().as_secs_f64()
 }
 
-/// Both in turns of `rounds` calls, so that what else the machine does meets both alike; the best turn counts.
-/// What a call of the original is given is made before its time begins, and freed after it ends. The port's reading of the sheet, once per turn, is timed by itself and taken off.
+/// One turn of the original. What its calls are given is made before its time begins, and freed after it ends.
+fn turn<Given>(rounds: u32, give: impl Fn() -> Given, work: impl Fn(&mut Given) -> f64) -> f64 {
+    let mut given: Vec<Given> = (0..rounds).map(|_| give()).collect();
+    let time = seconds(|| {
+        for each in &mut given {
+            black_box(work(black_box(each)));
+        }
+    });
+    time / f64::from(rounds)
+}
+
+/// Both in turns, so that what else the machine does meets both alike; the best turn counts. A turn of the original
+/// has at most so many calls.
+/// The port reads the sheet once per turn; a turn without a call gives the time of that, which is taken off.
 pub fn compare<Given>(
-    (turns, rounds): (usize, u32),
-    mut give: impl FnMut() -> Given,
-    mut original: impl FnMut(&mut Given) -> f64,
-    mut port: impl FnMut(u32) -> f64,
+    pace: Pace,
+    most: u32,
+    give: impl Fn() -> Given,
+    original: impl Fn(&mut Given) -> f64,
+    port: impl Fn(u32) -> f64,
 ) -> Times {
-    let (mut first, mut second, mut once) = (f64::MAX, f64::MAX, f64::MAX);
-    for _ in 0..turns {
-        let mut given: Vec<Given> = (0..rounds).map(|_| give()).collect();
-        first = first.min(seconds(|| {
-            for each in &mut given {
-                black_box(original(black_box(each)));
-            }
-        }));
-        second = second.min(seconds(|| {
-            black_box(port(rounds + 1));
-        }));
-        once = once.min(seconds(|| {
-            black_box(port(1));
-        }));
+    let port = |rounds| {
+        seconds(|| {
+            black_box(port(rounds));
+        })
+    };
+    let mut first = turn(1, &give, &original).min(turn(1, &give, &original));
+    let rounds = (pace.turn / first).clamp(1.0, MOST_ROUNDS) as u32;
+    let (mut many, mut none) = (f64::MAX, f64::MAX);
+    let (start, mut turns) = (Instant::now(), 0);
+    while turns < LEAST_TURNS || start.elapsed().as_secs_f64() < pace.whole {
+        first = first.min(turn(rounds.min(most), &give, &original));
+        many = many.min(port(rounds));
+        none = none.min(port(0));
+        turns += 1;
     }
-    let each = 1e6 / f64::from(rounds);
     Times {
-        original: first * each,
-        port: (second - once) * each,
+        original: first * 1e6,
+        port: (many - none) * 1e6 / f64::from(rounds),
     }
 }

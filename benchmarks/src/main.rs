@@ -1,88 +1,60 @@
-//! Times the original Rust and the port in one process, on the same sheets, and prints a table for each work.
+//! Times the original Rust and the port in one process, on the same sheets, and prints tables of both and their ratio.
 mod clock;
 mod distance;
+mod draft;
+mod drawn;
 mod evaluation;
+mod fitted;
 mod ga;
+mod kinds;
+mod legs;
 mod local_search;
 mod models;
 mod original;
 mod port;
 mod reader;
+mod recipe;
+mod repeated;
 mod sheet;
-mod sheets;
 mod source;
+mod spread;
+mod subject;
+mod tables;
 mod word;
-mod works;
+mod work;
+mod worst;
 
-use clock::Times;
-use sheets::KINDS;
-use works::Subject;
+use std::time::Instant;
 
-/// How many turns each work has on a sheet, where no argument says it.
-const TURNS: usize = 40;
+const USAGE: &str = "usage: benchmarks [--page | --worst N SEED | --sheet SEED NUMBER]";
 
-/// One work on every sheet, and the smallest and the largest ratio.
-fn table<'a>(
-    title: &str,
-    subjects: impl Iterator<Item = &'a Subject>,
-    work: impl Fn(&Subject) -> Times,
-) {
-    println!("## {title}\n\n| Sheet | Rust, µs | port, µs | ratio |\n|---|---|---|---|");
-    let (mut smallest, mut largest) = (f64::MAX, 0.0_f64);
-    for subject in subjects {
-        let Times { original, port } = work(subject);
-        let ratio = port / original;
-        println!(
-            "| {} | {original:.1} | {port:.1} | {ratio:.2} |",
-            subject.kind.name
-        );
-        (smallest, largest) = (smallest.min(ratio), largest.max(ratio));
-    }
-    println!("\nSmallest ratio {smallest:.2}, largest {largest:.2}.\n");
+/// How many drawn sheets the page has, and their seed.
+const DRAWN: (u32, u32) = (3_000, 1);
+
+fn number(text: &str) -> u32 {
+    text.parse().unwrap_or_else(|_| usage())
 }
 
-/// The cut at 16, 32, 64 and 128 calls, by both.
-fn growth(turns: usize) {
-    println!("## Growth of `split_tw`\n\n| Sheet | by | 16 calls, µs | 32 | 64 | 128 |\n|---|---|---|---|---|---|");
-    for kind in &KINDS {
-        let times = [16, 32, 64, 128].map(|calls| Subject::new(kind, calls).split_tw(turns));
-        let rows = [
-            ("Rust", times.each_ref().map(|t| t.original)),
-            ("port", times.each_ref().map(|t| t.port)),
-        ];
-        for (by, [a, b, c, d]) in rows {
-            println!(
-                "| {} | {by} | {a:.1} | {b:.1} | {c:.1} | {d:.1} |",
-                kind.name
-            );
-        }
-    }
+fn usage() -> ! {
+    eprintln!("{USAGE}");
+    std::process::exit(2)
 }
 
 fn main() {
-    let turns = std::env::args()
-        .nth(1)
-        .map_or(TURNS, |turns| turns.parse().expect("a number of turns"));
-    let all: Vec<Subject> = KINDS.iter().map(|kind| Subject::new(kind, 128)).collect();
-    let hard = || all.iter().filter(|subject| !subject.kind.pays_lateness());
-    table(
-        "Cutting with windows, limits and break: `split_tw`",
-        all.iter(),
-        |s| s.split_tw(turns),
-    );
-    table("Cutting by capacity: `split`", all.iter(), |s| {
-        s.split(turns)
-    });
-    table(
-        "Reversal: `two_opt_improve`, the tour as one run",
-        hard(),
-        |s| s.two_opt(turns),
-    );
-    table(
-        "Elimination: `eliminate_routes`, the tour in runs of four calls",
-        hard(),
-        |s| s.eliminate(turns),
-    );
-    table("Reader", all.iter(), |s| s.read(turns));
-    growth(turns);
+    let start = Instant::now();
+    let took = |what| eprintln!("{what}: {:.0} s", start.elapsed().as_secs_f64());
+    let args: Vec<String> = std::env::args().skip(1).collect();
+    match args.iter().map(String::as_str).collect::<Vec<_>>()[..] {
+        [] => repeated::print(),
+        ["--page"] => {
+            repeated::print();
+            took("tables");
+            worst::print(DRAWN.0, DRAWN.1);
+        }
+        ["--worst", count, seed] => worst::print(number(count), number(seed)),
+        ["--sheet", seed, which] => worst::print_sheet(number(seed), number(which)),
+        [repeated::PASS] => return repeated::pass(),
+        _ => usage(),
+    }
+    took("all");
 }

@@ -1,4 +1,5 @@
-//! The port's timed functions (crates/bench_timing): each does its work so many times on one sheet. A lent list passes as a pointer and a length.
+//! The port's timed functions (crates/bench_timing): each does its work so many times on one sheet. A lent list
+//! passes as a pointer and a length.
 
 extern "C" {
     fn timing_read(sheet: *const u8, length: usize, rounds: u32) -> f64;
