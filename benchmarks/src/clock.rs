@@ -1,4 +1,5 @@
 //! The time of a call, by the original and by the port.
+use crate::stopwatch::seconds;
 use std::hint::black_box;
 use std::time::Instant;
 
@@ -18,7 +19,7 @@ impl Times {
 /// How long it is measured, in seconds.
 #[derive(Clone, Copy)]
 pub struct Pace {
-    /// A turn of the original, as long as one call of it is not longer.
+    /// A turn of one of both, where a call is not longer.
     pub turn: f64,
     /// All turns of both together; there are three at least.
     pub whole: f64,
@@ -26,11 +27,14 @@ pub struct Pace {
 
 const LEAST_TURNS: u32 = 3;
 const MOST_ROUNDS: f64 = 5_000.0;
+/// The port is not taken to be faster than so many times, which a disturbed first look may say.
+const MOST_FASTER: f64 = 10.0;
 
-fn seconds(work: impl FnOnce()) -> f64 {
-    let start = Instant::now();
-    work();
-    start.elapsed().as_secs_f64()
+impl Pace {
+    /// How many calls a turn has, where one takes this long.
+    fn rounds(self, call: f64) -> u32 {
+        (self.turn / call).clamp(1.0, MOST_ROUNDS) as u32
+    }
 }
 
 /// One turn of the original. What its calls are given is made before its time begins, and freed after it ends.
@@ -60,17 +64,20 @@ pub fn compare<Given>(
         })
     };
     let mut first = turn(1, &give, &original).min(turn(1, &give, &original));
-    let rounds = (pace.turn / first).clamp(1.0, MOST_ROUNDS) as u32;
-    let (mut many, mut none) = (f64::MAX, f64::MAX);
+    let theirs = pace.rounds(first);
+    let mut none = port(0);
+    let second = (port(theirs) - none) / f64::from(theirs);
+    let ours = pace.rounds(second.max(first / MOST_FASTER));
+    let mut many = f64::MAX;
     let (start, mut turns) = (Instant::now(), 0);
     while turns < LEAST_TURNS || start.elapsed().as_secs_f64() < pace.whole {
-        first = first.min(turn(rounds.min(most), &give, &original));
-        many = many.min(port(rounds));
+        first = first.min(turn(theirs.min(most), &give, &original));
+        many = many.min(port(ours));
         none = none.min(port(0));
         turns += 1;
     }
     Times {
         original: first * 1e6,
-        port: (many - none) * 1e6 / f64::from(rounds),
+        port: (many - none) * 1e6 / f64::from(ours),
     }
 }

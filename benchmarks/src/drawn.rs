@@ -35,7 +35,7 @@ pub fn recipe(seed: u32, number: u32) -> Recipe {
 
 fn calls(source: &mut Source) -> u32 {
     match source.below(4) {
-        0 => source.below(129),
+        0 => 1 + source.below(128),
         1 => source.one_of(&[1, 2, 4, 8, 16, 32]),
         2 => 63,
         _ => 128,

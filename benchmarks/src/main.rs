@@ -18,6 +18,7 @@ mod repeated;
 mod sheet;
 mod source;
 mod spread;
+mod stopwatch;
 mod subject;
 mod tables;
 mod word;
