@@ -66,7 +66,7 @@ impl Table {
 
     /// In Markdown, with what the measurements of each cell came to.
     pub fn print(&self, cells: &[Spread]) {
-        println!("## {}\n", self.title);
+        println!("### {}\n", self.title);
         self.print_rows(cells);
         let mut medians: Vec<f64> = cells.iter().map(|cell| cell.median).collect();
         medians.sort_by(f64::total_cmp);

@@ -64,7 +64,7 @@ fn search(count: u32, seed: u32) -> Kept {
 }
 
 pub fn print(count: u32, seed: u32) {
-    println!("## Worst of {count} drawn sheets, seed {seed}\n");
+    println!("### Worst of {count} drawn sheets, seed {seed}\n");
     println!("| Work | Rust's time | worst | sheet | calls | runs of |\n|---|---|---|---|---|---|");
     for (work, classes) in WORKS.into_iter().zip(search(count, seed)) {
         for ((class, _), kept) in CLASSES.iter().zip(classes) {
