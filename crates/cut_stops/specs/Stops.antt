@@ -2,11 +2,12 @@
 use Prim.Native.Nat.{ℕ, _*_, _+_, _<_, _≤_}
 use mathlib.Core.Path.{_≡_}
 use mathlib.Core.Bool.{cond}
-use mathlib.Core.List.{List, [], _∷_}
+use mathlib.Core.List.{List, [], _∷_, map}
 use mathlib.Core.Option.{Option, none, some}
 use lib.ListN.{length, getD}
 use lib.Dec.{eqb}
 use lib.Ieee.{Float, nan}
+use Rattle.basics.specs.Lists.{count}
 use Rattle.definitions.specs.Load.{ofSeats}
 use Rattle.definitions.specs.Sheet.{WindowOf, CustomerOf, timeTable}
 use Rattle.distance.specs.Lookup.{lookupF}
@@ -110,6 +111,13 @@ pub record HoldsTo (t : Tables) (x : Numbers) (n : ℕ) : Type 0 where
 
 abbrev pub WorkedOut : Tables → Numbers → Type 0
 WorkedOut t x = HoldsTo t x 64
+
+-- the records of the 64 places, and tables with these records
+unfoldable pub recordsIn : Numbers → List (CustomerOf Float)
+recordsIn x = map (λ c. stopAt x c .customer) (count 0 64)
+
+abbrev pub listed : Numbers → List Float → List Float → ℕ → Tables
+listed x distances times size = record { customers = recordsIn x; distances = distances; times = times; size = size }
 
 -- calls of the 64 places
 unfoldable pub Below64 : List ℕ → Type 0

@@ -57,7 +57,7 @@ fn penalty_of(charged: u32, each: f64) -> Penalty
 }
 
 // The record of place c, from the lists.
-fn customer_at(codes: &[u32], figures: &[f64], c: usize) -> Customer
+pub fn customer_at(codes: &[u32], figures: &[f64], c: usize) -> Customer
     requires { ⌜ Long (numbers (now codes) (now figures)) × (c < 64) ⌝ }
     ensures { λ r. ⌜ customerOf r ≡ stopAt (numbers (now (codes .entry)) (now (figures .entry))) c .customer ⌝ }
 {

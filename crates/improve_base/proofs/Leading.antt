@@ -12,42 +12,51 @@ use lib.Ieee as Ieee
 use lib.Ieee.{Float, binary64}
 use Rattle.basics.proofs.TestLaws.{by-test}
 use Rattle.basics.specs.Options.{_>>=_, given, present}
-use Rattle.definitions.specs.Sheet.{BreakOf, CustomerOf}
+use Rattle.definitions.specs.Sheet.{BreakOf}
+use Rattle.whole.specs.Whole.{fl}
 use Rattle.clock.specs.declared.schedule.Scheduled.{Scheduled}
 use Rattle.clock.specs.Records.{ClockF}
-use Rattle.clock.specs.Clock.{pushF, aliveF}
+use Rattle.clock.specs.Clock.{begunF, pushF, aliveF}
 use Rattle.evaluation.specs.declared.way.Way.{Way}
 use Rattle.evaluation.specs.Records.{Tables, LimitsF}
-use Rattle.evaluation.specs.Tables.{recordF, distanceF, timeF, legsF}
+use Rattle.evaluation.specs.Tables.{distanceF, legsF}
 use Rattle.evaluation.specs.Schedule.{tickF, clockFromF, endF}
-use Rattle.evaluation.specs.Way.{wayOnF, throughF, wayF, homewardF, plainF}
+use Rattle.evaluation.specs.Way.{startWay, throughF, wayF, homewardF, plainF}
 use Rattle.evaluation.specs.Route.{totalsF, keptF, allowedF, feasibleF}
 use Rattle.evaluation.proofs.Growing.{end-gone}
-use Rattle.improve_base.specs.Prefix.{PrefixF, failed, plain, clocked, failedF, indexF, setOutF, reachedF, onF, endedF, feasibleFromF, Leads}
+use Rattle.improve_base.proofs.Onward.{ended-failed}
+use Rattle.improve_base.specs.Prefix.{PrefixF, failed, plain, clocked, failedF, indexF, setOutF, reachedF, driveF, onF, onAllF, homeFromF, endedF, feasibleFromF, Leads}
 
 -- ---- the run, ended
 
-ended-start : (t : Tables) (r : Option (BreakOf Float)) (calls : List ℕ) → endedF t (setOutF r) calls ≡ totalsF t r calls
-unfolding endedF totalsF
-ended-start t none calls = refl
-ended-start t (some b) calls = refl
+reached-on : (t : Tables) (cs : List ℕ) (o : Option Way) → ((v : Way) → endedF t (plain v) cs ≡ plainF t v cs)
+    → endedF t (reachedF o) cs ≡ ((o >>= λ v. wayF t v cs) >>= λ d. some (homewardF t d))
+unfolding plainF
+reached-on t cs none h = ended-failed t cs
+reached-on t cs (some v) h = h v
 
-reached-on : (t : Tables) (cs : List ℕ) (o : Option Way)
-    → ((o >>= λ v. wayF t v cs) >>= λ d. some (homewardF t d)) ≡ endedF t (reachedF o) cs
-unfolding endedF plainF
-reached-on t cs none = refl
-reached-on t cs (some v) = refl
+ended-plain : (t : Tables) (w : Way) (calls : List ℕ) → endedF t (plain w) calls ≡ plainF t w calls
+unfolding onAllF onF homeFromF plainF throughF
+ended-plain t w [] = refl
+ended-plain t w (c ∷ cs) = reached-on t cs (driveF t w c) (λ v. ended-plain t v cs)
 
 end-on : (t : Tables) (x : ClockF) (far : Float) (c : ℕ) (cs : List ℕ) → endF t x far (c ∷ cs) ≡ endF t (tickF t x c) (Ieee.add binary64 far (distanceF t (x .prev) c)) cs
 unfolding endF clockFromF legsF pushF
 end-on t x far c cs = refl
 
-ended-on : (t : Tables) (b : PrefixF) (c : ℕ) (cs : List ℕ) → endedF t b (c ∷ cs) ≡ endedF t (onF (distanceF t) (timeF t) (recordF t c) b c) cs
-unfolding endedF onF plainF throughF
-ended-on t failed c cs = refl
-ended-on t (plain w) c cs = reached-on t cs (wayOnF (recordF t c) (distanceF t (w .prev) c) (timeF t (w .prev) c) w c)
-ended-on t (clocked x far) c cs =
-    by-test (aliveF (tickF t x c)) (λ y. rw y (end-on t x far c cs)) (λ n. rw n (end-on t x far c cs ∙ end-gone t (tickF t x c) (Ieee.add binary64 far (distanceF t (x .prev) c)) cs n))
+ended-clocked : (t : Tables) (x : ClockF) (far : Float) (calls : List ℕ) → endedF t (clocked x far) calls ≡ endF t x far calls
+unfolding onAllF onF homeFromF endF clockFromF legsF
+ended-clocked t x far [] = refl
+ended-clocked t x far (c ∷ cs) =
+    let y = tickF t x c in
+    let further = Ieee.add binary64 far (distanceF t (x .prev) c) in
+    by-test (aliveF y) (λ e. rw e (ended-clocked t y further cs ∙ sym (end-on t x far c cs)))
+    (λ n. rw n (ended-failed t cs ∙ sym (end-on t x far c cs ∙ end-gone t y further cs n)))
+
+ended-start : (t : Tables) (r : Option (BreakOf Float)) (calls : List ℕ) → endedF t (setOutF r) calls ≡ totalsF t r calls
+unfolding totalsF
+ended-start t none calls = ended-plain t startWay calls
+ended-start t (some b) calls = ended-clocked t (begunF b) (fl 0) calls
 
 -- a limit that is kept leaves the totals there
 pub given-there : (b : Bool) (s : Scheduled) → b ≡ present (given b s)
@@ -68,29 +77,28 @@ reached-index : (o : Option Way) → indexF (reachedF o) ≤ 1
 reached-index none = omega arith
 reached-index (some w) = omega arith
 
-on-index : (leg time : ℕ → ℕ → Float) (k : CustomerOf Float) (b : PrefixF) (c : ℕ) → indexF (onF leg time k b c) ≤ suc (indexF b)
+on-index : (t : Tables) (b : PrefixF) (c : ℕ) → indexF (onF t b c) ≤ suc (indexF b)
 unfolding onF pushF
-on-index leg time k failed c = omega arith
-on-index leg time k (plain w) c = reached-index (wayOnF k (leg (w .prev) c) (time (w .prev) c) w c)
-on-index leg time k (clocked x far) c = by-test (aliveF (pushF x c k (time (x .prev) c))) (λ y. rw y (omega arith)) (λ n. rw n (omega arith))
+on-index t failed c = omega arith
+on-index t (plain w) c = reached-index (driveF t w c)
+on-index t (clocked x far) c = by-test (aliveF (tickF t x c)) (λ y. rw y (omega arith)) (λ n. rw n (omega arith))
 
 module _ (t : Tables) (limits : LimitsF) where
-  from-on : (b : PrefixF) (c : ℕ) (rest : List ℕ) → feasibleFromF t limits b (c ∷ rest) ≡ feasibleFromF t limits (onF (distanceF t) (timeF t) (recordF t c) b c) rest
-  unfolding feasibleFromF
-  from-on b c rest =
-      ap (λ (o : Option Scheduled). present (keptF limits o)) (ended-on t b c rest)
+  from-on : (b : PrefixF) (c : ℕ) (rest : List ℕ) → feasibleFromF t limits b (c ∷ rest) ≡ feasibleFromF t limits (onF t b c) rest
+  unfolding feasibleFromF onAllF
+  from-on b c rest = refl
 
-  leads-on : (calls : List ℕ) (b : PrefixF) (c : ℕ) → Leads t limits calls b → Leads t limits (calls ++ (c ∷ [])) (onF (distanceF t) (timeF t) (recordF t c) b c)
+  leads-on : (calls : List ℕ) (b : PrefixF) (c : ℕ) → Leads t limits calls b → Leads t limits (calls ++ (c ∷ [])) (onF t b c)
   leads-on calls b c L =
       record {
         feasible = λ rest. ap (feasibleF t limits) (append-assoc calls (c ∷ []) rest) ∙ (L .feasible (c ∷ rest) ∙ from-on b c rest);
-        index = omega (arith, on-index (distanceF t) (timeF t) (recordF t c) b c, L .index, length-append calls (c ∷ []));
+        index = omega (arith, on-index t b c, L .index, length-append calls (c ∷ []));
       }
 
   -- the next call of a run whose calls before it stayed
   pub leads-next : (i : ℕ) (run new : List ℕ) (b n : PrefixF) → i < length new → take i new ≡ take i run → Leads t limits (take i run) b
-      → (k : CustomerOf Float) → k ≡ recordF t (getD new i 0) → n ≡ onF (distanceF t) (timeF t) k b (getD new i 0) → Leads t limits (take (i + 1) new) n
-  leads-next i run new b n h e L k ek en = rw (en, ek, add-one i, take-suc new i 0 h, e) (leads-on (take i run) b (getD new i 0) L)
+      → n ≡ onF t b (getD new i 0) → Leads t limits (take (i + 1) new) n
+  leads-next i run new b n h e L en = rw (en, add-one i, take-suc new i 0 h, e) (leads-on (take i run) b (getD new i 0) L)
 
   -- a run that keeps the first i calls, asked from there on
   pub asked : (i : ℕ) (run behind : List ℕ) (b : PrefixF) → i ≤ length run → Leads t limits (take i run) b
@@ -104,8 +112,8 @@ module _ (t : Tables) (limits : LimitsF) where
 
   -- where the first calls cannot be served, no run is feasible
   never : (b : PrefixF) (rest : List ℕ) → failedF b ≡ true → feasibleFromF t limits b rest ≡ false
-  unfolding feasibleFromF endedF
-  never failed rest f = refl
+  unfolding feasibleFromF
+  never failed rest f = rw (ended-failed t rest)
   never (plain w) rest f = absurd (false≢true f)
   never (clocked x far) rest f = absurd (false≢true f)
 

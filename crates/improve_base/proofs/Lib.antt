@@ -2,6 +2,7 @@
 pub mod Counting
 pub mod Reckoning
 -- A run whose first calls are fixed.
+pub mod Onward
 pub mod Leading
 -- On tables and sheets of whole numbers within the limits all that is that of crates/definitions.
 pub mod GainExact

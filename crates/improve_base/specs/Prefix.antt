@@ -3,21 +3,22 @@
 use Prim.Native.Nat.{ℕ, suc, _≤_}
 use mathlib.Core.Path.{_≡_}
 use mathlib.Core.Bool.{Bool, true, false, cond}
-use mathlib.Core.List.{List, _++_}
+use mathlib.Core.List.{List, [], _∷_, _++_}
 use mathlib.Core.Option.{Option, none, some}
 use lib.ListN.{length}
 use lib.Ieee as Ieee
 use lib.Ieee.{Float, binary64}
 use Rattle.basics.specs.Options.{present}
-use Rattle.definitions.specs.Sheet.{BreakOf, CustomerOf}
+use Rattle.definitions.specs.Sheet.{BreakOf}
 use Rattle.whole.specs.Whole.{fl}
 use Rattle.clock.specs.declared.schedule.Scheduled.{Scheduled}
 use Rattle.clock.specs.Records.{ClockF, clockOf}
-use Rattle.clock.specs.Clock.{begunF, pushF, aliveF}
+use Rattle.clock.specs.Clock.{begunF, aliveF, homeF, finishF}
 use Rattle.evaluation.specs.declared.way.Way.{Way}
 use Rattle.evaluation.specs.Records.{Tables, LimitsF}
-use Rattle.evaluation.specs.Schedule.{endF}
-use Rattle.evaluation.specs.Way.{startWay, wayOnF, plainF}
+use Rattle.evaluation.specs.Tables.{recordF, distanceF, timeF}
+use Rattle.evaluation.specs.Schedule.{tickF}
+use Rattle.evaluation.specs.Way.{startWay, wayOnF}
 use Rattle.evaluation.specs.Route.{keptF, feasibleF}
 use Rattle.improve_base.specs.declared.prefix.Prefix.{Prefix}
 use Rattle.improve_base.specs.declared.prefix.Prefix.the-variants.{Failed, Plain, Clock}
@@ -55,21 +56,34 @@ abbrev pub reachedF : Option Way → PrefixF
 reachedF none = failed
 reachedF (some w) = plain w
 
-module _ (leg time : ℕ → ℕ → Float) where
-  -- one call more; a clock with no label left has failed
-  unfoldable pub onF : CustomerOf Float → PrefixF → ℕ → PrefixF
-  onF c failed cid = failed
-  onF c (plain w) cid = reachedF (wayOnF c (leg (w .prev) cid) (time (w .prev) cid) w cid)
-  onF c (clocked x far) cid =
-      let y = pushF x cid c (time (x .prev) cid) in
-      cond (aliveF y) (clocked y (Ieee.add binary64 far (leg (x .prev) cid))) failed
+-- one call more on the way, looked up in the tables
+abbrev pub driveF : Tables → Way → ℕ → Option Way
+driveF t w c = wayOnF (recordF t c) (distanceF t (w .prev) c) (timeF t (w .prev) c) w c
+
+-- and from anywhere; a clock with no label left has failed
+unfoldable pub onF : Tables → PrefixF → ℕ → PrefixF
+onF t failed c = failed
+onF t (plain w) c = reachedF (driveF t w c)
+onF t (clocked x far) c =
+    let y = tickF t x c in
+    cond (aliveF y) (clocked y (Ieee.add binary64 far (distanceF t (x .prev) c))) failed
+
+-- these calls, one after the other
+unfoldable pub onAllF : Tables → PrefixF → List ℕ → PrefixF
+onAllF t b [] = b
+onAllF t b (c ∷ cs) = onAllF t (onF t b c) cs
 
 -- ---- the run ended by these calls
 
-unfoldable pub endedF : Tables → PrefixF → List ℕ → Option Scheduled
-endedF t failed calls = none
-endedF t (plain w) calls = plainF t w calls
-endedF t (clocked x far) calls = endF t x far calls
+module _ (leg time : ℕ → ℕ → Float) where
+  -- home from here
+  unfoldable pub homeFromF : PrefixF → Option Scheduled
+  homeFromF failed = none
+  homeFromF (plain w) = some (homeF (Ieee.add binary64 (w .distance) (leg (w .prev) 0)) (time (w .prev) 0) (w .label))
+  homeFromF (clocked x far) = finishF (Ieee.add binary64 far (leg (x .prev) 0)) (time (x .prev) 0) x
+
+abbrev pub endedF : Tables → PrefixF → List ℕ → Option Scheduled
+endedF t b calls = homeFromF (distanceF t) (timeF t) (onAllF t b calls)
 
 unfoldable pub feasibleFromF : Tables → LimitsF → PrefixF → List ℕ → Bool
 feasibleFromF t limits b calls = present (keptF limits (endedF t b calls))

@@ -4,3 +4,4 @@ pub mod gain;
 pub mod prefix;
 pub mod route;
 pub mod search;
+pub mod step;

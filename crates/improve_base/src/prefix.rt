@@ -1,22 +1,24 @@
 // A run whose first calls are fixed: where they leave the bus, so that a run with the same first calls is tested from
-// there on, with the same sums in the same order.
+// there on, with the same sums in the same order. The records of the calls are read from lists of numbers, which are
+// lent, where a table of records would be copied.
 ghost use mathlib.Core.Path.{_≡_};
 ghost use Prim.Native.Nat.{_+_, _<_};
 ghost use lib.ListN.{length};
 ghost use Rattle.definitions.specs.Sheet.{timeTable};
 ghost use Rattle.distance.specs.Lookup.{lookupF};
-ghost use Rattle.models.specs.Records.{customerOf, restOf};
+ghost use Rattle.models.specs.Records.{restOf};
 ghost use Rattle.clock.specs.Records.{finishedOf, clockOf};
-ghost use Rattle.evaluation.specs.Records.{limitsOf, lent};
-ghost use Rattle.improve_base.specs.Prefix.{plain, clocked, prefixOf, failedF, indexF, setOutF, onF, endedF, feasibleFromF};
+ghost use Rattle.evaluation.specs.Records.{limitsOf};
+ghost use Rattle.cut_stops.specs.Stops.{numbers, Long, listed};
+ghost use Rattle.improve_base.specs.Prefix.{plain, clocked, prefixOf, failedF, indexF, setOutF, onF, onAllF, homeFromF, feasibleFromF};
+use crate::step::clock_home;
+use crate::step::drive_on;
+use crate::step::tick_on;
+use crate::step::way_home;
 use clock::schedule::Finished;
-use distance::leg::leg_between;
 use evaluation::schedule::Timed;
-use evaluation::schedule::clock_from;
 use evaluation::way::Driven;
 use evaluation::way::Way;
-use evaluation::way::plain_from;
-use models::customer::Customer;
 use models::limits::RouteLimits;
 use models::vehicle::Rest;
 
@@ -41,19 +43,19 @@ pub fn set_out(rest: Rest) -> Prefix
 pub fn way_on(
     way: Way,
     cid: usize,
-    customer: Customer,
+    codes: &[u32],
+    figures: &[f64],
     distances: &[f64],
     times: &[f64],
     size: usize,
 ) -> Prefix
+    requires { ⌜ Long (numbers (now codes) (now figures)) ⌝ }
     ensures { λ r.
-        let leg = lookupF (now (distances .entry)) size in
-        let time = lookupF (timeTable (now (distances .entry)) (now (times .entry))) size in
-        ⌜ prefixOf r ≡ onF leg time (customerOf customer) (plain way) cid ⌝ }
+        let lists = numbers (now (codes .entry)) (now (figures .entry)) in
+        let tables = listed lists (now (distances .entry)) (now (times .entry)) size in
+        ⌜ prefixOf r ≡ onF tables (plain way) cid ⌝ }
 {
-    let prev = way.prev;
-    let leg = leg_between(distances, times, size, prev, cid);
-    match way.on(cid, customer, leg.distance, leg.time) {
+    match drive_on(way, cid, codes, figures, distances, times, size) {
         Driven::Failed => Prefix::Failed,
         Driven::To(w) => Prefix::Plain(w),
     }
@@ -63,89 +65,169 @@ pub fn way_on(
 pub fn clock_on(
     timed: Timed,
     cid: usize,
-    customer: Customer,
+    codes: &[u32],
+    figures: &[f64],
     distances: &[f64],
     times: &[f64],
     size: usize,
 ) -> Prefix
-    requires { ⌜ timed .clock .index < 0xFFFF_FFFF_FFFF_FFFF ⌝ }
+    requires { ⌜ Long (numbers (now codes) (now figures)) × (timed .clock .index < 0xFFFF_FFFF_FFFF_FFFF) ⌝ }
     ensures { λ r.
-        let leg = lookupF (now (distances .entry)) size in
-        let time = lookupF (timeTable (now (distances .entry)) (now (times .entry))) size in
-        let so = clocked (clockOf (timed .clock)) (timed .distance) in
-        ⌜ prefixOf r ≡ onF leg time (customerOf customer) so cid ⌝ }
+        let lists = numbers (now (codes .entry)) (now (figures .entry)) in
+        let tables = listed lists (now (distances .entry)) (now (times .entry)) size in
+        ⌜ prefixOf r ≡ onF tables (clocked (clockOf (timed .clock)) (timed .distance)) cid ⌝ }
 {
-    let old = timed.clock;
-    let prev = old.prev;
-    let leg = leg_between(distances, times, size, prev, cid);
-    let distance = timed.distance + leg.distance;
-    let clock = old.push(cid, customer, leg.time);
+    let new = tick_on(timed, cid, codes, figures, distances, times, size);
+    let clock = new.clock;
     if clock.alive() {
-        Prefix::Clock(Timed { clock, distance })
+        Prefix::Clock(new)
     } else {
         Prefix::Failed
     }
 }
 
-// One call more.
+// One call more; its record is in the lists.
 pub fn go_on(
     prefix: Prefix,
     cid: usize,
-    customer: Customer,
+    codes: &[u32],
+    figures: &[f64],
     distances: &[f64],
     times: &[f64],
     size: usize,
 ) -> Prefix
-    requires { ⌜ indexF (prefixOf prefix) < 0xFFFF_FFFF_FFFF_FFFF ⌝ }
+    requires { ⌜ Long (numbers (now codes) (now figures)) × (indexF (prefixOf prefix) < 0xFFFF_FFFF_FFFF_FFFF) ⌝ }
     ensures { λ r.
-        let leg = lookupF (now (distances .entry)) size in
-        let time = lookupF (timeTable (now (distances .entry)) (now (times .entry))) size in
-        ⌜ prefixOf r ≡ onF leg time (customerOf customer) (prefixOf prefix) cid ⌝ }
+        let lists = numbers (now (codes .entry)) (now (figures .entry)) in
+        let tables = listed lists (now (distances .entry)) (now (times .entry)) size in
+        ⌜ prefixOf r ≡ onF tables (prefixOf prefix) cid ⌝ }
 {
     match prefix {
         Prefix::Failed => Prefix::Failed,
-        Prefix::Plain(way) => way_on(way, cid, customer, distances, times, size),
-        Prefix::Clock(timed) => clock_on(timed, cid, customer, distances, times, size),
+        Prefix::Plain(way) => way_on(way, cid, codes, figures, distances, times, size),
+        Prefix::Clock(timed) => clock_on(timed, cid, codes, figures, distances, times, size),
     }
 }
 
-// The totals of a run that these calls end.
-pub fn finish_from(
-    prefix: Prefix,
+// These calls with no break, one after the other, as far as they can be served.
+pub fn way_through(
+    from: Way,
     calls: &[usize],
-    customers: [Customer; 64],
+    codes: &[u32],
+    figures: &[f64],
     distances: &[f64],
     times: &[f64],
     size: usize,
-) -> Finished
+) -> Prefix
+    requires { ⌜ Long (numbers (now codes) (now figures)) ⌝ }
+    ensures { λ r.
+        let lists = numbers (now (codes .entry)) (now (figures .entry)) in
+        let tables = listed lists (now (distances .entry)) (now (times .entry)) size in
+        ⌜ prefixOf r ≡ onAllF tables (plain from) (now (calls .entry)) ⌝ }
+{
+    let mut way = from;
+    let mut i = 0;
+    while i < calls.len() {
+        let cid = calls[i];
+        let Driven::To(w) = drive_on(way, cid, codes, figures, distances, times, size) else {
+            return Prefix::Failed;
+        };
+        way = w;
+        i += 1;
+    }
+    Prefix::Plain(way)
+}
+
+// The same by the clock.
+pub fn clock_through(
+    from: Timed,
+    calls: &[usize],
+    codes: &[u32],
+    figures: &[f64],
+    distances: &[f64],
+    times: &[f64],
+    size: usize,
+) -> Prefix
+    requires { ⌜ Long (numbers (now codes) (now figures)) ⌝ }
+    requires { ⌜ from .clock .index + length (now calls) < 0xFFFF_FFFF_FFFF_FFFF ⌝ }
+    ensures { λ r.
+        let lists = numbers (now (codes .entry)) (now (figures .entry)) in
+        let tables = listed lists (now (distances .entry)) (now (times .entry)) size in
+        let so = clocked (clockOf (from .clock)) (from .distance) in
+        ⌜ prefixOf r ≡ onAllF tables so (now (calls .entry)) ⌝ }
+{
+    let mut timed = from;
+    let mut i = 0;
+    while i < calls.len() {
+        let cid = calls[i];
+        timed = tick_on(timed, cid, codes, figures, distances, times, size);
+        let clock = timed.clock;
+        if !clock.alive() {
+            return Prefix::Failed;
+        }
+        i += 1;
+    }
+    Prefix::Clock(timed)
+}
+
+// These calls, one after the other, as far as they can be served; their records are in the lists.
+pub fn go_through(
+    prefix: Prefix,
+    calls: &[usize],
+    codes: &[u32],
+    figures: &[f64],
+    distances: &[f64],
+    times: &[f64],
+    size: usize,
+) -> Prefix
+    requires { ⌜ Long (numbers (now codes) (now figures)) ⌝ }
     requires { ⌜ indexF (prefixOf prefix) + length (now calls) < 0xFFFF_FFFF_FFFF_FFFF ⌝ }
     ensures { λ r.
-        let tables = lent customers (now (distances .entry)) (now (times .entry)) size in
-        ⌜ finishedOf r ≡ endedF tables (prefixOf prefix) (now (calls .entry)) ⌝ }
+        let lists = numbers (now (codes .entry)) (now (figures .entry)) in
+        let tables = listed lists (now (distances .entry)) (now (times .entry)) size in
+        ⌜ prefixOf r ≡ onAllF tables (prefixOf prefix) (now (calls .entry)) ⌝ }
 {
     match prefix {
-        Prefix::Failed => Finished::Impossible,
-        Prefix::Plain(way) => plain_from(way, calls, customers, distances, times, size),
-        Prefix::Clock(timed) => clock_from(timed, calls, customers, distances, times, size),
+        Prefix::Failed => Prefix::Failed,
+        Prefix::Plain(way) => way_through(way, calls, codes, figures, distances, times, size),
+        Prefix::Clock(timed) => clock_through(timed, calls, codes, figures, distances, times, size),
     }
 }
 
-// Whether a run that these calls end is feasible.
+// The totals of the run that goes home from here.
+pub fn home_from(prefix: Prefix, distances: &[f64], times: &[f64], size: usize) -> Finished
+    ensures { λ r.
+        let leg = lookupF (now (distances .entry)) size in
+        let time = lookupF (timeTable (now (distances .entry)) (now (times .entry))) size in
+        ⌜ finishedOf r ≡ homeFromF leg time (prefixOf prefix) ⌝ }
+{
+    match prefix {
+        Prefix::Failed => Finished::Impossible,
+        Prefix::Plain(way) => way_home(way, distances, times, size),
+        Prefix::Clock(timed) => clock_home(timed, distances, times, size),
+    }
+}
+
+// Whether a run that these calls end is feasible; their records are in the lists.
 pub fn feasible_from(
     prefix: Prefix,
     calls: &[usize],
-    customers: [Customer; 64],
+    codes: &[u32],
+    figures: &[f64],
     distances: &[f64],
     times: &[f64],
     size: usize,
     limits: RouteLimits,
 ) -> bool
+    requires { ⌜ Long (numbers (now codes) (now figures)) ⌝ }
     requires { ⌜ indexF (prefixOf prefix) + length (now calls) < 0xFFFF_FFFF_FFFF_FFFF ⌝ }
     ensures { λ r.
-        let tables = lent customers (now (distances .entry)) (now (times .entry)) size in
+        let lists = numbers (now (codes .entry)) (now (figures .entry)) in
+        let tables = listed lists (now (distances .entry)) (now (times .entry)) size in
         ⌜ r ≡ feasibleFromF tables (limitsOf limits) (prefixOf prefix) (now (calls .entry)) ⌝ }
 {
-    match finish_from(prefix, calls, customers, distances, times, size) {
+    let end = go_through(prefix, calls, codes, figures, distances, times, size);
+    match home_from(end, distances, times, size) {
         Finished::Impossible => false,
         Finished::Home(s) => limits.allow(s.distance, s.duration),
     }

@@ -1,43 +1,44 @@
 -- `prefix::clock_on` meets its contract. Assumes nothing.
 use mathlib.Core.Path.{sym, _∙_}
-use Rattle.improve_base.specs.Prefix.{onF}
+use denote.Ref.{now}
+use Rattle.clock.specs.Records.{clockOf}
+use Rattle.cut_stops.specs.Stops.{numbers, listed}
+use Rattle.improve_base.proofs.Onward.{ticked-on, ticked-out}
 use borrow.Author.Needs.{needs}
 use Rattle.improve_base.proofs.prefix.clock_on.Statement.{statement}
 use Rattle.improve_base.proofs.prefix.clock_on.Tie as tie
 
-leg-between-requires : tie.Need-leg-between-requires
-leg-between-requires c κs = search needs
+abbrev start : tie.After-shared-slice-known4 → tie.Start
+start c = c .before .before .before .before
 
-push-requires : tie.Need-push-requires
-push-requires c κs = search needs
+tick-on-requires : tie.Need-tick-on-requires
+tick-on-requires c κs = search needs
 
 alive-requires : tie.Need-alive-requires
 alive-requires c κs = search needs
 
 returns : tie.Need-returns
-unfolding onF
 returns c =
-    let alive = c .before in
-    let pushed = alive .before in
-    let leg = pushed .before .before .before .leg-between .ensures in
-    let y = sym (alive .alive .ensures) ∙ c .if1 .taken in
-    rw (← leg .1, ← pushed .push .ensures, y) (rw (leg .0))
+    let asked = c .before in
+    let ticked = asked .before .before in
+    let a = start (ticked .before) .args in
+    let t = listed (numbers (now (a .codes)) (now (a .figures))) (now (a .distances)) (now (a .times)) (a .size) in
+    let new = ticked .tick-on .ensures in
+    ticked-on t (clockOf (a .timed .clock)) (a .timed .distance) (a .cid) _ (new .0) _ (new .1) (sym (asked .alive .ensures) ∙ c .if1 .taken)
 
 returns-2 : tie.Need-returns-2
-unfolding onF
 returns-2 c =
-    let alive = c .before in
-    let pushed = alive .before in
-    let leg = pushed .before .before .before .leg-between .ensures in
-    let n = sym (alive .alive .ensures) ∙ c .if1 .left in
-    rw (← leg .1, ← pushed .push .ensures, n)
+    let asked = c .before in
+    let ticked = asked .before .before in
+    let a = start (ticked .before) .args in
+    let t = listed (numbers (now (a .codes)) (now (a .figures))) (now (a .distances)) (now (a .times)) (a .size) in
+    ticked-out t (clockOf (a .timed .clock)) (a .timed .distance) (a .cid) _ (ticked .tick-on .ensures .0) (sym (asked .alive .ensures) ∙ c .if1 .left)
 
 pub clock-on-spec : {M : Type 1} → statement M
 clock-on-spec =
     tie.close
     (tie.spec
-    leg-between-requires
-    push-requires
+    tick-on-requires
     alive-requires
     returns
     returns-2)

@@ -7,8 +7,11 @@ use borrow.Author.Needs.{needs}
 use Rattle.improve_base.proofs.prefix.feasible_from.Statement.{statement}
 use Rattle.improve_base.proofs.prefix.feasible_from.Tie as tie
 
-finish-from-requires : tie.Need-finish-from-requires
-finish-from-requires c κs = search needs
+go-through-requires : tie.Need-go-through-requires
+go-through-requires c κs = search needs
+
+home-from-requires : tie.Need-home-from-requires
+home-from-requires c κs = search needs
 
 enum-told : tie.Need-enum-told
 enum-told c = search needs
@@ -22,20 +25,24 @@ allow-requires c κs = search needs
 returns : tie.Need-returns
 unfolding feasibleFromF
 returns c =
-    let e : c .before .before .finish-from .result ≡ Impossible = search needs in
-    rw (← c .before .before .finish-from .ensures, e)
+    let home = c .before .before in
+    let e : home .home-from .result ≡ Impossible = search needs in
+    rw (← home .before .go-through .ensures, ← home .home-from .ensures, e)
 
 returns-2 : tie.Need-returns-2
 unfolding feasibleFromF
 returns-2 c =
-    let e : c .before .before .before .before .finish-from .result ≡ Home (c .before .before .s .given .0 .0) = search needs in
-    rw (← c .before .before .before .before .finish-from .ensures, e) (c .allow .ensures ∙ given-there _ _)
+    let known = c .before .before in
+    let home = known .before .before in
+    let e : home .home-from .result ≡ Home (known .s .given .0 .0) = search needs in
+    rw (← home .before .go-through .ensures, ← home .home-from .ensures, e) (c .allow .ensures ∙ given-there _ _)
 
 pub feasible-from-spec : {M : Type 1} → statement M
 feasible-from-spec =
     tie.close
     (tie.spec
-    finish-from-requires
+    go-through-requires
+    home-from-requires
     enum-told
     enum-known-s
     allow-requires

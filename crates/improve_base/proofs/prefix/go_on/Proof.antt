@@ -6,8 +6,8 @@ use borrow.Author.Needs.{needs}
 use Rattle.improve_base.proofs.prefix.go_on.Statement.{statement}
 use Rattle.improve_base.proofs.prefix.go_on.Tie as tie
 
-abbrev start : tie.After-shared-slice-known2 → tie.Start
-start c = c .before .before
+abbrev start : tie.After-shared-slice-known4 → tie.Start
+start c = c .before .before .before .before
 
 enum-told : tie.Need-enum-told
 enum-told c = search needs
@@ -26,7 +26,7 @@ clock-on-requires c κs =
     let known = c .before in
     let s = start (known .before .before) in
     let e : s .args .prefix ≡ Clock (known .prefix2 .given .0 .0) = search needs in
-    rw e at (s .pre)
+    (s .pre .0, rw e at (s .pre .1))
 
 returns : tie.Need-returns
 unfolding onF

@@ -1,0 +1,100 @@
+// A bus on its way, by the way with no break or by its clock: one call more, whose record is in the lists of numbers,
+// and the way home.
+ghost use mathlib.Core.Path.{_≡_};
+ghost use Prim.Native.Nat.{_<_};
+ghost use lib.Ieee as Ieee;
+ghost use lib.Ieee.{binary64};
+ghost use Rattle.definitions.specs.Sheet.{timeTable};
+ghost use Rattle.distance.specs.Lookup.{lookupF};
+ghost use Rattle.clock.specs.Records.{clockOf, finishedOf};
+ghost use Rattle.evaluation.specs.Records.{drivenOf};
+ghost use Rattle.evaluation.specs.Tables.{distanceF};
+ghost use Rattle.evaluation.specs.Schedule.{tickF};
+ghost use Rattle.cut_stops.specs.Stops.{numbers, Long, listed};
+ghost use Rattle.improve_base.specs.Prefix.{plain, clocked, driveF, homeFromF};
+use clock::schedule::Finished;
+use cut_stops::stops::customer_at;
+use distance::leg::leg_between;
+use evaluation::schedule::Timed;
+use evaluation::schedule::record_index;
+use evaluation::way::Driven;
+use evaluation::way::Way;
+
+// One call more with no break.
+pub fn drive_on(
+    way: Way,
+    cid: usize,
+    codes: &[u32],
+    figures: &[f64],
+    distances: &[f64],
+    times: &[f64],
+    size: usize,
+) -> Driven
+    requires { ⌜ Long (numbers (now codes) (now figures)) ⌝ }
+    ensures { λ r.
+        let lists = numbers (now (codes .entry)) (now (figures .entry)) in
+        let tables = listed lists (now (distances .entry)) (now (times .entry)) size in
+        ⌜ drivenOf r ≡ driveF tables way cid ⌝ }
+{
+    let prev = way.prev;
+    let leg = leg_between(distances, times, size, prev, cid);
+    let index = record_index(cid);
+    let customer = customer_at(codes, figures, index);
+    way.on(cid, customer, leg.distance, leg.time)
+}
+
+// One call more by the clock.
+pub fn tick_on(
+    timed: Timed,
+    cid: usize,
+    codes: &[u32],
+    figures: &[f64],
+    distances: &[f64],
+    times: &[f64],
+    size: usize,
+) -> Timed
+    requires { ⌜ Long (numbers (now codes) (now figures)) × (timed .clock .index < 0xFFFF_FFFF_FFFF_FFFF) ⌝ }
+    ensures clock { λ r.
+        let lists = numbers (now (codes .entry)) (now (figures .entry)) in
+        let tables = listed lists (now (distances .entry)) (now (times .entry)) size in
+        ⌜ clockOf (r .clock) ≡ tickF tables (clockOf (timed .clock)) cid ⌝ }
+    ensures distance { λ r.
+        let leg = lookupF (now (distances .entry)) size in
+        ⌜ r .distance ≡ Ieee.add binary64 (timed .distance) (leg (timed .clock .prev) cid) ⌝ }
+{
+    let old = timed.clock;
+    let prev = old.prev;
+    let leg = leg_between(distances, times, size, prev, cid);
+    let index = record_index(cid);
+    let customer = customer_at(codes, figures, index);
+    Timed {
+        clock: old.push(cid, customer, leg.time),
+        distance: timed.distance + leg.distance,
+    }
+}
+
+// Home with no break.
+pub fn way_home(way: Way, distances: &[f64], times: &[f64], size: usize) -> Finished
+    ensures { λ r.
+        let leg = lookupF (now (distances .entry)) size in
+        let time = lookupF (timeTable (now (distances .entry)) (now (times .entry))) size in
+        ⌜ finishedOf r ≡ homeFromF leg time (plain way) ⌝ }
+{
+    let label = way.label;
+    let prev = way.prev;
+    let back = leg_between(distances, times, size, prev, 0);
+    Finished::Home(label.home(way.distance + back.distance, back.time))
+}
+
+// Home by the clock.
+pub fn clock_home(timed: Timed, distances: &[f64], times: &[f64], size: usize) -> Finished
+    ensures { λ r.
+        let leg = lookupF (now (distances .entry)) size in
+        let time = lookupF (timeTable (now (distances .entry)) (now (times .entry))) size in
+        ⌜ finishedOf r ≡ homeFromF leg time (clocked (clockOf (timed .clock)) (timed .distance)) ⌝ }
+{
+    let clock = timed.clock;
+    let prev = clock.prev;
+    let back = leg_between(distances, times, size, prev, 0);
+    clock.finish(timed.distance + back.distance, back.time)
+}
