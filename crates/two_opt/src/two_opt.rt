@@ -7,16 +7,19 @@ ghost use lib.ListN.{length, take};
 ghost use Rattle.definitions.specs.Room.{written};
 ghost use Rattle.distance.specs.Lookup.{lookupF};
 ghost use Rattle.evaluation.specs.Records.{limitsOf, lent};
+ghost use Rattle.cut_stops.specs.Stops.{numbers, Long, listed};
 ghost use Rattle.improve_base.specs.Search.{searchOf};
 ghost use Rattle.improve_base.specs.Prefix.{prefixOf, failedF, indexF, feasibleFromF, Leads};
 ghost use Rattle.two_opt.specs.Delta.{intoF, reversalDeltaF, deltaF};
 ghost use Rattle.two_opt.specs.TwoOpt.{state, gainsF, reversedF, triedAllF, passF, improvedF, improvedDistanceF};
 use crate::reverse::reverse;
+use cut_stops::stops::ALL_CODES;
+use cut_stops::stops::ALL_FIGURES;
+use cut_stops::stops::work_out;
 use cut_table::held::write_front;
 use distance::matrix::get;
 use evaluation::route::call_at;
 use evaluation::route::place_before;
-use evaluation::schedule::record_index;
 use improve_base::prefix::Prefix;
 use improve_base::prefix::feasible_from;
 use improve_base::prefix::go_on;
@@ -104,21 +107,33 @@ pub fn gains(
 pub fn is_allowed(
     prefix: Prefix,
     calls: &[usize],
-    customers: [Customer; 64],
+    codes: &[u32],
+    figures: &[f64],
     distances: &[f64],
     times: &[f64],
     size: usize,
     search: Search,
 ) -> bool
+    requires { ⌜ Long (numbers (now codes) (now figures)) ⌝ }
     requires { ⌜ indexF (prefixOf prefix) + length (now calls) < 0xFFFF_FFFF_FFFF_FFFF ⌝ }
     ensures { λ r.
-        let tables = lent customers (now (distances .entry)) (now (times .entry)) size in
+        let lists = numbers (now (codes .entry)) (now (figures .entry)) in
+        let tables = listed lists (now (distances .entry)) (now (times .entry)) size in
         let feasible = feasibleFromF tables (limitsOf (search .limits)) (prefixOf prefix) (now (calls .entry)) in
         ⌜ r ≡ cond (search .constrained) feasible true ⌝ }
 {
     if search.constrained {
         let limits = search.limits;
-        return feasible_from(prefix, calls, customers, distances, times, size, limits);
+        return feasible_from(
+            prefix,
+            calls,
+            codes,
+            figures,
+            distances,
+            times,
+            size,
+            limits,
+        );
     }
     true
 }
@@ -127,7 +142,8 @@ pub fn is_allowed(
 // calls before i leave the bus. Gives whether a reversal is taken, here or before.
 pub fn reverse_if_allowed(
     current: &mut [usize],
-    customers: [Customer; 64],
+    codes: &[u32],
+    figures: &[f64],
     distances: &[f64],
     times: &[f64],
     size: usize,
@@ -137,11 +153,12 @@ pub fn reverse_if_allowed(
     j: usize,
     improved: bool,
 ) -> bool
-    requires { ⌜ (i < j) × (j < length (now current)) ⌝ }
-    requires { let tables = lent customers (now distances) (now times) size in
+    requires { ⌜ Long (numbers (now codes) (now figures)) × (i < j) × (j < length (now current)) ⌝ }
+    requires { let tables = listed (numbers (now codes) (now figures)) (now distances) (now times) size in
         ⌜ Leads tables (limitsOf (search .limits)) (take i (now current)) (prefixOf prefix) ⌝ }
     ensures { λ r.
-        let tables = lent customers (now (distances .entry)) (now (times .entry)) size in
+        let lists = numbers (now (codes .entry)) (now (figures .entry)) in
+        let tables = listed lists (now (distances .entry)) (now (times .entry)) size in
         let old = state (now (current .entry)) improved in
         ⌜ state (now (current .exit)) r ≡ reversedF tables (searchOf search) i j old ⌝ }
 {
@@ -150,7 +167,8 @@ pub fn reverse_if_allowed(
     if !is_allowed(
         prefix,
         &current[i..],
-        customers,
+        codes,
+        figures,
         distances,
         times,
         size,
@@ -176,7 +194,8 @@ pub fn no_run(search: Search, prefix: Prefix) -> bool
 // calls before i stay, so where they cannot be served, none is.
 pub fn try_all(
     current: &mut [usize],
-    customers: [Customer; 64],
+    codes: &[u32],
+    figures: &[f64],
     distances: &[f64],
     times: &[f64],
     size: usize,
@@ -185,11 +204,12 @@ pub fn try_all(
     i: usize,
     improved: bool,
 ) -> bool
-    requires { ⌜ i < length (now current) ⌝ }
-    requires { let tables = lent customers (now distances) (now times) size in
+    requires { ⌜ Long (numbers (now codes) (now figures)) × (i < length (now current)) ⌝ }
+    requires { let tables = listed (numbers (now codes) (now figures)) (now distances) (now times) size in
         ⌜ Leads tables (limitsOf (search .limits)) (take i (now current)) (prefixOf prefix) ⌝ }
     ensures { λ r.
-        let tables = lent customers (now (distances .entry)) (now (times .entry)) size in
+        let lists = numbers (now (codes .entry)) (now (figures .entry)) in
+        let tables = listed lists (now (distances .entry)) (now (times .entry)) size in
         let old = state (now (current .entry)) improved in
         ⌜ state (now (current .exit)) r ≡ triedAllF tables (searchOf search) (length (now (current .entry))) i old ⌝ }
     ensures { λ _. ⌜ take i (now (current .exit)) ≡ take i (now (current .entry)) ⌝ }
@@ -208,7 +228,8 @@ pub fn try_all(
         }
         any = reverse_if_allowed(
             &mut *current,
-            customers,
+            codes,
+            figures,
             distances,
             times,
             size,
@@ -226,14 +247,17 @@ pub fn try_all(
 // A pass: each first call in turn; a run of fewer than two calls has none. Gives whether a reversal is taken.
 pub fn pass(
     current: &mut [usize],
-    customers: [Customer; 64],
+    codes: &[u32],
+    figures: &[f64],
     distances: &[f64],
     times: &[f64],
     size: usize,
     search: Search,
 ) -> bool
+    requires { ⌜ Long (numbers (now codes) (now figures)) ⌝ }
     ensures { λ r.
-        let tables = lent customers (now (distances .entry)) (now (times .entry)) size in
+        let lists = numbers (now (codes .entry)) (now (figures .entry)) in
+        let tables = listed lists (now (distances .entry)) (now (times .entry)) size in
         ⌜ state (now (current .exit)) r ≡ passF tables (searchOf search) (now (current .entry)) ⌝ }
 {
     let mut improved = false;
@@ -244,7 +268,8 @@ pub fn pass(
     while i + 1 < current.len() {
         improved = try_all(
             &mut *current,
-            customers,
+            codes,
+            figures,
             distances,
             times,
             size,
@@ -254,8 +279,7 @@ pub fn pass(
             improved,
         );
         let cid = current[i];
-        let index = record_index(cid);
-        prefix = go_on(prefix, cid, customers[index], distances, times, size);
+        prefix = go_on(prefix, cid, codes, figures, distances, times, size);
         i += 1;
     }
     improved
@@ -268,19 +292,30 @@ pub const MOST_PASSES: u32 = 1_290_000_000;
 // Passes until one takes no reversal.
 pub fn passes(
     current: &mut [usize],
-    customers: [Customer; 64],
+    codes: &[u32],
+    figures: &[f64],
     distances: &[f64],
     times: &[f64],
     size: usize,
     search: Search,
 )
+    requires { ⌜ Long (numbers (now codes) (now figures)) ⌝ }
     ensures { λ _.
-        let tables = lent customers (now (distances .entry)) (now (times .entry)) size in
+        let lists = numbers (now (codes .entry)) (now (figures .entry)) in
+        let tables = listed lists (now (distances .entry)) (now (times .entry)) size in
         ⌜ now (current .exit) ≡ improvedF tables (searchOf search) (now (current .entry)) ⌝ }
 {
     let mut left = MOST_PASSES;
     while 0 < left {
-        if !pass(&mut *current, customers, distances, times, size, search) {
+        if !pass(
+            &mut *current,
+            codes,
+            figures,
+            distances,
+            times,
+            size,
+            search,
+        ) {
             return;
         }
         left -= 1;
@@ -305,8 +340,19 @@ pub fn improve(
         let tables = lent customers (now (distances .entry)) (now (times .entry)) size in
         ⌜ now (current .exit) ≡ improvedF tables (searchOf search) (now (route .entry)) ⌝ }
 {
+    let mut codes = [0u32; ALL_CODES];
+    let mut figures = [0.0; ALL_FIGURES];
+    work_out(customers, distances, times, size, &mut codes, &mut figures);
     write_front(route, &mut *current);
-    passes(&mut *current, customers, distances, times, size, search);
+    passes(
+        &mut *current,
+        &codes,
+        &figures,
+        distances,
+        times,
+        size,
+        search,
+    );
     route_distance(&current[..], distances, size)
 }
 

@@ -7,8 +7,8 @@ use mathlib.Core.Path.{_≡_, refl, sym, ap, _∙_}
 use lib.ListN.{length, take, length-take}
 use denote.Ref.{now}
 use Rattle.basics.specs.Lists.{count}
-use Rattle.evaluation.specs.Records.{Tables, limitsOf, lent}
-use Rattle.evaluation.proofs.Reading.{read-record}
+use Rattle.evaluation.specs.Records.{Tables, limitsOf}
+use Rattle.cut_stops.specs.Stops.{numbers, listed}
 use Rattle.improve_base.specs.Search.{searchOf}
 use Rattle.improve_base.specs.Prefix.{prefixOf, Leads}
 use Rattle.improve_base.proofs.Leading.{leads-start, leads-next}
@@ -19,20 +19,23 @@ use Rattle.two_opt.proofs.two_opt.pass.Statement.{statement}
 use Rattle.two_opt.proofs.two_opt.pass.Tie as tie
 
 abbrev Inv-loop : tie.InvT-loop
-Inv-loop current₀ distances times size search customers improved₀ prefix₀ i₀ current improved prefix i =
+Inv-loop current₀ codes figures distances times size search improved₀ prefix₀ i₀ current improved prefix i =
     (length current ≡ length current₀)
     × (i ≤ length current₀)
-    × (passFromF (lent customers distances times size) (searchOf search) (length current₀) (count i (length current₀ - 1 - i)) (state current improved)
-    ≡ passF (lent customers distances times size) (searchOf search) current₀)
-    × Leads (lent customers distances times size) (limitsOf (search .limits)) (take i current) (prefixOf prefix)
+    × (passFromF (listed (numbers codes figures) distances times size) (searchOf search) (length current₀) (count i (length current₀ - 1 - i)) (state current improved)
+    ≡ passF (listed (numbers codes figures) distances times size) (searchOf search) current₀)
+    × Leads (listed (numbers codes figures) distances times size) (limitsOf (search .limits)) (take i current) (prefixOf prefix)
 
 abbrev μ-loop : tie.MeasureT-loop
-μ-loop current₀ distances times size search customers improved₀ prefix₀ i₀ current improved prefix i = length current - i
+μ-loop current₀ codes figures distances times size search improved₀ prefix₀ i₀ current improved prefix i = length current - i
 
--- ---- the places on the way: from the beginning, from the loop, and from the last calls tried
+-- ---- the places on the way: from the opening, from the beginning, from the loop, and from the last calls tried
+
+abbrev opening : tie.After-shared-slice-known4 Inv-loop μ-loop → tie.Start Inv-loop μ-loop
+opening c = c .before .before .before .before .before
 
 abbrev entry : tie.After-set-out Inv-loop μ-loop → tie.Start Inv-loop μ-loop
-entry c = c .before .before .before .before .before
+entry c = opening (c .before .before)
 
 abbrev start : tie.At-loop Inv-loop μ-loop → tie.Start Inv-loop μ-loop
 start c = entry (c .before)
@@ -41,7 +44,7 @@ abbrev loop : tie.After-try-all Inv-loop μ-loop → tie.At-loop Inv-loop μ-loo
 loop c = c .before .before .before
 
 abbrev tables : tie.Start Inv-loop μ-loop → Tables
-tables s = let a = s .args in lent (a .t2) (now (a .distances)) (now (a .times)) (a .size)
+tables s = let a = s .args in listed (numbers (now (a .codes)) (now (a .figures))) (now (a .distances)) (now (a .times)) (a .size)
 
 set-out-requires : tie.Need-set-out-requires Inv-loop μ-loop
 set-out-requires c κs = search needs
@@ -61,8 +64,8 @@ add-loop c = search needs
 
 try-all-requires : tie.Need-try-all-requires Inv-loop μ-loop
 try-all-requires c κs =
-    let l = c .before .before .loop in
-    (omega arith, l .inv .3)
+    let at = c .before .before in
+    ((start at .pre, omega arith), at .loop .inv .3)
 
 mul-cid : tie.Need-mul-cid Inv-loop μ-loop
 mul-cid c = search needs
@@ -70,20 +73,11 @@ mul-cid c = search needs
 slice-read-cid : tie.Need-slice-read-cid Inv-loop μ-loop
 slice-read-cid c = search needs
 
-record-index-requires : tie.Need-record-index-requires Inv-loop μ-loop
-record-index-requires c κs = search needs
-
-mul-go-on : tie.Need-mul-go-on Inv-loop μ-loop
-mul-go-on c = search needs
-
-array-copy-out-go-on : tie.Need-array-copy-out-go-on Inv-loop μ-loop
-array-copy-out-go-on c = search needs
-
 go-on-requires : tie.Need-go-on-requires Inv-loop μ-loop
 go-on-requires c κs =
-    let tried = c .before .before .before .before .before in
-    let l = loop tried .loop in
-    omega (arith, l .inv .3 .index, length-take (l .i) (l .current))
+    let at = loop (c .before .before .before) in
+    let l = at .loop in
+    (start at .pre, omega (arith, l .inv .3 .index, length-take (l .i) (l .current)))
 
 add-i : tie.Need-add-i Inv-loop μ-loop
 add-i c = search needs
@@ -93,8 +87,7 @@ loop-less c = search needs
 
 loop-again : tie.Need-loop-again Inv-loop μ-loop
 loop-again c =
-    let indexed = c .before .before in
-    let tried = indexed .before .before .before .before in
+    let tried = c .before .before .before .before in
     let at = loop tried in
     let s = start at in
     let a = s .args in
@@ -102,12 +95,10 @@ loop-again c =
     let l = at .loop in
     let long = tried .try-all .kept .0 in
     let all = tried .try-all .ensures .0 ∙ ap (λ (n : ℕ). triedAllF t (searchOf (a .search)) n (l .i) (state (l .current) (l .improved))) (l .inv .0) in
-    let index = indexed .record-index .ensures in
-    let its-record = read-record (a .t2) (now (a .distances)) (now (a .times)) (a .size) _ _ _ (s .good .1 .0 .1 .0 .1) (index .0) (index .1) in
     let next = first-more t (searchOf (a .search)) (length (now (a .current))) (l .i) (state (l .current) (l .improved)) (omega arith) _ all in
     let leads =
     leads-next t (limitsOf (a .search .limits)) (l .i) (l .current) _ (prefixOf (l .prefix)) _ (omega (arith, long)) (tried .try-all .ensures .1) (l .inv .3)
-    _ its-record (c .go-on .ensures) in
+    (c .go-on .ensures) in
     (long ∙ l .inv .0, omega arith, sym next ∙ l .inv .2, leads)
 
 same-length : tie.Need-same-length Inv-loop μ-loop
@@ -131,9 +122,6 @@ pass-spec =
     try-all-requires
     mul-cid
     slice-read-cid
-    record-index-requires
-    mul-go-on
-    array-copy-out-go-on
     go-on-requires
     add-i
     loop-less

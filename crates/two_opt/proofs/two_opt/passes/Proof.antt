@@ -3,7 +3,8 @@ use mathlib.Core.Path.{_≡_, refl, sym, ap, _∙_}
 use lib.ListN.{length}
 use denote.Ref.{now}
 use Rattle.basics.proofs.TestLaws.{not-true, not-false}
-use Rattle.evaluation.specs.Records.{Tables, lent}
+use Rattle.evaluation.specs.Records.{Tables}
+use Rattle.cut_stops.specs.Stops.{numbers, listed}
 use Rattle.improve_base.specs.Search.{searchOf}
 use Rattle.two_opt.specs.TwoOpt.{state, passesF, improvedF}
 use Rattle.two_opt.proofs.Passing.{pass-more, pass-last, no-pass}
@@ -12,23 +13,26 @@ use Rattle.two_opt.proofs.two_opt.passes.Statement.{statement}
 use Rattle.two_opt.proofs.two_opt.passes.Tie as tie
 
 abbrev Inv-loop : tie.InvT-loop
-Inv-loop current₀ customers distances times size search left₀ current left =
+Inv-loop current₀ codes figures distances times size search left₀ current left =
     (length current ≡ length current₀)
-    × (passesF (lent customers distances times size) (searchOf search) left current ≡ improvedF (lent customers distances times size) (searchOf search) current₀)
+    × (passesF (listed (numbers codes figures) distances times size) (searchOf search) left current ≡ improvedF (listed (numbers codes figures) distances times size) (searchOf search) current₀)
 
 abbrev μ-loop : tie.MeasureT-loop
-μ-loop current₀ customers distances times size search left₀ current left = left
+μ-loop current₀ codes figures distances times size search left₀ current left = left
 
--- ---- the places on the way: from the loop, and from a pass
+-- ---- the places on the way: from the opening, from the loop, and from a pass
+
+abbrev opening : tie.After-shared-slice-known4 Inv-loop μ-loop → tie.Start Inv-loop μ-loop
+opening c = c .before .before .before .before .before
 
 abbrev start : tie.At-loop Inv-loop μ-loop → tie.Start Inv-loop μ-loop
-start c = c .before .before .before .before
+start c = opening (c .before)
 
 abbrev loop : tie.After-pass Inv-loop μ-loop → tie.At-loop Inv-loop μ-loop
 loop c = c .before .before .before
 
 abbrev tables : tie.Start Inv-loop μ-loop → Tables
-tables s = let a = s .args in lent (a .customers) (now (a .distances)) (now (a .times)) (a .size)
+tables s = let a = s .args in listed (numbers (now (a .codes)) (now (a .figures))) (now (a .distances)) (now (a .times)) (a .size)
 
 loop-holds : tie.Need-loop-holds Inv-loop μ-loop
 unfolding improvedF

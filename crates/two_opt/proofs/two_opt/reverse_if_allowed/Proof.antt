@@ -4,13 +4,16 @@ use mathlib.Core.Path.{_∙_}
 use lib.ListN.{length-take}
 use denote.Ref.{now}
 use Rattle.basics.proofs.TestLaws.{not-true, not-false}
-use Rattle.evaluation.specs.Records.{lent}
+use Rattle.cut_stops.specs.Stops.{numbers, listed}
 use Rattle.improve_base.specs.Search.{searchOf}
 use Rattle.improve_base.specs.Prefix.{prefixOf}
 use Rattle.two_opt.proofs.Trying.{made, undone, left-long, allowed-from}
 use borrow.Author.Needs.{needs}
 use Rattle.two_opt.proofs.two_opt.reverse_if_allowed.Statement.{statement}
 use Rattle.two_opt.proofs.two_opt.reverse_if_allowed.Tie as tie
+
+abbrev start : tie.After-shared-slice-known4 → tie.Start
+start c = c .before .before .before .before .before
 
 add-end : tie.Need-add-end
 add-end c = search needs
@@ -45,9 +48,10 @@ part-is-allowed-end c = search needs
 is-allowed-requires : tie.Need-is-allowed-requires
 is-allowed-requires c κs =
     let reversed = c .before .before .before .before in
-    let S = reversed .before .before .before .before .before in
+    let S = start (reversed .before .before) in
     let a = S .args in
-    omega (arith, left-long (a .i) (a .j) (now (a .current)) _ (reversed .reverse .ensures) (S .pre .0 .0) (S .pre .0 .1), S .pre .1 .index, length-take (a .i) (now (a .current)))
+    let long = left-long (a .i) (a .j) (now (a .current)) _ (reversed .reverse .ensures) (S .pre .0 .1) (S .pre .0 .2) in
+    (S .pre .0 .0, omega (arith, long, S .pre .1 .index, length-take (a .i) (now (a .current))))
 
 mul-reverse-2 : tie.Need-mul-reverse-2
 mul-reverse-2 c = search needs
@@ -72,12 +76,12 @@ returns c =
     let tested = c .before .before .before .before in
     let asked = tested .before in
     let reversed = asked .before .before .before .before .before in
-    let S = reversed .before .before .before .before .before in
+    let S = start (reversed .before .before) in
     let a = S .args in
-    let t = lent (a .customers) (now (a .distances)) (now (a .times)) (a .size) in
+    let t = listed (numbers (now (a .codes)) (now (a .figures))) (now (a .distances)) (now (a .times)) (a .size) in
     let s = searchOf (a .search) in
-    let no = allowed-from t s (a .i) (now (a .current)) _ (prefixOf (a .prefix)) (omega (arith, S .pre .0)) (S .pre .1) _ (asked .is-allowed .ensures) ∙ not-true _ (tested .if1 .taken) in
-    undone t s (a .i) (a .j) (now (a .current)) (a .improved) _ (reversed .reverse .ensures) (S .pre .0 .0) (S .pre .0 .1) no _ (c .before .before .reverse2 .ensures)
+    let no = allowed-from t s (a .i) (now (a .current)) _ (prefixOf (a .prefix)) (omega (arith, S .pre .0 .1, S .pre .0 .2)) (S .pre .1) _ (asked .is-allowed .ensures) ∙ not-true _ (tested .if1 .taken) in
+    undone t s (a .i) (a .j) (now (a .current)) (a .improved) _ (reversed .reverse .ensures) (S .pre .0 .1) (S .pre .0 .2) no _ (c .before .before .reverse2 .ensures)
 
 same-length-2 : tie.Need-same-length-2
 same-length-2 c = search needs
@@ -86,11 +90,11 @@ returns-2 : tie.Need-returns-2
 returns-2 c =
     let asked = c .before in
     let reversed = asked .before .before .before .before .before in
-    let S = reversed .before .before .before .before .before in
+    let S = start (reversed .before .before) in
     let a = S .args in
-    let t = lent (a .customers) (now (a .distances)) (now (a .times)) (a .size) in
+    let t = listed (numbers (now (a .codes)) (now (a .figures))) (now (a .distances)) (now (a .times)) (a .size) in
     let s = searchOf (a .search) in
-    let yes = allowed-from t s (a .i) (now (a .current)) _ (prefixOf (a .prefix)) (omega (arith, S .pre .0)) (S .pre .1) _ (asked .is-allowed .ensures) ∙ not-false _ (c .if1 .left) in
+    let yes = allowed-from t s (a .i) (now (a .current)) _ (prefixOf (a .prefix)) (omega (arith, S .pre .0 .1, S .pre .0 .2)) (S .pre .1) _ (asked .is-allowed .ensures) ∙ not-false _ (c .if1 .left) in
     made t s (a .i) (a .j) (now (a .current)) (a .improved) _ (reversed .reverse .ensures) yes
 
 pub reverse-if-allowed-spec : {M : Type 1} → statement M

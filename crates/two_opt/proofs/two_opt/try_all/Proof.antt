@@ -9,7 +9,8 @@ use denote.Ref.{now}
 use Rattle.basics.proofs.TestLaws.{both, not-true, not-false}
 use Rattle.basics.specs.Lists.{count}
 use Rattle.distance.specs.Lookup.{lookupF}
-use Rattle.evaluation.specs.Records.{Tables, limitsOf, lent}
+use Rattle.evaluation.specs.Records.{Tables, limitsOf}
+use Rattle.cut_stops.specs.Stops.{numbers, listed}
 use Rattle.improve_base.specs.Search.{searchOf}
 use Rattle.improve_base.specs.Prefix.{prefixOf}
 use Rattle.improve_base.proofs.Leading.{not-feasible}
@@ -22,21 +23,24 @@ use Rattle.two_opt.proofs.two_opt.try_all.Statement.{statement}
 use Rattle.two_opt.proofs.two_opt.try_all.Tie as tie
 
 abbrev Inv-loop : tie.InvT-loop
-Inv-loop current₀ customers distances times size search prefix i improved any₀ next₀ into₀ current any next into =
+Inv-loop current₀ codes figures distances times size search prefix i improved any₀ next₀ into₀ current any next into =
     (length current ≡ length current₀)
     × (i < next)
-    × (triedEachF (lent customers distances times size) (searchOf search) i (count next (length current₀ - next)) (state current any)
-    ≡ triedAllF (lent customers distances times size) (searchOf search) (length current₀) i (state current₀ improved))
+    × (triedEachF (listed (numbers codes figures) distances times size) (searchOf search) i (count next (length current₀ - next)) (state current any)
+    ≡ triedAllF (listed (numbers codes figures) distances times size) (searchOf search) (length current₀) i (state current₀ improved))
     × (take i current ≡ take i current₀)
     × (into ≡ intoF (lookupF distances size) i current)
 
 abbrev μ-loop : tie.MeasureT-loop
-μ-loop current₀ customers distances times size search prefix i improved any₀ next₀ into₀ current any next into = length current - next
+μ-loop current₀ codes figures distances times size search prefix i improved any₀ next₀ into₀ current any next into = length current - next
 
--- ---- the places on the way: from the first test, from the loop, and from the test of a gain
+-- ---- the places on the way: from the opening, from the first test, from the loop, and from the test of a gain
+
+abbrev opening : tie.After-shared-slice-known4 Inv-loop μ-loop → tie.Start Inv-loop μ-loop
+opening c = c .before .before .before .before .before
 
 abbrev entry : tie.After-no-run Inv-loop μ-loop → tie.Start Inv-loop μ-loop
-entry c = c .before .before .before .before
+entry c = opening (c .before)
 
 abbrev start : tie.At-loop Inv-loop μ-loop → tie.Start Inv-loop μ-loop
 start c = entry (c .before .before .before .before)
@@ -45,7 +49,7 @@ abbrev loop : tie.After-gains Inv-loop μ-loop → tie.At-loop Inv-loop μ-loop
 loop c = c .before .before .before
 
 abbrev tables : tie.Start Inv-loop μ-loop → Tables
-tables s = let a = s .args in lent (a .customers) (now (a .distances)) (now (a .times)) (a .size)
+tables s = let a = s .args in listed (numbers (now (a .codes)) (now (a .figures))) (now (a .distances)) (now (a .times)) (a .size)
 
 no-run-requires : tie.Need-no-run-requires Inv-loop μ-loop
 no-run-requires c κs = search needs
@@ -97,7 +101,7 @@ reverse-if-allowed-requires : tie.Need-reverse-if-allowed-requires Inv-loop μ-l
 reverse-if-allowed-requires c κs =
     let at = loop (c .before .before) in
     let l = at .loop in
-    ((l .inv .1, omega arith), rw (l .inv .3) (start at .pre .1))
+    ((start at .pre .0 .0, l .inv .1, omega arith), rw (l .inv .3) (start at .pre .1))
 
 leg-into-requires-2 : tie.Need-leg-into-requires-2 Inv-loop μ-loop
 leg-into-requires-2 c κs =
