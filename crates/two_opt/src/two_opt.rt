@@ -1,9 +1,9 @@
 // The reversal of stretches of a run (local_search/two_opt.rs): while one lowers the distance and makes a run that is
 // allowed, it is taken. Only sheets without lateness pay come here.
 ghost use mathlib.Core.Path.{_≡_};
-ghost use Prim.Native.Nat.{_+_, _<_, _≤_};
+ghost use Prim.Native.Nat.{suc, _+_, _-_, _<_, _≤_};
 ghost use mathlib.Core.Bool.{true, cond, _&&_};
-ghost use lib.ListN.{length, take};
+ghost use lib.ListN.{length, take, drop};
 ghost use Rattle.definitions.specs.Room.{written};
 ghost use Rattle.distance.specs.Lookup.{lookupF};
 ghost use Rattle.evaluation.specs.Records.{limitsOf, lent};
@@ -50,6 +50,49 @@ pub fn reversal_delta(segment: &[usize], distances: &[f64], size: usize, symmetr
     sum
 }
 
+// The same for the calls of a run from i up to `end`.
+pub fn turned_between(
+    route: &[usize],
+    distances: &[f64],
+    size: usize,
+    symmetric: bool,
+    i: usize,
+    end: usize,
+) -> f64
+    requires { ⌜ (i < end) × (end ≤ length (now route)) ⌝ }
+    ensures { λ r.
+        let leg = lookupF (now (distances .entry)) size in
+        ⌜ r ≡ reversalDeltaF leg symmetric (take (end - i) (drop i (now (route .entry)))) ⌝ }
+{
+    reversal_delta(&route[i..end], distances, size, symmetric)
+}
+
+// The same for the calls from i up to and with j; `turned` is what it comes to for those before j.
+pub fn turned_on(
+    route: &[usize],
+    distances: &[f64],
+    size: usize,
+    symmetric: bool,
+    turned: f64,
+    i: usize,
+    j: usize,
+) -> f64
+    requires { ⌜ (i < j) × (j < length (now route)) ⌝ }
+    requires { let leg = lookupF (now distances) size in
+        ⌜ turned ≡ reversalDeltaF leg symmetric (take (j - i) (drop i (now route))) ⌝ }
+    ensures { λ r.
+        let leg = lookupF (now (distances .entry)) size in
+        ⌜ r ≡ reversalDeltaF leg symmetric (take (suc j - i) (drop i (now (route .entry)))) ⌝ }
+{
+    if symmetric {
+        return turned;
+    }
+    let prev = route[j - 1];
+    let next = route[j];
+    let back = get(distances, size, next, prev);
+    turned + (back - get(distances, size, prev, next))
+}
+
 // The leg into call number i, from 0.
 pub fn leg_into(route: &[usize], distances: &[f64], size: usize, i: usize) -> f64
     requires { ⌜ i < length (now route) ⌝ }
@@ -60,18 +103,22 @@ pub fn leg_into(route: &[usize], distances: &[f64], size: usize, i: usize) -> f6
     get(distances, size, prev_i, first)
 }
 
-// What turning the calls from i up to and with j changes in the distance; `into` is the leg into call i.
+// What turning the calls from i up to and with j changes in the distance; `into` is the leg into call i, and `turned`
+// what their own legs change.
 pub fn two_opt_delta(
     route: &[usize],
     distances: &[f64],
     size: usize,
     symmetric: bool,
     into: f64,
+    turned: f64,
     i: usize,
     j: usize,
 ) -> f64
     requires { ⌜ (i < j) × (j < length (now route)) ⌝ }
     requires { ⌜ into ≡ intoF (lookupF (now distances) size) i (now route) ⌝ }
+    requires { let leg = lookupF (now distances) size in
+        ⌜ turned ≡ reversalDeltaF leg symmetric (take (suc j - i) (drop i (now route))) ⌝ }
     ensures { λ r. ⌜ r ≡ deltaF (lookupF (now (distances .entry)) size) symmetric i j (now (route .entry)) ⌝ }
 {
     let first = route[i];
@@ -82,7 +129,7 @@ pub fn two_opt_delta(
     let old_cost = into + get(distances, size, last, next_j);
     let new_in = get(distances, size, prev_i, last);
     let new_cost = new_in + get(distances, size, first, next_j);
-    new_cost - old_cost + reversal_delta(&route[i..end], distances, size, symmetric)
+    new_cost - old_cost + turned
 }
 
 // Whether turning the calls from i up to and with j gains enough to count.
@@ -92,14 +139,17 @@ pub fn gains(
     size: usize,
     search: Search,
     into: f64,
+    turned: f64,
     i: usize,
     j: usize,
 ) -> bool
     requires { ⌜ (i < j) × (j < length (now route)) ⌝ }
     requires { ⌜ into ≡ intoF (lookupF (now distances) size) i (now route) ⌝ }
+    requires { let leg = lookupF (now distances) size in
+        ⌜ turned ≡ reversalDeltaF leg (search .symmetric) (take (suc j - i) (drop i (now route))) ⌝ }
     ensures { λ r. ⌜ r ≡ gainsF (lookupF (now (distances .entry)) size) (searchOf search) i j (now (route .entry)) ⌝ }
 {
-    let delta = two_opt_delta(route, distances, size, search.symmetric, into, i, j);
+    let delta = two_opt_delta(route, distances, size, search.symmetric, into, turned, i, j);
     delta < -search.floor
 }
 
@@ -220,10 +270,20 @@ pub fn try_all(
     let mut any = improved;
     let mut next = i + 1;
     let mut into = leg_into(&current[..], distances, size, i);
+    let mut turned = turned_between(&current[..], distances, size, search.symmetric, i, next);
     while next < current.len() {
         let j = next;
         next += 1;
-        if !gains(&current[..], distances, size, search, into, i, j) {
+        turned = turned_on(
+            &current[..],
+            distances,
+            size,
+            search.symmetric,
+            turned,
+            i,
+            j,
+        );
+        if !gains(&current[..], distances, size, search, into, turned, i, j) {
             continue;
         }
         any = reverse_if_allowed(
@@ -240,6 +300,7 @@ pub fn try_all(
             any,
         );
         into = leg_into(&current[..], distances, size, i);
+        turned = turned_between(&current[..], distances, size, search.symmetric, i, next);
     }
     any
 }

@@ -1,10 +1,10 @@
 -- `two_opt::try_all` meets its contract. The loop's invariant: the last calls from `next` on, tried from here, end as all of them do, the calls before i have
--- stayed, and `into` is the leg into call i. Assumes nothing.
+-- stayed, `into` is the leg into call i, and `turned` what turning the calls from i up to `next` changes in their own legs. Assumes nothing.
 use Prim.Native.Nat.{suc, _-_, _<_}
 use native.Mathlib.Numerals.{add-one}
 use native.Mathlib.Omega.{arith}
 use mathlib.Core.Path.{_≡_, refl, sym, _∙_}
-use lib.ListN.{length, take}
+use lib.ListN.{length, take, drop}
 use denote.Ref.{now}
 use Rattle.basics.proofs.TestLaws.{both, not-true, not-false}
 use Rattle.basics.specs.Lists.{count}
@@ -14,7 +14,7 @@ use Rattle.cut_stops.specs.Stops.{numbers, listed}
 use Rattle.improve_base.specs.Search.{searchOf}
 use Rattle.improve_base.specs.Prefix.{prefixOf}
 use Rattle.improve_base.proofs.Leading.{not-feasible}
-use Rattle.two_opt.specs.Delta.{intoF}
+use Rattle.two_opt.specs.Delta.{intoF, reversalDeltaF}
 use Rattle.two_opt.specs.TwoOpt.{state, triedEachF, triedAllF}
 use Rattle.two_opt.proofs.Trying.{kept}
 use Rattle.two_opt.proofs.Passing.{none-taken, each-passed, each-made, each-done}
@@ -23,16 +23,17 @@ use Rattle.two_opt.proofs.two_opt.try_all.Statement.{statement}
 use Rattle.two_opt.proofs.two_opt.try_all.Tie as tie
 
 abbrev Inv-loop : tie.InvT-loop
-Inv-loop current₀ codes figures distances times size search prefix i improved any₀ next₀ into₀ current any next into =
+Inv-loop current₀ codes figures distances times size search prefix i improved any₀ next₀ into₀ turned₀ current any next into turned =
     (length current ≡ length current₀)
     × (i < next)
     × (triedEachF (listed (numbers codes figures) distances times size) (searchOf search) i (count next (length current₀ - next)) (state current any)
     ≡ triedAllF (listed (numbers codes figures) distances times size) (searchOf search) (length current₀) i (state current₀ improved))
     × (take i current ≡ take i current₀)
     × (into ≡ intoF (lookupF distances size) i current)
+    × (turned ≡ reversalDeltaF (lookupF distances size) (search .symmetric) (take (next - i) (drop i current)))
 
 abbrev μ-loop : tie.MeasureT-loop
-μ-loop current₀ codes figures distances times size search prefix i improved any₀ next₀ into₀ current any next into = length current - next
+μ-loop current₀ codes figures distances times size search prefix i improved any₀ next₀ into₀ turned₀ current any next into turned = length current - next
 
 -- ---- the places on the way: from the opening, from the first test, from the loop, and from the test of a gain
 
@@ -43,10 +44,10 @@ abbrev entry : tie.After-no-run Inv-loop μ-loop → tie.Start Inv-loop μ-loop
 entry c = opening (c .before)
 
 abbrev start : tie.At-loop Inv-loop μ-loop → tie.Start Inv-loop μ-loop
-start c = entry (c .before .before .before .before)
+start c = entry (c .before .before .before .before .before .before)
 
 abbrev loop : tie.After-gains Inv-loop μ-loop → tie.At-loop Inv-loop μ-loop
-loop c = c .before .before .before
+loop c = c .before .before .before .before .before
 
 abbrev tables : tie.Start Inv-loop μ-loop → Tables
 tables s = let a = s .args in listed (numbers (now (a .codes)) (now (a .figures))) (now (a .distances)) (now (a .times)) (a .size)
@@ -73,16 +74,28 @@ add-next c = omega arith
 leg-into-requires : tie.Need-leg-into-requires Inv-loop μ-loop
 leg-into-requires c κs = search needs
 
+turned-between-requires : tie.Need-turned-between-requires Inv-loop μ-loop
+turned-between-requires c κs = omega (arith, entry (c .before .before .before .before) .pre .0)
+
 loop-holds : tie.Need-loop-holds Inv-loop μ-loop
-loop-holds c = let s = entry (c .before .before .before) in (refl, omega arith, rw (add-one (s .args .i)), refl, c .leg-into .ensures)
+loop-holds c =
+    let into = c .before .before in
+    let s = entry (into .before .before .before) in
+    (refl, omega arith, rw (add-one (s .args .i)), refl, into .leg-into .ensures, c .turned-between .ensures)
 
 add-next-2 : tie.Need-add-next-2 Inv-loop μ-loop
 add-next-2 c = search needs
 
+turned-on-requires : tie.Need-turned-on-requires Inv-loop μ-loop
+turned-on-requires c κs =
+    let l = c .before .before .loop in
+    ((l .inv .1, omega arith), l .inv .5)
+
 gains-requires : tie.Need-gains-requires Inv-loop μ-loop
 gains-requires c κs =
-    let l = c .before .before .loop in
-    ((l .inv .1, omega arith), l .inv .4)
+    let turn = c .before in
+    let l = turn .before .before .before .loop in
+    ((l .inv .1, omega arith), (l .inv .4, turn .turned-on .ensures))
 
 loop-less : tie.Need-loop-less Inv-loop μ-loop
 loop-less c = search needs
@@ -95,7 +108,7 @@ loop-again c =
     let l = loop known .loop in
     let no = sym (known .gains .ensures) ∙ not-true _ (c .if2 .taken) in
     let passed = each-passed (tables s) (searchOf (a .search)) (a .i) (length (now (a .current))) (l .next) (state (l .current) (l .any)) (omega arith) no in
-    (l .inv .0, omega arith, sym passed ∙ l .inv .2, l .inv .3, l .inv .4)
+    (l .inv .0, omega arith, sym passed ∙ l .inv .2, l .inv .3, l .inv .4, known .before .before .turned-on .ensures ∙ rw (add-one (l .next)))
 
 reverse-if-allowed-requires : tie.Need-reverse-if-allowed-requires Inv-loop μ-loop
 reverse-if-allowed-requires c κs =
@@ -109,12 +122,19 @@ leg-into-requires-2 c κs =
     let l = loop (made .before .before .before) .loop in
     omega (arith, made .reverse-if-allowed .kept .0, l .inv .0, l .inv .1)
 
+turned-between-requires-2 : tie.Need-turned-between-requires-2 Inv-loop μ-loop
+turned-between-requires-2 c κs =
+    let made = c .before .before .before .before .before in
+    let l = loop (made .before .before .before) .loop in
+    omega (arith, made .reverse-if-allowed .kept .0, l .inv .0, l .inv .1)
+
 loop-less-2 : tie.Need-loop-less-2 Inv-loop μ-loop
 loop-less-2 c = search needs
 
 loop-again-2 : tie.Need-loop-again-2 Inv-loop μ-loop
 loop-again-2 c =
-    let made = c .before .before .before .before in
+    let into = c .before .before in
+    let made = into .before .before .before .before in
     let tested = made .before .before in
     let at = loop (tested .before) in
     let s = start at in
@@ -123,9 +143,9 @@ loop-again-2 c =
     let l = at .loop in
     let y = made .reverse-if-allowed .ensures in
     let yes = sym (tested .before .gains .ensures) ∙ not-false _ (tested .if2 .left) in
-    let next = each-made t (searchOf (a .search)) (a .i) (length (now (a .current))) (l .next) (state (l .current) (l .any)) (omega arith) yes _ y in
+    let next = each-made t (searchOf (a .search)) (a .i) (length (now (a .current))) (l .next) (state (l .current) (l .any)) (omega (arith, l .inv .0, l .inv .1, tested .before .before .before .before .before .loop-test .taken)) yes _ y in
     let stay = kept t (searchOf (a .search)) (a .i) (l .next) (l .current) (l .any) (omega arith) _ _ y in
-    (made .reverse-if-allowed .kept .0 ∙ l .inv .0, omega arith, sym next ∙ l .inv .2, stay ∙ l .inv .3, c .leg-into2 .ensures)
+    (made .reverse-if-allowed .kept .0 ∙ l .inv .0, omega arith, sym next ∙ l .inv .2, stay ∙ l .inv .3, into .leg-into2 .ensures, c .turned-between2 .ensures)
 
 same-length : tie.Need-same-length Inv-loop μ-loop
 same-length c = c .before .loop .inv .0
@@ -147,13 +167,16 @@ try-all-spec =
     returns
     add-next
     leg-into-requires
+    turned-between-requires
     loop-holds
     add-next-2
+    turned-on-requires
     gains-requires
     loop-less
     loop-again
     reverse-if-allowed-requires
     leg-into-requires-2
+    turned-between-requires-2
     loop-less-2
     loop-again-2
     same-length

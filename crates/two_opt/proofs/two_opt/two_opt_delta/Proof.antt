@@ -35,36 +35,20 @@ get-requires-2 c κs = search needs
 get-requires-3 : tie.Need-get-requires-3
 get-requires-3 c κs = search needs
 
-mul-reversal-delta : tie.Need-mul-reversal-delta
-mul-reversal-delta c = search needs
-
-sub-reversal-delta : tie.Need-sub-reversal-delta
-sub-reversal-delta c = search needs
-
-part-reversal-delta-start : tie.Need-part-reversal-delta-start
-part-reversal-delta-start c = search needs
-
-part-reversal-delta-end : tie.Need-part-reversal-delta-end
-part-reversal-delta-end c = search needs
-
-reversal-delta-requires : tie.Need-reversal-delta-requires
-reversal-delta-requires c κs = search needs
-
 returns : tie.Need-returns
 unfolding deltaF
 returns c =
-    let third = c .before .before in
-    let behind = third .before .before .before in
+    let behind = c .before .before .before in
     let ahead = behind .before in
     let s = ahead .before .before .before .before .before in
     rw (
-      c .reversal-delta .ensures,
-      third .get3 .ensures,
-      third .before .get2 .ensures,
-      third .before .before .get .ensures,
+      c .get3 .ensures,
+      c .before .get2 .ensures,
+      c .before .before .get .ensures,
       behind .call-at .ensures,
       ahead .place-before .ensures,
-      s .pre .1,
+      s .pre .1 .0,
+      s .pre .1 .1,
       add-one (s .args .j),
     )
 
@@ -82,9 +66,4 @@ two-opt-delta-spec =
     get-requires
     get-requires-2
     get-requires-3
-    mul-reversal-delta
-    sub-reversal-delta
-    part-reversal-delta-start
-    part-reversal-delta-end
-    reversal-delta-requires
     returns)
