@@ -226,3 +226,16 @@ module _ (s : Sheet) (S : Sized s) (t : Tables) (I : Image s t) where
           (omega (arith, distance-small s S p y, distance-small s S x q, back-most x (inner i j run), inner-short))
           (omega (arith, distance-small s S p x, distance-small s S y q, gone-most x (inner i j run), inner-short))
           ∙ same-order new old turn there (distanceOf G run) (distanceOf G (turned i j run)) (turned-gain run i j h l G))
+
+      -- added to the distance of the run it gives that of the run that it makes
+      pub far-exact : distanceOf G run ≤ limit → Ieee.add binary64 (fl (distanceOf G run)) (deltaF leg symmetric i j run) ≡ fl (distanceOf G (turned i j run))
+      far-exact d =
+          let a = new + turn in
+          let b = old + there in
+          rw delta-exact
+          (ap (λ (z : Float). Ieee.add binary64 z (diff a b)) (sym (diff-fl (distanceOf G run)))
+          ∙ diff-add (distanceOf G run) 0 a b d zero-le
+          (omega (arith, distance-small s S p y, distance-small s S x q, back-most x (inner i j run), inner-short))
+          (omega (arith, distance-small s S p x, distance-small s S y q, gone-most x (inner i j run), inner-short))
+          ∙ diff-same (distanceOf G run + a) (0 + b) (distanceOf G (turned i j run)) 0 (omega (arith, turned-gain run i j h l G))
+          ∙ diff-fl (distanceOf G (turned i j run)))

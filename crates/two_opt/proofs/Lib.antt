@@ -6,4 +6,5 @@ pub mod Trying
 pub mod Passing
 -- On a sheet of whole numbers within the limits all that is that of crates/definitions.
 pub mod DeltaExact
+pub mod FarExact
 pub mod TwoOptExact

@@ -14,7 +14,7 @@ use Rattle.evaluation.specs.Tables.{distanceF}
 use Rattle.evaluation.specs.Route.{feasibleF}
 use Rattle.improve_base.specs.Search.{SearchF}
 use Rattle.improve_base.proofs.Counting.{count-more, count-done}
-use Rattle.two_opt.specs.TwoOpt.{State, state, gainsF, allowedF, reversedF, triedF, triedEachF, triedAllF, passFromF, passF, passesF}
+use Rattle.two_opt.specs.TwoOpt.{State, state, gainsF, tooFarF, allowedF, reversedF, triedF, triedEachF, triedAllF, passFromF, passF, passesF}
 
 module _ (t : Tables) (s : SearchF) where
   -- ---- the last calls from j on, for the first call i
@@ -47,7 +47,9 @@ module _ (t : Tables) (s : SearchF) where
   none-taken i run b y bar (j ∷ js) =
       let n = suc j - i in
       let barred : allowedF t s (turned i j run) ≡ false = rw y (bar (reverse (take n (drop i run)) ++ drop n (drop i run))) in
-      by-test (gainsF (distanceF t) s i j run) (λ g. rw (g, barred) (none-taken i run b y bar js)) (λ g. rw g (none-taken i run b y bar js))
+      let rest = none-taken i run b y bar js in
+      by-test (gainsF (distanceF t) s i j run)
+      (λ g. by-test (tooFarF (distanceF t) s i j run) (λ far. rw (g, far) rest) (λ near. rw (g, near, barred) rest)) (λ g. rw g rest)
 
   -- ---- the first calls from i on
 

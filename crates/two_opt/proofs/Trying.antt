@@ -2,18 +2,23 @@
 use Prim.Native.Nat.{ℕ, suc, _+_, _-_, _<_, _≤_}
 use native.Mathlib.Numerals.{add-one}
 use native.Mathlib.Omega.{arith}
-use mathlib.Core.Path.{_≡_, sym, ap, _∙_}
-use mathlib.Core.Bool.{Bool, true, false, cond}
+use mathlib.Core.Path.{_≡_, sym, ap, ap₂, _∙_}
+use mathlib.Core.Bool.{Bool, true, false, cond, not}
 use mathlib.Core.List.{List, _++_, reverse, reverse-reverse}
 use lib.ListN.{length, take, drop, length-append, length-take, length-drop, length-reverse, take-append-drop}
 use lib.Seq.{take-at, drop-at, length-take-le}
+use lib.Ieee as Ieee
+use lib.Ieee.{Float, binary64}
 use Rattle.basics.proofs.TestLaws.{by-test}
 use Rattle.definitions.specs.TwoOpt.{turned}
+use Rattle.models.specs.Limits.{withinF}
 use Rattle.evaluation.specs.Records.{Tables}
+use Rattle.evaluation.specs.Tables.{distanceF}
 use Rattle.improve_base.specs.Search.{SearchF}
 use Rattle.improve_base.specs.Prefix.{PrefixF, feasibleFromF, Leads}
 use Rattle.improve_base.proofs.Leading.{asked}
-use Rattle.two_opt.specs.TwoOpt.{State, state, allowedF, reversedF}
+use Rattle.two_opt.specs.Delta.{deltaF}
+use Rattle.two_opt.specs.TwoOpt.{State, state, gainsF, farF, tooFarF, allowedF, reversedF}
 
 -- ---- the stretch inside the lent list
 
@@ -65,26 +70,32 @@ module _ (t : Tables) (s : SearchF) (i j : ℕ) (run : List ℕ) (b : Bool) wher
     turned-allowed a h = ap (allowedF t s) (sym (put-turned i j run part e)) ∙ h
 
     -- a run that is allowed
-    pub made : allowedF t s (put i j run part) ≡ true → state (put i j run part) true ≡ reversedF t s i j (state run b)
+    pub made : tooFarF (distanceF t) s i j run ≡ false → allowedF t s (put i j run part) ≡ true → state (put i j run part) true ≡ reversedF t s i j (state run b)
     unfolding reversedF
-    made h = let y = turned-allowed true h in rw (y, put-turned i j run part e)
+    made near h = let y = turned-allowed true h in rw (near, y, put-turned i j run part e)
 
     -- one that is not is turned back
-    pub undone : i < j → j < length run → allowedF t s (put i j run part) ≡ false → (again : List ℕ) → again ≡ turnedPart i j (put i j run part)
+    pub put-back : i < j → j < length run → (again : List ℕ) → again ≡ turnedPart i j (put i j run part) → put i j (put i j run part) again ≡ run
+    put-back h l again k = put-turned i j (put i j run part) again k ∙ ap (turned i j) (put-turned i j run part e) ∙ turned-back i j run h l
+
+    pub undone : tooFarF (distanceF t) s i j run ≡ false → i < j → j < length run → allowedF t s (put i j run part) ≡ false → (again : List ℕ) → again ≡ turnedPart i j (put i j run part)
         → state (put i j (put i j run part) again) b ≡ reversedF t s i j (state run b)
     unfolding reversedF
-    undone h l n again k =
-        let back : put i j (put i j run part) again ≡ run =
-        put-turned i j (put i j run part) again k ∙ ap (turned i j) (put-turned i j run part e) ∙ turned-back i j run h l in
-        let no = turned-allowed false n in
-        ap (λ (r : List ℕ). state r b) back ∙ rw no
+    undone near h l n again k = let no = turned-allowed false n in ap (λ (r : List ℕ). state r b) (put-back h l again k) ∙ rw (near, no)
 
-  -- either way the calls before i stay
+  -- a run that would be too long is left as it is
+  pub refused : tooFarF (distanceF t) s i j run ≡ true → state run b ≡ reversedF t s i j (state run b)
+  unfolding reversedF
+  refused far = rw far
+
+  -- in each way the calls before i stay
   pub kept : i ≤ length run → (new : List ℕ) (c : Bool) → state new c ≡ reversedF t s i j (state run b) → take i new ≡ take i run
   unfolding reversedF
   kept h new c e =
       let turn : take i (turned i j run) ≡ take i run = take-at (take i run) (reverse (take (suc j - i) (drop i run)) ++ drop (suc j - i) (drop i run)) i (length-take-le i run h) in
-      by-test (allowedF t s (turned i j run)) (λ y. ap (λ (x : State). take i (x .run)) (rw y at e) ∙ turn) (λ n. ap (λ (x : State). take i (x .run)) (rw n at e))
+      let front : State → List ℕ = λ x. take i (x .run) in
+      by-test (tooFarF (distanceF t) s i j run) (λ far. ap front (rw far at e))
+      (λ near. by-test (allowedF t s (turned i j run)) (λ y. ap front (rw (near, y) at e) ∙ turn) (λ n. ap front (rw (near, n) at e)))
 
 -- how much is left of a run from call i on, once the calls from i up to and with j are turned
 pub left-long : (i j : ℕ) (run part : List ℕ) → part ≡ turnedPart i j run → i < j → j < length run
@@ -99,3 +110,13 @@ pub allowed-from : (t : Tables) (s : SearchF) (i : ℕ) (run behind : List ℕ) 
     → (r : Bool) → r ≡ cond (s .constrained) (feasibleFromF t (s .limits) b (take (length (take i run ++ behind) - i) (drop i (take i run ++ behind)))) true
     → allowedF t s (take i run ++ behind) ≡ r
 allowed-from t s i run behind b h L r e = by-test (s .constrained) (λ y. rw y (asked t (s .limits) i run behind b h L r (e ∙ rw y))) (λ n. rw n (sym (e ∙ rw n)))
+
+-- ---- the tests before it
+
+module _ (leg : ℕ → ℕ → Float) (s : SearchF) (i j : ℕ) (run : List ℕ) (delta : Float) (d : delta ≡ deltaF leg (s .symmetric) i j run) where
+  pub gains-asked : (r : Bool) → r ≡ Ieee.lt delta (Ieee.neg (s .floor)) → gainsF leg s i j run ≡ r
+  gains-asked r e = sym (e ∙ ap (λ (x : Float). Ieee.lt x (Ieee.neg (s .floor))) d)
+
+  pub far-asked : (far : Float) → far ≡ farF (s .limits) leg run → (r : Bool) → r ≡ not (withinF (s .limits .maxDistance) (Ieee.add binary64 far delta)) → tooFarF leg s i j run ≡ r
+  unfolding tooFarF
+  far-asked far f r e = sym (e ∙ ap₂ (λ (x y : Float). not (withinF (s .limits .maxDistance) (Ieee.add binary64 x y))) f d)

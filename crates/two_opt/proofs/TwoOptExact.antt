@@ -8,17 +8,20 @@ use mathlib.Core.List.{List, [], _∷_}
 use lib.ListN.{length}
 use lib.Dec.{ltb}
 use lib.Ieee as Ieee
-use lib.Ieee.{Float}
+use lib.Ieee.{Float, binary64}
 use borrow.Author.Tests.{ltb-true, le-ltb}
-use Rattle.basics.proofs.TestLaws.{by-test}
+use Rattle.basics.proofs.TestLaws.{by-test, not-true}
 use Rattle.basics.specs.Lists.{sum, All, count}
 use Rattle.basics.proofs.ListLaws.{all-imp}
 use Rattle.definitions.specs.Domain.{mostCalls}
 use Rattle.definitions.specs.Sheet.{Sheet, distance}
+use Rattle.definitions.specs.Limits.{within}
+use Rattle.definitions.specs.Run.{distanceFrom}
 use Rattle.definitions.specs.Improver.{Given, givenOf, distanceOf, allowed}
 use Rattle.definitions.specs.TwoOpt.{turned, tried, triedAll, passFrom, pass, improved}
 use Rattle.definitions.specs.Refusals.{Within, WithinCalls}
 use Rattle.definitions.specs.Answers.{twoOpt}
+use Rattle.theorems.proofs.Improving.{allowed-is}
 use Rattle.theorems.proofs.TwoOptLaws.{turned-same, pass-stays, improved-pass, improved-done, improved-same}
 use Rattle.bounds.specs.Sized.{Sized, Place}
 use Rattle.bounds.proofs.Inside.{sized, few-calls, calls-inside, same-inside, distance-small}
@@ -37,9 +40,10 @@ use Rattle.improve_base.specs.Route.{routeDistanceF}
 use Rattle.improve_base.proofs.GainExact.{largest, largest-small, largest-exact, symmetric-same}
 use Rattle.improve_base.proofs.RouteExact.{route-distance-exact}
 use Rattle.two_opt.specs.Delta.{deltaF}
-use Rattle.two_opt.specs.TwoOpt.{State, state, mostPasses, allowedF, gainsF, reversedF, triedF, triedEachF, triedAllF, passFromF, passF, passesF, improvedF, improvedDistanceF}
+use Rattle.two_opt.specs.TwoOpt.{State, state, mostPasses, allowedF, gainsF, tooFarF, reversedF, triedF, triedEachF, triedAllF, passFromF, passF, passesF, improvedF, improvedDistanceF}
 use Rattle.two_opt.proofs.Trying.{length-turned}
-use Rattle.two_opt.proofs.DeltaExact.{gain-exact}
+use Rattle.two_opt.proofs.DeltaExact.{gain-exact, far-exact}
+use Rattle.two_opt.proofs.FarExact.{far-infeasible, guard-exact}
 
 -- the numbers k, k + 1 and so on, n of them, are from k on and below k + n
 counted : (k n : ℕ) → All (λ (j : ℕ). (k ≤ j) × (j < k + n)) (count k n)
@@ -84,6 +88,27 @@ module _ (s : Sheet) (S : Sized s) (t : Tables) (I : Image s t) where
   turned-fits : (run : List ℕ) → Fit run → (i j : ℕ) → i < j → j < length run → Fit (turned i j run)
   turned-fits run f i j h l = (omega (arith, length-turned i j run h l, f .0), same-inside s run (turned i j run) (λ g. sym (turned-same i j run g)) (f .1))
 
+  distance-bound : (run : List ℕ) → length run ≤ mostCalls → distanceOf G run ≤ mostPasses
+  distance-bound [] few = zero-le
+  distance-bound (c ∷ cs) few = omega (arith, distance-most s S 0 (c ∷ cs))
+
+  -- a run with calls, leg by leg from the depot
+  from-depot : (run : List ℕ) → 0 < length run → distanceFrom s 0 run ≡ distanceOf G run
+  from-depot [] h = absurd (omega arith)
+  from-depot (c ∷ cs) h = refl
+
+  -- a reversal that makes the run too long makes one that is not allowed
+  far-refused : (run : List ℕ) → Fit run → (i j : ℕ) → i < j → j < length run → tooFarF (distanceF t) (told s t) i j run ≡ true → allowed G (turned i j run) ≡ false
+  unfolding tooFarF searchF
+  far-refused run f i j h l far =
+      let new = turned i j run in
+      let d = distance-bound run (f .0) in
+      let b = distance-bound new (turned-fits run f i j h l .0) in
+      let sum = ap (λ (x : Float). Ieee.add binary64 x (deltaF (distanceF t) (told s t .symmetric) i j run)) (route-distance-exact s S t I run (f .0) (f .1))
+      ∙ far-exact s S t I run (f .0) (f .1) i j h l (told s t .symmetric) same-back (omega (arith, d)) in
+      let out = sym (guard-exact s S (distanceF t) run (deltaF (distanceF t) (told s t .symmetric) i j run) (distanceOf G new) (omega (arith, b)) sum) ∙ not-true _ far in
+      allowed-is s new ∙ far-infeasible s new (ap (within (s .head .maxDistance)) (from-depot new (omega (arith, length-turned i j run h l))) ∙ out)
+
   -- ---- the search from the run `old`: no reversal is taken yet and it is as it was, or one is and it is shorter
 
   record Going (old : List ℕ) (x : State) : Type 0 where
@@ -108,8 +133,10 @@ module _ (s : Sheet) (S : Sized s) (t : Tables) (I : Image s t) where
         let gains = gains-exact (x .run) (g .fits) i j h m in
         let may = allowed-exact new f in
         by-test (ltb (distanceOf G new) (distanceOf G (x .run)))
-        (λ y. by-test (allowed G new)
-        (λ a. rw (gains, may, y, a) (
+        (λ y. by-test (tooFarF (distanceF t) (told s t) i j (x .run))
+        (λ far. let a = far-refused (x .run) (g .fits) i j h m far in rw (gains, far, y, a) (refl, g))
+        (λ near. by-test (allowed G new)
+        (λ a. rw (gains, near, may, y, a) (
           refl,
           record {
             fits = f;
@@ -117,7 +144,7 @@ module _ (s : Sheet) (S : Sized s) (t : Tables) (I : Image s t) where
             change = inr (refl, omega (arith, ltb-true (distanceOf G new) (distanceOf G (x .run)) y, no-longer x g));
           },
         ))
-        (λ a. rw (gains, may, y, a) (refl, g)))
+        (λ a. rw (gains, near, may, y, a) (refl, g))))
         (λ n. rw (gains, n) (refl, g))
 
     each-exact : (i : ℕ) (js : List ℕ) → All (λ (j : ℕ). (i < j) × (j < length old)) js → (x : State) → Going old x
@@ -172,10 +199,6 @@ module _ (s : Sheet) (S : Sized s) (t : Tables) (I : Image s t) where
   unfolding passesF
   passes-exact zero run f d = sym (improved-done G run (pass-stays G run (le-ltb (distanceOf G (pass G run)) (distanceOf G run) (omega arith))))
   passes-exact (suc left) run f d = one-pass left run f d (passes-exact left)
-
-  distance-bound : (run : List ℕ) → length run ≤ mostCalls → distanceOf G run ≤ mostPasses
-  distance-bound [] few = zero-le
-  distance-bound (c ∷ cs) few = omega (arith, distance-most s S 0 (c ∷ cs))
 
   improved-exact : (run : List ℕ) → Fit run → improvedF t (told s t) run ≡ improved G run
   unfolding improvedF

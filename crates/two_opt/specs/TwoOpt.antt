@@ -1,13 +1,16 @@
 -- two_opt_improve on floats, step by step as the code has it. Definitions only.
 use Prim.Native.Nat.{ℕ, zero, suc, _-_}
-use mathlib.Core.Bool.{Bool, true, false, cond}
+use mathlib.Core.Bool.{Bool, true, false, cond, not}
 use mathlib.Core.List.{List, [], _∷_}
 use lib.ListN.{length}
 use lib.Ieee as Ieee
-use lib.Ieee.{Float}
+use lib.Ieee.{Float, binary64}
+use Rattle.basics.specs.Options.{present}
 use Rattle.basics.specs.Lists.{count}
 use Rattle.definitions.specs.TwoOpt.{turned}
-use Rattle.evaluation.specs.Records.{Tables}
+use Rattle.whole.specs.Whole.{fl}
+use Rattle.models.specs.Limits.{withinF}
+use Rattle.evaluation.specs.Records.{Tables, LimitsF}
 use Rattle.evaluation.specs.Tables.{distanceF}
 use Rattle.evaluation.specs.Route.{feasibleF}
 use Rattle.improve_base.specs.Search.{SearchF}
@@ -31,14 +34,27 @@ mostPasses = 1290000000
 abbrev pub gainsF : (ℕ → ℕ → Float) → SearchF → ℕ → ℕ → List ℕ → Bool
 gainsF leg s i j run = Ieee.lt (deltaF leg (s .symmetric) i j run) (Ieee.neg (s .floor))
 
+-- the distance of a run, reckoned where it is limited
+unfoldable pub farF : LimitsF → (ℕ → ℕ → Float) → List ℕ → Float
+farF limits leg run = cond (present (limits .maxDistance)) (routeDistanceF leg run) (fl 0)
+
+-- with the calls from i up to and with j turned, a run is longer than its limit
+unfoldable pub tooFarF : (ℕ → ℕ → Float) → SearchF → ℕ → ℕ → List ℕ → Bool
+tooFarF leg s i j run =
+    let delta = deltaF leg (s .symmetric) i j run in
+    not (withinF (s .limits .maxDistance) (Ieee.add binary64 (farF (s .limits) leg run) delta))
+
 module _ (t : Tables) (s : SearchF) where
   -- a run that the search may make: feasible, where that is asked
   abbrev pub allowedF : List ℕ → Bool
   allowedF run = cond (s .constrained) (feasibleF t (s .limits) run) true
 
-  -- the calls from i up to and with j are turned where the run that this makes is allowed
+  -- the calls from i up to and with j are turned where the run that this makes is not too long and is allowed
   unfoldable pub reversedF : ℕ → ℕ → State → State
-  reversedF i j x = cond (allowedF (turned i j (x .run))) (state (turned i j (x .run)) true) x
+  reversedF i j x =
+      let new = turned i j (x .run) in
+      let made = cond (allowedF new) (state new true) x in
+      cond (tooFarF (distanceF t) s i j (x .run)) x made
 
   -- where that gains
   unfoldable pub triedF : ℕ → ℕ → State → State

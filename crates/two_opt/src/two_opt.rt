@@ -2,16 +2,19 @@
 // allowed, it is taken. Only sheets without lateness pay come here.
 ghost use mathlib.Core.Path.{_≡_};
 ghost use Prim.Native.Nat.{suc, _+_, _-_, _<_, _≤_};
-ghost use mathlib.Core.Bool.{true, cond, _&&_};
+ghost use mathlib.Core.Bool.{true, cond, not, _&&_};
 ghost use lib.ListN.{length, take, drop};
 ghost use Rattle.definitions.specs.Room.{written};
+ghost use lib.Ieee as Ieee;
+ghost use Rattle.models.specs.Limits.{withinF};
+ghost use Rattle.models.specs.Records.{limitOf};
 ghost use Rattle.distance.specs.Lookup.{lookupF};
 ghost use Rattle.evaluation.specs.Records.{limitsOf, lent};
 ghost use Rattle.cut_stops.specs.Stops.{numbers, Long, listed};
 ghost use Rattle.improve_base.specs.Search.{searchOf};
 ghost use Rattle.improve_base.specs.Prefix.{prefixOf, failedF, indexF, feasibleFromF, Leads};
 ghost use Rattle.two_opt.specs.Delta.{intoF, reversalDeltaF, deltaF};
-ghost use Rattle.two_opt.specs.TwoOpt.{state, gainsF, reversedF, triedAllF, passF, improvedF, improvedDistanceF};
+ghost use Rattle.two_opt.specs.TwoOpt.{state, farF, reversedF, triedAllF, passF, improvedF, improvedDistanceF};
 use crate::reverse::reverse;
 use cut_stops::stops::ALL_CODES;
 use cut_stops::stops::ALL_FIGURES;
@@ -28,6 +31,8 @@ use improve_base::prefix::set_out;
 use improve_base::route::route_distance;
 use improve_base::search::Search;
 use models::customer::Customer;
+use models::limits::Limit;
+use models::limits::RouteLimits;
 
 // What turning the segment changes in the length of its own legs: nothing where the distances are symmetric, else each
 // leg back less the leg there.
@@ -132,25 +137,36 @@ pub fn two_opt_delta(
     new_cost - old_cost + turned
 }
 
-// Whether turning the calls from i up to and with j gains enough to count.
-pub fn gains(
-    route: &[usize],
-    distances: &[f64],
-    size: usize,
-    search: Search,
-    into: f64,
-    turned: f64,
-    i: usize,
-    j: usize,
-) -> bool
-    requires { ⌜ (i < j) × (j < length (now route)) ⌝ }
-    requires { ⌜ into ≡ intoF (lookupF (now distances) size) i (now route) ⌝ }
-    requires { let leg = lookupF (now distances) size in
-        ⌜ turned ≡ reversalDeltaF leg (search .symmetric) (take (suc j - i) (drop i (now route))) ⌝ }
-    ensures { λ r. ⌜ r ≡ gainsF (lookupF (now (distances .entry)) size) (searchOf search) i j (now (route .entry)) ⌝ }
+// Whether a change in the distance is a gain that counts.
+pub fn gains(search: Search, delta: f64) -> bool
+    ensures { λ r. ⌜ r ≡ Ieee.lt delta (Ieee.neg (search .floor)) ⌝ }
 {
-    let delta = two_opt_delta(route, distances, size, search.symmetric, into, turned, i, j);
     delta < -search.floor
+}
+
+// The distance of a run, where it is limited.
+pub fn limited_distance(limits: RouteLimits, route: &[usize], distances: &[f64], size: usize) -> f64
+    ensures { λ r. ⌜ r ≡ farF (limitsOf limits) (lookupF (now (distances .entry)) size) (now (route .entry)) ⌝ }
+{
+    let max = limits.max_distance;
+    match max {
+        Limit::Unlimited => 0.0,
+        Limit::At(_) => route_distance(route, distances, size),
+    }
+}
+
+// Whether a run of this distance is longer than its limit.
+pub fn is_too_far(limits: RouteLimits, far: f64) -> bool
+    ensures { λ r. ⌜ r ≡ not (withinF (limitOf (limits .«max_distance»)) far) ⌝ }
+{
+    let max = limits.max_distance;
+    !max.allows(far)
+}
+
+// The search on a run: whether a reversal is taken, and the distance of the run, where it is limited.
+pub struct Tried {
+    pub improved: bool,
+    pub far: f64,
 }
 
 // Whether the run that these calls end may be made: it is feasible, where that is asked.
@@ -188,8 +204,8 @@ pub fn is_allowed(
     true
 }
 
-// Turns the calls from i up to and with j, and turns them back where the run is not allowed; `prefix` is where the
-// calls before i leave the bus. Gives whether a reversal is taken, here or before.
+// Turns the calls from i up to and with j, which changes the distance by `delta`, where the run is not too long then,
+// and turns them back where it is not allowed; `prefix` is where the calls before i leave the bus.
 pub fn reverse_if_allowed(
     current: &mut [usize],
     codes: &[u32],
@@ -201,17 +217,28 @@ pub fn reverse_if_allowed(
     prefix: Prefix,
     i: usize,
     j: usize,
-    improved: bool,
-) -> bool
+    delta: f64,
+    tried: Tried,
+) -> Tried
     requires { ⌜ Long (numbers (now codes) (now figures)) × (i < j) × (j < length (now current)) ⌝ }
     requires { let tables = listed (numbers (now codes) (now figures)) (now distances) (now times) size in
         ⌜ Leads tables (limitsOf (search .limits)) (take i (now current)) (prefixOf prefix) ⌝ }
+    requires { let leg = lookupF (now distances) size in
+        ⌜ (delta ≡ deltaF leg (search .symmetric) i j (now current))
+        × (tried .far ≡ farF (limitsOf (search .limits)) leg (now current)) ⌝ }
     ensures { λ r.
         let lists = numbers (now (codes .entry)) (now (figures .entry)) in
         let tables = listed lists (now (distances .entry)) (now (times .entry)) size in
-        let old = state (now (current .entry)) improved in
-        ⌜ state (now (current .exit)) r ≡ reversedF tables (searchOf search) i j old ⌝ }
+        let old = state (now (current .entry)) (tried .improved) in
+        ⌜ state (now (current .exit)) (r .improved) ≡ reversedF tables (searchOf search) i j old ⌝ }
+    ensures { λ r.
+        let leg = lookupF (now (distances .entry)) size in
+        ⌜ r .far ≡ farF (limitsOf (search .limits)) leg (now (current .exit)) ⌝ }
 {
+    let limits = search.limits;
+    if is_too_far(limits, tried.far + delta) {
+        return tried;
+    }
     let end = j + 1;
     reverse(&mut current[i..end]);
     if !is_allowed(
@@ -225,9 +252,13 @@ pub fn reverse_if_allowed(
         search,
     ) {
         reverse(&mut current[i..end]);
-        return improved;
+        return tried;
     }
-    true
+    let far = limited_distance(limits, &current[..], distances, size);
+    Tried {
+        improved: true,
+        far,
+    }
 }
 
 // Whether no run that begins so may be made.
@@ -252,22 +283,27 @@ pub fn try_all(
     search: Search,
     prefix: Prefix,
     i: usize,
-    improved: bool,
-) -> bool
+    tried: Tried,
+) -> Tried
     requires { ⌜ Long (numbers (now codes) (now figures)) × (i < length (now current)) ⌝ }
     requires { let tables = listed (numbers (now codes) (now figures)) (now distances) (now times) size in
         ⌜ Leads tables (limitsOf (search .limits)) (take i (now current)) (prefixOf prefix) ⌝ }
+    requires { ⌜ tried .far ≡ farF (limitsOf (search .limits)) (lookupF (now distances) size) (now current) ⌝ }
     ensures { λ r.
         let lists = numbers (now (codes .entry)) (now (figures .entry)) in
         let tables = listed lists (now (distances .entry)) (now (times .entry)) size in
-        let old = state (now (current .entry)) improved in
-        ⌜ state (now (current .exit)) r ≡ triedAllF tables (searchOf search) (length (now (current .entry))) i old ⌝ }
+        let old = state (now (current .entry)) (tried .improved) in
+        let all = triedAllF tables (searchOf search) (length (now (current .entry))) i old in
+        ⌜ state (now (current .exit)) (r .improved) ≡ all ⌝ }
+    ensures { λ r.
+        let leg = lookupF (now (distances .entry)) size in
+        ⌜ r .far ≡ farF (limitsOf (search .limits)) leg (now (current .exit)) ⌝ }
     ensures { λ _. ⌜ take i (now (current .exit)) ≡ take i (now (current .entry)) ⌝ }
 {
     if no_run(search, prefix) {
-        return improved;
+        return tried;
     }
-    let mut any = improved;
+    let mut known = tried;
     let mut next = i + 1;
     let mut into = leg_into(&current[..], distances, size, i);
     let mut turned = turned_between(&current[..], distances, size, search.symmetric, i, next);
@@ -283,10 +319,20 @@ pub fn try_all(
             i,
             j,
         );
-        if !gains(&current[..], distances, size, search, into, turned, i, j) {
+        let delta = two_opt_delta(
+            &current[..],
+            distances,
+            size,
+            search.symmetric,
+            into,
+            turned,
+            i,
+            j,
+        );
+        if !gains(search, delta) {
             continue;
         }
-        any = reverse_if_allowed(
+        known = reverse_if_allowed(
             &mut *current,
             codes,
             figures,
@@ -297,12 +343,13 @@ pub fn try_all(
             prefix,
             i,
             j,
-            any,
+            delta,
+            known,
         );
         into = leg_into(&current[..], distances, size, i);
         turned = turned_between(&current[..], distances, size, search.symmetric, i, next);
     }
-    any
+    known
 }
 
 // A pass: each first call in turn; a run of fewer than two calls has none. Gives whether a reversal is taken.
@@ -321,13 +368,17 @@ pub fn pass(
         let tables = listed lists (now (distances .entry)) (now (times .entry)) size in
         ⌜ state (now (current .exit)) r ≡ passF tables (searchOf search) (now (current .entry)) ⌝ }
 {
-    let mut improved = false;
     let limits = search.limits;
+    let far = limited_distance(limits, &current[..], distances, size);
+    let mut tried = Tried {
+        improved: false,
+        far,
+    };
     let rest = limits.rest;
     let mut prefix = set_out(rest);
     let mut i: usize = 0;
     while i + 1 < current.len() {
-        improved = try_all(
+        tried = try_all(
             &mut *current,
             codes,
             figures,
@@ -337,13 +388,13 @@ pub fn pass(
             search,
             prefix,
             i,
-            improved,
+            tried,
         );
         let cid = current[i];
         prefix = go_on(prefix, cid, codes, figures, distances, times, size);
         i += 1;
     }
-    improved
+    tried.improved
 }
 
 // Enough passes for every sheet: a run is at most 129 legs of 10,000,000 long, and each pass that takes a reversal

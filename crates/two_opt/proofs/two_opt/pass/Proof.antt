@@ -1,5 +1,5 @@
--- `two_opt::pass` meets its contract. The loop's invariant: the first calls from i on, tried from here, end as the pass does, and `prefix` is where the calls
--- before i lead. Assumes nothing.
+-- `two_opt::pass` meets its contract. The loop's invariant: the first calls from i on, tried from here, end as the pass does, `prefix` is where the calls
+-- before i lead, and `tried` has the distance of the run, where it is limited. Assumes nothing.
 use Prim.Native.Nat.{ℕ, _-_, _≤_}
 use native.Mathlib.Nat.{sub-zero}
 use native.Mathlib.Omega.{arith}
@@ -8,26 +8,28 @@ use lib.ListN.{length, take, length-take}
 use denote.Ref.{now}
 use Rattle.basics.specs.Lists.{count}
 use Rattle.evaluation.specs.Records.{Tables, limitsOf}
+use Rattle.distance.specs.Lookup.{lookupF}
 use Rattle.cut_stops.specs.Stops.{numbers, listed}
 use Rattle.improve_base.specs.Search.{searchOf}
 use Rattle.improve_base.specs.Prefix.{prefixOf, Leads}
 use Rattle.improve_base.proofs.Leading.{leads-start, leads-next}
-use Rattle.two_opt.specs.TwoOpt.{state, triedAllF, passFromF, passF}
+use Rattle.two_opt.specs.TwoOpt.{state, farF, triedAllF, passFromF, passF}
 use Rattle.two_opt.proofs.Passing.{first-more, first-done}
 use borrow.Author.Needs.{needs}
 use Rattle.two_opt.proofs.two_opt.pass.Statement.{statement}
 use Rattle.two_opt.proofs.two_opt.pass.Tie as tie
 
 abbrev Inv-loop : tie.InvT-loop
-Inv-loop current₀ codes figures distances times size search improved₀ prefix₀ i₀ current improved prefix i =
+Inv-loop current₀ codes figures distances times size search far tried₀ prefix₀ i₀ current tried prefix i =
     (length current ≡ length current₀)
     × (i ≤ length current₀)
-    × (passFromF (listed (numbers codes figures) distances times size) (searchOf search) (length current₀) (count i (length current₀ - 1 - i)) (state current improved)
+    × (passFromF (listed (numbers codes figures) distances times size) (searchOf search) (length current₀) (count i (length current₀ - 1 - i)) (state current (tried .improved))
     ≡ passF (listed (numbers codes figures) distances times size) (searchOf search) current₀)
     × Leads (listed (numbers codes figures) distances times size) (limitsOf (search .limits)) (take i current) (prefixOf prefix)
+    × (tried .far ≡ farF (limitsOf (search .limits)) (lookupF distances size) current)
 
 abbrev μ-loop : tie.MeasureT-loop
-μ-loop current₀ codes figures distances times size search improved₀ prefix₀ i₀ current improved prefix i = length current - i
+μ-loop current₀ codes figures distances times size search far tried₀ prefix₀ i₀ current tried prefix i = length current - i
 
 -- ---- the places on the way: from the opening, from the beginning, from the loop, and from the last calls tried
 
@@ -35,7 +37,7 @@ abbrev opening : tie.After-shared-slice-known4 Inv-loop μ-loop → tie.Start In
 opening c = c .before .before .before .before .before
 
 abbrev entry : tie.After-set-out Inv-loop μ-loop → tie.Start Inv-loop μ-loop
-entry c = opening (c .before .before)
+entry c = opening (c .before .before .before .before)
 
 abbrev start : tie.At-loop Inv-loop μ-loop → tie.Start Inv-loop μ-loop
 start c = entry (c .before)
@@ -45,6 +47,9 @@ loop c = c .before .before .before
 
 abbrev tables : tie.Start Inv-loop μ-loop → Tables
 tables s = let a = s .args in listed (numbers (now (a .codes)) (now (a .figures))) (now (a .distances)) (now (a .times)) (a .size)
+
+limited-distance-requires : tie.Need-limited-distance-requires Inv-loop μ-loop
+limited-distance-requires c κs = search needs
 
 set-out-requires : tie.Need-set-out-requires Inv-loop μ-loop
 set-out-requires c κs = search needs
@@ -57,6 +62,7 @@ loop-holds c =
       omega arith,
       rw (sub-zero (length (now (s .args .current)) - 1)),
       rw (c .set-out .ensures) (leads-start (tables s) (limitsOf (s .args .search .limits))),
+      c .before .limited-distance .ensures,
     )
 
 add-loop : tie.Need-add-loop Inv-loop μ-loop
@@ -65,7 +71,7 @@ add-loop c = search needs
 try-all-requires : tie.Need-try-all-requires Inv-loop μ-loop
 try-all-requires c κs =
     let at = c .before .before in
-    ((start at .pre, omega arith), at .loop .inv .3)
+    ((start at .pre, omega arith), (at .loop .inv .3, at .loop .inv .4))
 
 mul-cid : tie.Need-mul-cid Inv-loop μ-loop
 mul-cid c = search needs
@@ -94,12 +100,12 @@ loop-again c =
     let t = tables s in
     let l = at .loop in
     let long = tried .try-all .kept .0 in
-    let all = tried .try-all .ensures .0 ∙ ap (λ (n : ℕ). triedAllF t (searchOf (a .search)) n (l .i) (state (l .current) (l .improved))) (l .inv .0) in
-    let next = first-more t (searchOf (a .search)) (length (now (a .current))) (l .i) (state (l .current) (l .improved)) (omega arith) _ all in
+    let all = tried .try-all .ensures .0 ∙ ap (λ (n : ℕ). triedAllF t (searchOf (a .search)) n (l .i) (state (l .current) (l .tried .improved))) (l .inv .0) in
+    let next = first-more t (searchOf (a .search)) (length (now (a .current))) (l .i) (state (l .current) (l .tried .improved)) (omega arith) _ all in
     let leads =
-    leads-next t (limitsOf (a .search .limits)) (l .i) (l .current) _ (prefixOf (l .prefix)) _ (omega (arith, long)) (tried .try-all .ensures .1) (l .inv .3)
+    leads-next t (limitsOf (a .search .limits)) (l .i) (l .current) _ (prefixOf (l .prefix)) _ (omega (arith, long)) (tried .try-all .ensures .1 .1) (l .inv .3)
     (c .go-on .ensures) in
-    (long ∙ l .inv .0, omega arith, sym next ∙ l .inv .2, leads)
+    (long ∙ l .inv .0, omega arith, sym next ∙ l .inv .2, leads, tried .try-all .ensures .1 .0)
 
 same-length : tie.Need-same-length Inv-loop μ-loop
 same-length c = c .before .loop .inv .0
@@ -116,6 +122,7 @@ pass-spec =
     (tie.spec
     Inv-loop
     μ-loop
+    limited-distance-requires
     set-out-requires
     loop-holds
     add-loop
