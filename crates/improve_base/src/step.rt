@@ -12,9 +12,9 @@ ghost use Rattle.evaluation.specs.Tables.{distanceF};
 ghost use Rattle.evaluation.specs.Schedule.{tickF};
 ghost use Rattle.cut_stops.specs.Stops.{numbers, Long, listed};
 ghost use Rattle.improve_base.specs.Prefix.{plain, clocked, driveF, homeFromF};
+use crate::leg::leg_on;
 use clock::schedule::Finished;
 use cut_stops::stops::customer_at;
-use distance::leg::leg_between;
 use evaluation::schedule::Timed;
 use evaluation::schedule::record_index;
 use evaluation::way::Driven;
@@ -37,7 +37,7 @@ pub fn drive_on(
         ⌜ drivenOf r ≡ driveF tables way cid ⌝ }
 {
     let prev = way.prev;
-    let leg = leg_between(distances, times, size, prev, cid);
+    let leg = leg_on(distances, times, size, prev, cid);
     let index = record_index(cid);
     let customer = customer_at(codes, figures, index);
     way.on(cid, customer, leg.distance, leg.time)
@@ -64,7 +64,7 @@ pub fn tick_on(
 {
     let old = timed.clock;
     let prev = old.prev;
-    let leg = leg_between(distances, times, size, prev, cid);
+    let leg = leg_on(distances, times, size, prev, cid);
     let index = record_index(cid);
     let customer = customer_at(codes, figures, index);
     Timed {
@@ -82,7 +82,7 @@ pub fn way_home(way: Way, distances: &[f64], times: &[f64], size: usize) -> Fini
 {
     let label = way.label;
     let prev = way.prev;
-    let back = leg_between(distances, times, size, prev, 0);
+    let back = leg_on(distances, times, size, prev, 0);
     Finished::Home(label.home(way.distance + back.distance, back.time))
 }
 
@@ -95,6 +95,6 @@ pub fn clock_home(timed: Timed, distances: &[f64], times: &[f64], size: usize) -
 {
     let clock = timed.clock;
     let prev = clock.prev;
-    let back = leg_between(distances, times, size, prev, 0);
+    let back = leg_on(distances, times, size, prev, 0);
     clock.finish(timed.distance + back.distance, back.time)
 }

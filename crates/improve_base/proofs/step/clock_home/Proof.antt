@@ -4,8 +4,8 @@ use borrow.Author.Needs.{needs}
 use Rattle.improve_base.proofs.step.clock_home.Statement.{statement}
 use Rattle.improve_base.proofs.step.clock_home.Tie as tie
 
-leg-between-requires : tie.Need-leg-between-requires
-leg-between-requires c κs = search needs
+leg-on-requires : tie.Need-leg-on-requires
+leg-on-requires c κs = search needs
 
 finish-requires : tie.Need-finish-requires
 finish-requires c κs = search needs
@@ -13,13 +13,13 @@ finish-requires c κs = search needs
 returns : tie.Need-returns
 unfolding homeFromF
 returns c =
-    let back = c .before .before .before .leg-between .ensures in
+    let back = c .before .before .before .leg-on .ensures in
     rw (c .finish .ensures, back .0, back .1)
 
 pub clock-home-spec : {M : Type 1} → statement M
 clock-home-spec =
     tie.close
     (tie.spec
-    leg-between-requires
+    leg-on-requires
     finish-requires
     returns)

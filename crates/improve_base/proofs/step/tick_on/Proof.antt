@@ -10,8 +10,8 @@ use Rattle.improve_base.proofs.step.tick_on.Tie as tie
 abbrev start : tie.After-shared-slice-known4 → tie.Start
 start c = c .before .before .before .before
 
-leg-between-requires : tie.Need-leg-between-requires
-leg-between-requires c κs = search needs
+leg-on-requires : tie.Need-leg-on-requires
+leg-on-requires c κs = search needs
 
 record-index-requires : tie.Need-record-index-requires
 record-index-requires c κs = search needs
@@ -30,7 +30,7 @@ returns c =
     let driven = indexed .before in
     let a = start (driven .before .before) .args in
     let index = indexed .record-index .ensures in
-    let leg = driven .leg-between .ensures in
+    let leg = driven .leg-on .ensures in
     let record-is =
     read .customer-at .ensures
     ∙ listed-record (numbers (now (a .codes)) (now (a .figures))) (now (a .distances)) (now (a .times)) (a .size) (a .cid) _ (index .0) (index .1) in
@@ -40,7 +40,7 @@ pub tick-on-spec : {M : Type 1} → statement M
 tick-on-spec =
     tie.close
     (tie.spec
-    leg-between-requires
+    leg-on-requires
     record-index-requires
     customer-at-requires
     push-requires

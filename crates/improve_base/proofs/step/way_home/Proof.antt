@@ -4,8 +4,8 @@ use borrow.Author.Needs.{needs}
 use Rattle.improve_base.proofs.step.way_home.Statement.{statement}
 use Rattle.improve_base.proofs.step.way_home.Tie as tie
 
-leg-between-requires : tie.Need-leg-between-requires
-leg-between-requires c κs = search needs
+leg-on-requires : tie.Need-leg-on-requires
+leg-on-requires c κs = search needs
 
 home-requires : tie.Need-home-requires
 home-requires c κs = search needs
@@ -13,13 +13,13 @@ home-requires c κs = search needs
 returns : tie.Need-returns
 unfolding homeFromF
 returns c =
-    let back = c .before .before .before .leg-between .ensures in
+    let back = c .before .before .before .leg-on .ensures in
     rw (c .home .ensures, back .0, back .1)
 
 pub way-home-spec : {M : Type 1} → statement M
 way-home-spec =
     tie.close
     (tie.spec
-    leg-between-requires
+    leg-on-requires
     home-requires
     returns)

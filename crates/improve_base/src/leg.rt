@@ -1,0 +1,48 @@
+// The leg from one place to the next, as distance::leg reads it; a cell that both tables have is found once for both.
+ghost use mathlib.Core.Path.{_≡_};
+ghost use Rattle.definitions.specs.Sheet.{timeTable};
+ghost use Rattle.distance.specs.Lookup.{lookupF};
+ghost use Rattle.improve_base.specs.Leg.{CellOf};
+use distance::leg::Leg;
+use distance::leg::leg_between;
+
+// The cell of a leg in a table with so many; `many` for places beyond the rows or too many rows.
+pub fn cell_of(size: usize, from: usize, to: usize, many: usize) -> usize
+    ensures { λ r. ⌜ CellOf size from to many r ⌝ }
+{
+    if 0x1_0000_0000 < size {
+        return many;
+    }
+    if size <= from {
+        return many;
+    }
+    if size <= to {
+        return many;
+    }
+    from * size + to
+}
+
+// The distance and the travel time of a leg.
+pub fn leg_on(distances: &[f64], times: &[f64], size: usize, from: usize, to: usize) -> Leg
+    ensures distance { λ r. ⌜ r .distance ≡ lookupF (now (distances .entry)) size from to ⌝ }
+    ensures time { λ r. ⌜ r .time ≡ lookupF (timeTable (now (distances .entry)) (now (times .entry))) size from to ⌝ }
+{
+    let cell = cell_of(size, from, to, distances.len());
+    if distances.len() <= cell {
+        return leg_between(distances, times, size, from, to);
+    }
+    let distance = distances[cell];
+    if times.len() == 0 {
+        return Leg {
+            distance,
+            time: distance,
+        };
+    }
+    if times.len() <= cell {
+        return leg_between(distances, times, size, from, to);
+    }
+    Leg {
+        distance,
+        time: times[cell],
+    }
+}
