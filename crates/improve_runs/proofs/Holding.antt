@@ -36,7 +36,7 @@ no-fall p (e ∷ ends) n h = or-false (ltb e p) (endsFall e ends n) (le-ltb e p 
 
 -- ---- between the arrays and the runs
 
-rise-ends : (p : ℕ) (rs : List (List ℕ)) → RiseTo p (endsFrom p rs) (p + length (callsOf rs))
+pub rise-ends : (p : ℕ) (rs : List (List ℕ)) → RiseTo p (endsFrom p rs) (p + length (callsOf rs))
 rise-ends p [] = sym (add-zero p)
 rise-ends p (r ∷ rs) =
     let e : p + length r + length (callsOf rs) ≡ p + length (r ++ callsOf rs) = omega (arith, length-append r (callsOf rs)) in

@@ -1,2 +1,8 @@
--- A question that has an answer.
-pub mod Answering
+-- A recorded text that is read to its end.
+pub mod Whole
+-- A sheet that is held, and what its bytes say.
+pub mod Held
+-- The lists of a cut.
+pub mod CutLists
+-- A question by its parts.
+pub mod Asked

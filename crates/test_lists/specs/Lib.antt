@@ -1,2 +1,2 @@
 -- What the contracts of the answers on run lists cite.
-pub mod Answered
+pub mod Answers

@@ -1,38 +1,53 @@
 // Whether a recorded answer is what is made of the run list.
 ghost use mathlib.Core.Path.{_≡_};
-ghost use mathlib.Core.Bool.{true};
-ghost use Rattle.sheet_loaded.specs.Held.{Accepted, Found};
-ghost use Rattle.test_lists.specs.Answered.{Answered};
+ghost use Prim.Native.Nat.{_≤_};
+ghost use lib.ListN.{length};
+ghost use Rattle.definitions.specs.Reader as Reader;
+ghost use Rattle.sheet_loaded.specs.Held.{Found};
+ghost use Rattle.test_runs.specs.Along.{Short};
+ghost use Rattle.test_runs.specs.Runs.{givenIn};
+ghost use Rattle.test_lists.specs.Answers.{listAlike, sheetAlike, runsAlike};
 use crate::cut::cut_text;
 use crate::given::number_of;
 use crate::given::write_ends;
+use refuse_lists::runs::ends_fall;
 use sheet_loaded::load::Loaded;
 use sheet_loaded::load::load;
 use sheet_read::read::Contents;
 use sheet_read::read::Reading;
 use sheet_read::read::read;
-use test_runs::recorded::UNLIKE;
 use test_runs::runs::runs_text;
 
 // Whether the recorded text, from its start to its end, is that of a sheet that is held and these run ends.
 fn ends_alike(
-    ends_bytes: &[u8],
+    end_bytes: &[u8],
     recorded: &[u8],
     tour: &[usize],
     held: Loaded,
     distances: &[f64],
     times: &[f64],
-) -> bool {
+) -> bool
+    requires { ⌜ (length (now «end_bytes») ≤ 128) × Short (now recorded) × (length (now tour) ≤ 128) ⌝ }
+    ensures { λ r.
+        let G = givenIn held (now (distances .entry)) (now (times .entry)) in
+        ⌜ r ≡ listAlike G (now (tour .entry)) (now («end_bytes» .entry)) (now (recorded .entry)) ⌝ }
+{
+    let runs = end_bytes.len();
     let mut ends = [0usize; 128];
-    let runs = write_ends(ends_bytes, &mut ends);
+    write_ends(end_bytes, &mut ends);
+    if ends_fall(&ends[..runs], tour.len()) {
+        return false;
+    }
     let mut end = runs_text(recorded, tour, &ends[..runs], held, distances, times);
     end = cut_text(recorded, end, tour, held, distances);
-    end != UNLIKE && end == recorded.len()
+    end == recorded.len()
 }
 
 // The same of an accepted sheet.
 fn accepted_alike(sheet: &[u8], found: Contents, ends: &[u8], recorded: &[u8]) -> bool
     requires { ⌜ Found (now sheet) found ⌝ }
+    requires { ⌜ (length (now ends) ≤ 128) × Short (now recorded) ⌝ }
+    ensures { λ r. ⌜ r ≡ sheetAlike (Reader.read (now (sheet .entry))) (now (ends .entry)) (now (recorded .entry)) ⌝ }
 {
     let mut distances = [0.0; 4096];
     let mut times = [0.0; 4096];
@@ -50,7 +65,8 @@ fn accepted_alike(sheet: &[u8], found: Contents, ends: &[u8], recorded: &[u8]) -
 
 // The same of any sheet: a refused one has no answer.
 fn sheet_alike(sheet: &[u8], ends: &[u8], recorded: &[u8]) -> bool
-    ensures { λ r. ⌜ (r ≡ true → Accepted (now (sheet .entry))) ⌝ }
+    requires { ⌜ (length (now ends) ≤ 128) × Short (now recorded) ⌝ }
+    ensures { λ r. ⌜ r ≡ sheetAlike (Reader.read (now (sheet .entry))) (now (ends .entry)) (now (recorded .entry)) ⌝ }
 {
     match read(sheet) {
         Reading::Refused(_, _) => false,
@@ -58,15 +74,19 @@ fn sheet_alike(sheet: &[u8], ends: &[u8], recorded: &[u8]) -> bool
     }
 }
 
-// A question that ends before its sheet has no answer.
+// A question with too many run ends, or that ends before its sheet, has no answer.
 pub fn runs_alike(question: &[u8], recorded: &[u8]) -> bool
-    ensures { λ r. ⌜ (r ≡ true → Answered (now (question .entry))) ⌝ }
+    requires { ⌜ Short (now recorded) ⌝ }
+    ensures { λ r. ⌜ r ≡ runsAlike (now (question .entry)) (now (recorded .entry)) ⌝ }
 {
     if question.len() == 0 {
         return false;
     }
     let runs = number_of(question[0]);
     if question.len() - 1 < runs {
+        return false;
+    }
+    if 128 < runs {
         return false;
     }
     let from = runs + 1;

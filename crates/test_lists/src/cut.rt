@@ -1,47 +1,25 @@
 // The cut of a tour by capacity alone, as a recorded text says it.
+ghost use mathlib.Core.Path.{_≡_};
 ghost use Prim.Native.Nat.{_≤_};
+ghost use mathlib.Core.List.{[], _∷_, _++_};
 ghost use lib.ListN.{length};
-ghost use Rattle.test_runs.specs.Along.{Inside};
-use models::count::fewer;
+ghost use Rattle.definitions.specs.Listing.{endOfLine};
+ghost use Rattle.split.specs.Split.{splitF, lent};
+ghost use Rattle.test_runs.specs.Along.{follows};
+ghost use Rattle.test_runs.specs.Words as Words;
+ghost use Rattle.test_lists.specs.Answers.{result, cutWords};
 use sheet_loaded::load::Loaded;
 use split::split::SplitResult;
 use split::split::split;
-use test_runs::recorded::UNLIKE;
 use test_runs::recorded::calls;
 use test_runs::recorded::figure;
 use test_runs::recorded::word;
 
-// The served customers, the run ends and the dropped positions, at the front of the lists.
-fn cut(
-    tour: &[usize],
-    held: Loaded,
-    distances: &[f64],
-    served: &mut [usize],
-    run_ends: &mut [usize],
-    dropped: &mut [usize],
-) -> SplitResult
-    requires { ⌜ length (now tour) ≤ 128 ⌝ }
-    requires { let n = length (now tour) in
-        ⌜ (n ≤ length (now served)) × (n ≤ length (now «run_ends»)) × (n ≤ length (now dropped)) ⌝ }
-{
-    let head = held.head;
-    let customers = held.customers;
-    split(
-        tour,
-        customers,
-        distances,
-        head.places,
-        head.capacity,
-        head.fixed_cost,
-        &mut *served,
-        &mut *run_ends,
-        &mut *dropped,
-    )
-}
-
 // A word, and the numbers of a list.
 fn list_line(recorded: &[u8], at: usize, first: &[u8], list: &[usize]) -> usize
-    ensures { λ r. ⌜ Inside (now (recorded .entry)) r ⌝ }
+    ensures { λ r.
+        let words = now (first .entry) ∷ Words.numbers (now (list .entry)) ++ (endOfLine ∷ []) in
+        ⌜ r ≡ follows (now (recorded .entry)) at words ⌝ }
 {
     let end = word(recorded, at, first);
     calls(recorded, end, list)
@@ -49,7 +27,9 @@ fn list_line(recorded: &[u8], at: usize, first: &[u8], list: &[usize]) -> usize
 
 // The cost and the distance.
 fn total_line(recorded: &[u8], at: usize, cut: SplitResult) -> usize
-    ensures { λ r. ⌜ Inside (now (recorded .entry)) r ⌝ }
+    ensures { λ r.
+        let figures = Words.figure (cut .cost) ∷ Words.figure (cut .distance) ∷ [] in
+        ⌜ r ≡ follows (now (recorded .entry)) at (Words.line "split" figures) ⌝ }
 {
     let mut end = word(recorded, at, b"split");
     end = figure(recorded, end, cut.cost);
@@ -57,7 +37,27 @@ fn total_line(recorded: &[u8], at: usize, cut: SplitResult) -> usize
     word(recorded, end, b"\n")
 }
 
-// The three lists, a line each, and what the cut comes to. A tour that is too long has no text.
+// The three lists, a line each, and what the cut comes to.
+fn cut_lines(
+    recorded: &[u8],
+    at: usize,
+    served: &[usize],
+    run_ends: &[usize],
+    dropped: &[usize],
+    cut: SplitResult,
+) -> usize
+    ensures { λ r.
+        let made = result (now (served .entry)) (now («run_ends» .entry)) (now (dropped .entry))
+        (cut .cost) (cut .distance) in
+        ⌜ r ≡ follows (now (recorded .entry)) at (cutWords made) ⌝ }
+{
+    let mut end = list_line(recorded, at, b"served", served);
+    end = list_line(recorded, end, b"ends", run_ends);
+    end = list_line(recorded, end, b"dropped", dropped);
+    total_line(recorded, end, cut)
+}
+
+// Those of the cut of a tour.
 pub fn cut_text(
     recorded: &[u8],
     at: usize,
@@ -65,27 +65,35 @@ pub fn cut_text(
     held: Loaded,
     distances: &[f64],
 ) -> usize
-    ensures { λ r. ⌜ Inside (now (recorded .entry)) r ⌝ }
+    requires { ⌜ length (now tour) ≤ 128 ⌝ }
+    ensures { λ r.
+        let head = held .head in
+        let sheet = lent (held .customers) (now (distances .entry))
+        (head .places) (head .capacity) (head .«fixed_cost») in
+        ⌜ r ≡ follows (now (recorded .entry)) at (cutWords (splitF sheet (now (tour .entry)))) ⌝ }
 {
-    if 128 < tour.len() {
-        return UNLIKE;
-    }
+    let head = held.head;
+    let customers = held.customers;
     let mut served = [0usize; 128];
     let mut run_ends = [0usize; 128];
     let mut dropped = [0usize; 128];
-    let made = cut(
+    let made = split(
         tour,
-        held,
+        customers,
         distances,
+        head.places,
+        head.capacity,
+        head.fixed_cost,
         &mut served,
         &mut run_ends,
         &mut dropped,
     );
-    let calls = fewer(made.served, 128);
-    let runs = fewer(made.runs, 128);
-    let drops = fewer(made.dropped, 128);
-    let mut end = list_line(recorded, at, b"served", &served[..calls]);
-    end = list_line(recorded, end, b"ends", &run_ends[..runs]);
-    end = list_line(recorded, end, b"dropped", &dropped[..drops]);
-    total_line(recorded, end, made)
+    cut_lines(
+        recorded,
+        at,
+        &served[..made.served],
+        &run_ends[..made.runs],
+        &dropped[..made.dropped],
+        made,
+    )
 }

@@ -3,6 +3,7 @@
 ghost use mathlib.Core.Path.{_≡_};
 ghost use Prim.Native.Nat.{_≤_};
 ghost use lib.ListN.{length};
+ghost use Rattle.definitions.specs.Room.{written};
 
 // A byte as a number of runs or calls.
 pub fn number_of(b: u8) -> usize
@@ -11,17 +12,14 @@ pub fn number_of(b: u8) -> usize
     b as usize
 }
 
-// Writes run ends, as many as there is room for, and says how many that is.
-pub fn write_ends(bytes: &[u8], ends: &mut [usize]) -> usize
-    ensures { λ r. ⌜ r ≤ length (now (ends .entry)) ⌝ }
+// Writes run ends at the front of a list.
+pub fn write_ends(bytes: &[u8], ends: &mut [usize])
+    requires { ⌜ length (now bytes) ≤ length (now ends) ⌝ }
+    ensures { λ _. ⌜ now (ends .exit) ≡ written (now (bytes .entry)) (now (ends .entry)) ⌝ }
 {
     let mut k = 0;
     while k < bytes.len() {
-        if k == ends.len() {
-            return k;
-        }
         ends[k] = number_of(bytes[k]);
         k += 1;
     }
-    k
 }

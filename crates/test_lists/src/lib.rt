@@ -1,7 +1,6 @@
 // Whether a recorded answer on a run list is what is made of it: the lines of its runs, and the cut of all its calls by
 // capacity.
-// Proved is that the place after the cut is inside the recorded text or beyond every text, and that no answer is alike
-// whose question has no accepted sheet.
+// Proved is that an answer is alike exactly where it is, byte by byte, the text of what the planner's functions give.
 pub mod alike;
 pub mod cut;
 pub mod given;

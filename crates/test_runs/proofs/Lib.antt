@@ -4,3 +4,7 @@ pub mod Same
 pub mod Front
 -- Reading along a recorded text.
 pub mod Along
+-- The loop over a run list.
+pub mod Turns
+-- The runs left by elimination.
+pub mod Left

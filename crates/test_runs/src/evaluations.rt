@@ -1,11 +1,15 @@
 // The line of a run that is evaluated.
-ghost use Rattle.test_runs.specs.Along.{Inside};
+ghost use mathlib.Core.Path.{_≡_};
+ghost use Rattle.test_runs.specs.Along.{follow, follows};
+ghost use Rattle.test_runs.specs.Words.{verdictWord, costWord, evaluationLine};
 use crate::recorded::figure;
 use crate::recorded::word;
 use whole::infinity;
 
 // Whether the run may be made.
-fn verdict(recorded: &[u8], at: usize, feasible: bool) -> usize {
+fn verdict(recorded: &[u8], at: usize, feasible: bool) -> usize
+    ensures { λ r. ⌜ r ≡ follow (now (recorded .entry)) at (verdictWord feasible) ⌝ }
+{
     if feasible {
         word(recorded, at, b"feasible")
     } else {
@@ -14,7 +18,9 @@ fn verdict(recorded: &[u8], at: usize, feasible: bool) -> usize {
 }
 
 // A cost, or the word for one that is infinite.
-fn cost_figure(recorded: &[u8], at: usize, cost: f64) -> usize {
+fn cost_figure(recorded: &[u8], at: usize, cost: f64) -> usize
+    ensures { λ r. ⌜ r ≡ follow (now (recorded .entry)) at (costWord cost) ⌝ }
+{
     if cost < infinity() {
         figure(recorded, at, cost)
     } else {
@@ -24,7 +30,7 @@ fn cost_figure(recorded: &[u8], at: usize, cost: f64) -> usize {
 
 // Whether the run may be made, and what it costs.
 pub fn evaluation_line(recorded: &[u8], at: usize, feasible: bool, cost: f64) -> usize
-    ensures { λ r. ⌜ Inside (now (recorded .entry)) r ⌝ }
+    ensures { λ r. ⌜ r ≡ follows (now (recorded .entry)) at (evaluationLine feasible cost) ⌝ }
 {
     let mut end = verdict(recorded, at, feasible);
     end = cost_figure(recorded, end, cost);

@@ -1,6 +1,13 @@
 // The lines of a run that is built: its visits, its violations and its totals.
-ghost use Rattle.test_runs.specs.Along.{Inside};
-use crate::recorded::UNLIKE;
+ghost use mathlib.Core.Path.{_≡_};
+ghost use mathlib.Core.List.{[], _∷_};
+ghost use lib.ListN.{take};
+ghost use Rattle.definitions.specs.Listing.{spaced};
+ghost use Rattle.evaluation.specs.Records.{startOf};
+ghost use Rattle.visits.specs.Building.{builtOf};
+ghost use Rattle.test_runs.specs.Along.{follows};
+ghost use Rattle.test_runs.specs.Words as Words;
+ghost use Rattle.test_runs.specs.Words.{each, visitLine, violationFigures, violationLine, breakFigures, totalFigures, builtLines};
 use crate::recorded::figure;
 use crate::recorded::number;
 use crate::recorded::word;
@@ -12,14 +19,19 @@ use visits::visit::ViolationType;
 use visits::visit::Visit;
 
 // A number, and two figures.
-fn number_and_two(recorded: &[u8], at: usize, n: u64, first: f64, second: f64) -> usize {
+fn number_and_two(recorded: &[u8], at: usize, n: u64, first: f64, second: f64) -> usize
+    ensures { λ r. let words = spaced n ∷ Words.figure first ∷ Words.figure second ∷ [] in
+        ⌜ r ≡ follows (now (recorded .entry)) at words ⌝ }
+{
     let mut end = number(recorded, at, n);
     end = figure(recorded, end, first);
     figure(recorded, end, second)
 }
 
 // A customer, the times of arrival and departure, and the load.
-fn visit_line(recorded: &[u8], at: usize, visit: Visit) -> usize {
+fn visit_line(recorded: &[u8], at: usize, visit: Visit) -> usize
+    ensures { λ r. ⌜ r ≡ follows (now (recorded .entry)) at (visitLine visit) ⌝ }
+{
     let customer = visit.customer_id as u64;
     let mut end = word(recorded, at, b"visit");
     end = number_and_two(
@@ -34,7 +46,9 @@ fn visit_line(recorded: &[u8], at: usize, visit: Visit) -> usize {
 }
 
 // The number of a violation, and its figures.
-fn violation_figures(recorded: &[u8], at: usize, kind: ViolationType) -> usize {
+fn violation_figures(recorded: &[u8], at: usize, kind: ViolationType) -> usize
+    ensures { λ r. ⌜ r ≡ follows (now (recorded .entry)) at (violationFigures kind) ⌝ }
+{
     match kind {
         ViolationType::TimeWindowViolated {
             customer_id,
@@ -62,45 +76,52 @@ fn violation_figures(recorded: &[u8], at: usize, kind: ViolationType) -> usize {
 }
 
 // The number of a violation with its figures, as a line.
-fn violation_line(recorded: &[u8], at: usize, violation: Violation) -> usize {
+fn violation_line(recorded: &[u8], at: usize, violation: Violation) -> usize
+    ensures { λ r. ⌜ r ≡ follows (now (recorded .entry)) at (violationLine violation) ⌝ }
+{
     let kind = violation.kind;
     let mut end = word(recorded, at, b"violation");
     end = violation_figures(recorded, end, kind);
     word(recorded, end, b"\n")
 }
 
-// The line with an index: the violations are behind the visits.
-fn line(recorded: &[u8], at: usize, built: Built, k: usize) -> usize {
-    let count = built.count;
-    if k < count {
-        if 128 <= k {
-            return UNLIKE;
-        }
-        let visits = built.visits;
-        return visit_line(recorded, at, visits[k]);
-    }
-    let j = k - count;
-    if 131 <= j {
-        return UNLIKE;
-    }
-    let violations = built.violations;
-    violation_line(recorded, at, violations[j])
-}
-
-// The visits, and the violations.
-fn visits_and_violations(recorded: &[u8], at: usize, built: Built) -> usize {
-    let n = fewer(built.count, 128) + fewer(built.found, 131);
+// The first visits of an array.
+fn visit_lines(recorded: &[u8], at: usize, visits: [Visit; 128], count: usize) -> usize
+    ensures { λ r. ⌜ r ≡ follows (now (recorded .entry)) at (each visitLine (take count visits)) ⌝ }
+{
+    let n = fewer(count, 128);
     let mut end = at;
     let mut k = 0;
     while k < n {
-        end = line(recorded, end, built, k);
+        end = visit_line(recorded, end, visits[k]);
+        k += 1;
+    }
+    end
+}
+
+// The first violations of an array.
+fn violation_lines(
+    recorded: &[u8],
+    at: usize,
+    violations: [Violation; 131],
+    count: usize,
+) -> usize
+    ensures { λ r. ⌜ r ≡ follows (now (recorded .entry)) at (each violationLine (take count violations)) ⌝ }
+{
+    let n = fewer(count, 131);
+    let mut end = at;
+    let mut k = 0;
+    while k < n {
+        end = violation_line(recorded, end, violations[k]);
         k += 1;
     }
     end
 }
 
 // The break's place and start, where there is a break.
-fn break_figures(recorded: &[u8], at: usize, place: usize, start: Start) -> usize {
+fn break_figures(recorded: &[u8], at: usize, place: usize, start: Start) -> usize
+    ensures { λ r. ⌜ r ≡ follows (now (recorded .entry)) at (breakFigures place (startOf start)) ⌝ }
+{
     match start {
         Start::Unbroken => at,
         Start::At(time) => {
@@ -111,7 +132,9 @@ fn break_figures(recorded: &[u8], at: usize, place: usize, start: Start) -> usiz
 }
 
 // Distance, duration, lateness with its cost, and load.
-fn total_figures(recorded: &[u8], at: usize, built: Built) -> usize {
+fn total_figures(recorded: &[u8], at: usize, built: Built) -> usize
+    ensures { λ r. ⌜ r ≡ follows (now (recorded .entry)) at (totalFigures (builtOf built)) ⌝ }
+{
     let mut end = figure(recorded, at, built.distance);
     end = figure(recorded, end, built.duration);
     end = figure(recorded, end, built.lateness);
@@ -121,10 +144,13 @@ fn total_figures(recorded: &[u8], at: usize, built: Built) -> usize {
 
 // All lines of the run: the visits and the violations, then the totals and the break.
 pub fn built_lines(recorded: &[u8], at: usize, built: Built) -> usize
-    ensures { λ r. ⌜ Inside (now (recorded .entry)) r ⌝ }
+    ensures { λ r. ⌜ r ≡ follows (now (recorded .entry)) at (builtLines (builtOf built)) ⌝ }
 {
     let start = built.start;
-    let mut end = visits_and_violations(recorded, at, built);
+    let visits = built.visits;
+    let violations = built.violations;
+    let mut end = visit_lines(recorded, at, visits, built.count);
+    end = violation_lines(recorded, end, violations, built.found);
     end = word(recorded, end, b"route");
     end = total_figures(recorded, end, built);
     end = break_figures(recorded, end, built.place, start);

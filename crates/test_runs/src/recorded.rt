@@ -2,8 +2,9 @@
 // place after what it says there; where the text says something else, that is UNLIKE.
 ghost use mathlib.Core.Path.{_≡_};
 ghost use Rattle.definitions.specs.Listing as Listing;
-ghost use Rattle.listing_lines.specs.Number.{wholePart};
-ghost use Rattle.test_runs.specs.Along.{follow, followCalls, Inside};
+ghost use mathlib.Core.List.{[], _∷_, _++_};
+ghost use Rattle.test_runs.specs.Along.{follow, follows};
+ghost use Rattle.test_runs.specs.Words as Words;
 use listing_lines::number::whole_part;
 use listing_lines::text::spaced;
 
@@ -12,8 +13,7 @@ pub const UNLIKE: usize = 65536;
 
 // A word.
 pub fn word(recorded: &[u8], at: usize, bytes: &[u8]) -> usize
-    ensures place { λ r. ⌜ r ≡ follow (now (recorded .entry)) at (now (bytes .entry)) ⌝ }
-    ensures inside { λ r. ⌜ Inside (now (recorded .entry)) r ⌝ }
+    ensures { λ r. ⌜ r ≡ follow (now (recorded .entry)) at (now (bytes .entry)) ⌝ }
 {
     let n = recorded.len();
     if n < at {
@@ -32,8 +32,7 @@ pub fn word(recorded: &[u8], at: usize, bytes: &[u8]) -> usize
 
 // A blank, and a number.
 pub fn number(recorded: &[u8], at: usize, n: u64) -> usize
-    ensures place { λ r. ⌜ r ≡ follow (now (recorded .entry)) at (Listing.spaced n) ⌝ }
-    ensures inside { λ r. ⌜ Inside (now (recorded .entry)) r ⌝ }
+    ensures { λ r. ⌜ r ≡ follow (now (recorded .entry)) at (Listing.spaced n) ⌝ }
 {
     let mut digits = [0u8; 21];
     let end = spaced(&mut digits, 0, n);
@@ -42,16 +41,15 @@ pub fn number(recorded: &[u8], at: usize, n: u64) -> usize
 
 // The same of a float that holds a whole number.
 pub fn figure(recorded: &[u8], at: usize, x: f64) -> usize
-    ensures place { λ r. ⌜ r ≡ follow (now (recorded .entry)) at (Listing.spaced (wholePart x)) ⌝ }
-    ensures inside { λ r. ⌜ Inside (now (recorded .entry)) r ⌝ }
+    ensures { λ r. ⌜ r ≡ follow (now (recorded .entry)) at (Words.figure x) ⌝ }
 {
     number(recorded, at, whole_part(x))
 }
 
 // The numbers of customers, and the end of the line.
 pub fn calls(recorded: &[u8], at: usize, run: &[usize]) -> usize
-    ensures place { λ r. ⌜ r ≡ followCalls (now (recorded .entry)) at (now (run .entry)) ⌝ }
-    ensures inside { λ r. ⌜ Inside (now (recorded .entry)) r ⌝ }
+    ensures { λ r. let words = Words.numbers (now (run .entry)) ++ (Listing.endOfLine ∷ []) in
+        ⌜ r ≡ follows (now (recorded .entry)) at words ⌝ }
 {
     let mut end = at;
     let mut k = 0;

@@ -1,21 +1,25 @@
 // What is made of a run list, as a recorded text says it: the visits of each run, whether it may be made and what it
-// costs, each run reversed, and the runs left by elimination. A run list whose ends fall, or that is too long, has no
-// text.
+// costs, each run reversed, and the runs left by elimination.
+ghost use mathlib.Core.Path.{_≡_};
 ghost use Prim.Native.Nat.{_≤_};
 ghost use lib.ListN.{length};
-ghost use Rattle.test_runs.specs.Along.{Inside};
-ghost use Rattle.test_runs.specs.Runs.{RunList};
+ghost use Rattle.definitions.specs.RunList.{runsOf};
+ghost use Rattle.definitions.specs.Room.{written};
+ghost use Rattle.theorems.proofs.RunListLaws.{RiseTo};
+ghost use Rattle.two_opt.specs.TwoOpt.{improvedF, improvedDistanceF};
+ghost use Rattle.route_elimination.specs.Elimination.{eliminatedF, Leaves, lists};
+ghost use Rattle.test_runs.specs.declared.runs.Topic.the-variants as Topics;
+ghost use Rattle.test_runs.specs.Along.{follows};
+ghost use Rattle.test_runs.specs.Words.{each, line, numbers};
+ghost use Rattle.test_runs.specs.Runs.{RunList, givenIn, runWords, runsWords, improvedWords};
 use crate::evaluations::evaluation_line;
 use crate::lines::built_lines;
-use crate::recorded::UNLIKE;
 use crate::recorded::calls;
 use crate::recorded::figure;
 use crate::recorded::word;
 use evaluation::route::effective_cost;
 use evaluation::route::route_feasible;
 use improve_base::search::search_of;
-use models::count::fewer;
-use refuse_lists::runs::ends_fall;
 use refuse_numbers::customers::Test;
 use refuse_numbers::customers::any_applies;
 use route_elimination::route_elimination::Left;
@@ -23,6 +27,14 @@ use route_elimination::route_elimination::eliminate_routes;
 use sheet_loaded::load::Loaded;
 use two_opt::two_opt::two_opt_improve;
 use visits::evaluator::build_route;
+
+// What there is to say of each run.
+pub enum Topic {
+    Visits,
+    Evaluation,
+    Reversal,
+    Calls,
+}
 
 // The visits of a run.
 fn visited(
@@ -33,11 +45,11 @@ fn visited(
     distances: &[f64],
     times: &[f64],
 ) -> usize
-    ensures { λ r. ⌜ Inside (now (recorded .entry)) r ⌝ }
+    requires { ⌜ length (now run) ≤ 128 ⌝ }
+    ensures { λ r.
+        let G = givenIn held (now (distances .entry)) (now (times .entry)) in
+        ⌜ r ≡ follows (now (recorded .entry)) at (runWords G Topics.Visits (now (run .entry))) ⌝ }
 {
-    if 128 < run.len() {
-        return UNLIKE;
-    }
     let head = held.head;
     let customers = held.customers;
     let built = build_route(
@@ -61,7 +73,9 @@ fn evaluated(
     distances: &[f64],
     times: &[f64],
 ) -> usize
-    ensures { λ r. ⌜ Inside (now (recorded .entry)) r ⌝ }
+    ensures { λ r.
+        let G = givenIn held (now (distances .entry)) (now (times .entry)) in
+        ⌜ r ≡ follows (now (recorded .entry)) at (runWords G Topics.Evaluation (now (run .entry))) ⌝ }
 {
     let head = held.head;
     let customers = held.customers;
@@ -80,6 +94,13 @@ fn improved(
     current: &mut [usize],
 ) -> f64
     requires { ⌜ length (now run) ≤ length (now current) ⌝ }
+    ensures distance { λ r.
+        let G = givenIn held (now (distances .entry)) (now (times .entry)) in
+        ⌜ r ≡ improvedDistanceF (G .tables) (G .search) (now (run .entry)) ⌝ }
+    ensures calls { λ _.
+        let G = givenIn held (now (distances .entry)) (now (times .entry)) in
+        let calls = improvedF (G .tables) (G .search) (now (run .entry)) in
+        ⌜ now (current .exit) ≡ written calls (now (current .entry)) ⌝ }
 {
     let head = held.head;
     let customers = held.customers;
@@ -105,12 +126,12 @@ fn reversed(
     distances: &[f64],
     times: &[f64],
 ) -> usize
-    ensures { λ r. ⌜ Inside (now (recorded .entry)) r ⌝ }
+    requires { ⌜ length (now run) ≤ 128 ⌝ }
+    ensures { λ r.
+        let G = givenIn held (now (distances .entry)) (now (times .entry)) in
+        ⌜ r ≡ follows (now (recorded .entry)) at (runWords G Topics.Reversal (now (run .entry))) ⌝ }
 {
     let n = run.len();
-    if 128 < n {
-        return UNLIKE;
-    }
     let mut current = [0usize; 128];
     let distance = improved(run, held, distances, times, &mut current);
     let mut end = word(recorded, at, b"reversed");
@@ -118,12 +139,12 @@ fn reversed(
     calls(recorded, end, &current[..n])
 }
 
-// What there is to say of each run.
-pub enum Topic {
-    Visits,
-    Evaluation,
-    Reversal,
-    Calls,
+// The calls of a run.
+fn listed(recorded: &[u8], at: usize, run: &[usize]) -> usize
+    ensures { λ r. ⌜ r ≡ follows (now (recorded .entry)) at (line "left" (numbers (now (run .entry)))) ⌝ }
+{
+    let end = word(recorded, at, b"left");
+    calls(recorded, end, run)
 }
 
 // The lines on one run.
@@ -136,40 +157,17 @@ fn run_text(
     distances: &[f64],
     times: &[f64],
 ) -> usize
-    ensures { λ r. ⌜ Inside (now (recorded .entry)) r ⌝ }
+    requires { ⌜ length (now run) ≤ 128 ⌝ }
+    ensures { λ r.
+        let G = givenIn held (now (distances .entry)) (now (times .entry)) in
+        ⌜ r ≡ follows (now (recorded .entry)) at (runWords G topic (now (run .entry))) ⌝ }
 {
     match topic {
         Topic::Visits => visited(recorded, at, run, held, distances, times),
         Topic::Evaluation => evaluated(recorded, at, run, held, distances, times),
         Topic::Reversal => reversed(recorded, at, run, held, distances, times),
-        Topic::Calls => {
-            let end = word(recorded, at, b"left");
-            calls(recorded, end, run)
-        }
+        Topic::Calls => listed(recorded, at, run),
     }
-}
-
-// Those on the run from one end to the next.
-fn between(
-    recorded: &[u8],
-    at: usize,
-    topic: Topic,
-    all: &[usize],
-    from: usize,
-    to: usize,
-    held: Loaded,
-    distances: &[f64],
-    times: &[f64],
-) -> usize
-    ensures { λ r. ⌜ Inside (now (recorded .entry)) r ⌝ }
-{
-    if to < from {
-        return UNLIKE;
-    }
-    if all.len() < to {
-        return UNLIKE;
-    }
-    run_text(recorded, at, topic, &all[from..to], held, distances, times)
 }
 
 // Those on every run.
@@ -183,15 +181,18 @@ fn each_run(
     distances: &[f64],
     times: &[f64],
 ) -> usize
-    requires { ⌜ Inside (now recorded) at ⌝ }
-    ensures { λ r. ⌜ Inside (now (recorded .entry)) r ⌝ }
+    requires { ⌜ (length (now all) ≤ 128) × RiseTo 0 (now ends) (length (now all)) ⌝ }
+    ensures { λ r.
+        let G = givenIn held (now (distances .entry)) (now (times .entry)) in
+        let runs = runsOf (now (all .entry)) (now (ends .entry)) in
+        ⌜ r ≡ follows (now (recorded .entry)) at (each (runWords G topic) runs) ⌝ }
 {
     let mut end = at;
     let mut from = 0;
     let mut k = 0;
     while k < ends.len() {
         let to = ends[k];
-        end = between(recorded, end, topic, all, from, to, held, distances, times);
+        end = run_text(recorded, end, topic, &all[from..to], held, distances, times);
         from = to;
         k += 1;
     }
@@ -210,6 +211,12 @@ fn eliminated(
 ) -> Left
     requires { ⌜ RunList (now all) (now ends) ⌝ }
     requires { ⌜ (length (now all) ≤ length (now «left_calls»)) × (length (now ends) ≤ length (now «left_ends»)) ⌝ }
+    ensures { λ r.
+        let G = givenIn held (now (distances .entry)) (now (times .entry)) in
+        let runs = runsOf (now (all .entry)) (now (ends .entry)) in
+        let old = lists (now («left_calls» .entry)) (now («left_ends» .entry)) in
+        let new = lists (now («left_calls» .exit)) (now («left_ends» .exit)) in
+        ⌜ Leaves (eliminatedF G runs) r old new ⌝ }
 {
     let head = held.head;
     let customers = held.customers;
@@ -240,8 +247,10 @@ fn left_lines(
     times: &[f64],
 ) -> usize
     requires { ⌜ RunList (now all) (now ends) ⌝ }
-    requires { ⌜ Inside (now recorded) at ⌝ }
-    ensures { λ r. ⌜ Inside (now (recorded .entry)) r ⌝ }
+    ensures { λ r.
+        let G = givenIn held (now (distances .entry)) (now (times .entry)) in
+        let left = eliminatedF G (runsOf (now (all .entry)) (now (ends .entry))) in
+        ⌜ r ≡ follows (now (recorded .entry)) at (each (runWords G Topics.Calls) left) ⌝ }
 {
     let mut left_calls = [0usize; 128];
     let mut left_ends = [0usize; 128];
@@ -254,22 +263,20 @@ fn left_lines(
         &mut left_calls,
         &mut left_ends,
     );
-    let many = fewer(left.calls, 128);
-    let runs = fewer(left.runs, 128);
     each_run(
         recorded,
         at,
         Topic::Calls,
-        &left_calls[..many],
-        &left_ends[..runs],
+        &left_calls[..left.calls],
+        &left_ends[..left.runs],
         held,
         distances,
         times,
     )
 }
 
-// The same of any run list.
-fn left_over(
+// What the improvers make of the runs.
+fn improved_text(
     recorded: &[u8],
     at: usize,
     all: &[usize],
@@ -278,19 +285,15 @@ fn left_over(
     distances: &[f64],
     times: &[f64],
 ) -> usize
-    requires { ⌜ Inside (now recorded) at ⌝ }
-    ensures { λ r. ⌜ Inside (now (recorded .entry)) r ⌝ }
+    requires { ⌜ RunList (now all) (now ends) ⌝ }
+    ensures { λ r.
+        let G = givenIn held (now (distances .entry)) (now (times .entry)) in
+        let runs = runsOf (now (all .entry)) (now (ends .entry)) in
+        ⌜ r ≡ follows (now (recorded .entry)) at (improvedWords G runs) ⌝ }
 {
-    if 128 < all.len() {
-        return UNLIKE;
-    }
-    if 128 < ends.len() {
-        return UNLIKE;
-    }
-    if ends_fall(ends, all.len()) {
-        return UNLIKE;
-    }
-    left_lines(recorded, at, all, ends, held, distances, times)
+    let reversal = Topic::Reversal;
+    let end = each_run(recorded, at, reversal, all, ends, held, distances, times);
+    left_lines(recorded, end, all, ends, held, distances, times)
 }
 
 // All of it. A sheet with lateness pay has visits and evaluations only.
@@ -302,7 +305,11 @@ pub fn runs_text(
     distances: &[f64],
     times: &[f64],
 ) -> usize
-    ensures { λ r. ⌜ Inside (now (recorded .entry)) r ⌝ }
+    requires { ⌜ RunList (now all) (now ends) ⌝ }
+    ensures { λ r.
+        let G = givenIn held (now (distances .entry)) (now (times .entry)) in
+        let runs = runsOf (now (all .entry)) (now (ends .entry)) in
+        ⌜ r ≡ follows (now (recorded .entry)) 0 (runsWords G runs) ⌝ }
 {
     let visits = Topic::Visits;
     let mut end = each_run(recorded, 0, visits, all, ends, held, distances, times);
@@ -313,7 +320,5 @@ pub fn runs_text(
     if any_applies(Test::Soft, customers, head.places) {
         return end;
     }
-    let reversal = Topic::Reversal;
-    end = each_run(recorded, end, reversal, all, ends, held, distances, times);
-    left_over(recorded, end, all, ends, held, distances, times)
+    improved_text(recorded, end, all, ends, held, distances, times)
 }

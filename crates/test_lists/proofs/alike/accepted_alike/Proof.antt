@@ -1,9 +1,10 @@
--- `alike::accepted_alike` is safe. Assumes nothing.
+-- `alike::accepted_alike` meets its contract. Assumes nothing.
 use denote.Ref.{now}
 use Rattle.sheet_read.specs.Summary.{heldCounts}
 use Rattle.sheet_loaded.specs.Held.{Accepted}
 use Rattle.sheet_loaded.proofs.Reading.{is-accepted}
 use Rattle.sheet_loaded.proofs.Loading.{far-inside, far-counted, long-inside, long-counted, calls-inside, calls-counted}
+use Rattle.test_lists.proofs.Held.{few-calls, alike-on}
 use borrow.Author.Needs.{needs}
 use Rattle.test_lists.proofs.alike.accepted_alike.Statement.{statement}
 use Rattle.test_lists.proofs.alike.accepted_alike.Tie as tie
@@ -14,7 +15,7 @@ entry x = let slices = x .before .before .before .before in slices .before .befo
 
 -- the bytes are those of a sheet
 accepted : (x : tie.After-load) → Accepted (now (entry x .args .sheet))
-accepted x = is-accepted (now (entry x .args .sheet)) (heldCounts (entry x .args .found)) (entry x .pre)
+accepted x = is-accepted (now (entry x .args .sheet)) (heldCounts (entry x .args .found)) (entry x .pre .0)
 
 load-requires : tie.Need-load-requires
 load-requires c κs = search needs
@@ -56,10 +57,18 @@ slice-aggregate-ends-alike-3 c =
     long-counted (x .load .ensures (q .0) (q .1) (q .2))
 
 ends-alike-requires : tie.Need-ends-alike-requires
-ends-alike-requires c κs = search needs
+ends-alike-requires c κs =
+    let x = c .before .before .before in
+    let q = accepted x in
+    let few = entry x .pre .1 in
+    (few .0, few .1, few-calls (x .load .ensures (q .0) (q .1) (q .2)))
 
 returns : tie.Need-returns
-returns c = search needs
+returns c =
+    let x = c .before .before .before .before in
+    let q = accepted x in
+    let a = entry x .args in
+    alike-on (x .load .ensures (q .0) (q .1) (q .2)) (now (a .sheet)) (q .2) (now (a .ends)) (now (a .recorded)) (c .ends-alike .result) (c .ends-alike .ensures)
 
 pub accepted-alike-spec : {M : Type 1} → statement M
 accepted-alike-spec =

@@ -1,14 +1,15 @@
 -- `alike::runs_alike` meets its contract. Assumes nothing.
 use native.Mathlib.Omega.{arith}
-use mathlib.Core.Bool.{false≢true}
 use denote.Ref.{now}
+use Rattle.test_lists.proofs.Asked.{no-sheet, too-many, asked}
 use borrow.Author.Needs.{needs}
-use Rattle.test_lists.proofs.Answering.{answered}
 use Rattle.test_lists.proofs.alike.runs_alike.Statement.{statement}
 use Rattle.test_lists.proofs.alike.runs_alike.Tie as tie
 
 returns : tie.Need-returns
-returns c h = absurd (false≢true h)
+returns c =
+    let a = c .before .before .before .args in
+    no-sheet (now (a .question)) (now (a .recorded)) (omega arith)
 
 shared-slice-read-number-of : tie.Need-shared-slice-read-number-of
 shared-slice-read-number-of c = search needs
@@ -20,7 +21,16 @@ sub-if2 : tie.Need-sub-if2
 sub-if2 c = search needs
 
 returns-2 : tie.Need-returns-2
-returns-2 c h = absurd (false≢true h)
+returns-2 c =
+    let n = c .before in
+    let a = n .before .before .before .before .before .args in
+    no-sheet (now (a .question)) (now (a .recorded)) (omega (arith, n .number-of .ensures))
+
+returns-3 : tie.Need-returns-3
+returns-3 c =
+    let n = c .before .before in
+    let a = n .before .before .before .before .before .args in
+    too-many (now (a .question)) (now (a .recorded)) (omega (arith, n .number-of .ensures)) (omega (arith, n .number-of .ensures))
 
 add-from : tie.Need-add-from
 add-from c = search needs
@@ -46,12 +56,11 @@ part-sheet-alike-end-2 c = search needs
 sheet-alike-requires : tie.Need-sheet-alike-requires
 sheet-alike-requires c κs = search needs
 
-returns-3 : tie.Need-returns-3
-returns-3 c h =
-    let numbered = c .before .before .before .before in
-    let a = numbered .before .before .before .before .before .args in
-    let n = numbered .number-of in
-    answered (now (a .question)) (n .result) (n .ensures) (omega arith) (c .sheet-alike .ensures h)
+returns-4 : tie.Need-returns-4
+returns-4 c =
+    let n = c .before .before .before .before .before in
+    let a = n .before .before .before .before .before .args in
+    asked (now (a .question)) (now (a .recorded)) (n .number-of .result) (n .number-of .ensures) (omega arith) (omega arith) (c .sheet-alike .result) (c .sheet-alike .ensures)
 
 pub runs-alike-spec : {M : Type 1} → statement M
 runs-alike-spec =
@@ -62,6 +71,7 @@ runs-alike-spec =
     number-of-requires
     sub-if2
     returns-2
+    returns-3
     add-from
     sub-sheet-alike
     part-sheet-alike-start
@@ -70,4 +80,4 @@ runs-alike-spec =
     part-sheet-alike-start-2
     part-sheet-alike-end-2
     sheet-alike-requires
-    returns-3)
+    returns-4)

@@ -1,9 +1,9 @@
 -- `alike::sheet_alike` meets its contract. Assumes nothing.
 use mathlib.Core.Path.{sym, ap, _∙_}
-use mathlib.Core.Bool.{false≢true}
 use denote.Ref.{now}
-use Rattle.sheet_read.specs.Summary.{heldCounts, heldSummary}
-use Rattle.sheet_loaded.proofs.Reading.{is-accepted}
+use Rattle.sheet_read.specs.Summary.{heldSummary}
+use Rattle.sheet_loaded.proofs.Reading.{refused-is}
+use Rattle.test_lists.proofs.Held.{refused-unlike}
 use borrow.Author.Needs.{needs}
 use Rattle.test_lists.proofs.alike.sheet_alike.Statement.{statement}
 use Rattle.test_lists.proofs.alike.sheet_alike.Tie as tie
@@ -21,17 +21,18 @@ accepted-alike-requires : tie.Need-accepted-alike-requires
 accepted-alike-requires c κs =
     let r = c .before .before .before in
     let k = c .before .found .given in
-    sym (ap heldSummary (k .1)) ∙ r .read .ensures
+    let s = r .before .before .before .before in
+    (sym (ap heldSummary (k .1)) ∙ r .read .ensures, s .pre)
 
 returns : tie.Need-returns
-returns c h = absurd (false≢true h)
+returns c =
+    let r = c .before .before in
+    let a = r .before .before .before .before .args in
+    let k = c .enum-told .given in
+    refused-unlike (now (a .sheet)) (now (a .ends)) (now (a .recorded)) (k .0 .0) (k .0 .1 .0) (refused-is (now (a .sheet)) (k .0 .0) (k .0 .1 .0) (sym (ap heldSummary (k .1)) ∙ r .read .ensures))
 
 returns-2 : tie.Need-returns-2
-returns-2 c h =
-    let f = c .before .before in
-    let r = f .before .before in
-    let a = r .before .before .before .before .args in
-    is-accepted (now (a .sheet)) (heldCounts (f .found .given .0 .0)) (accepted-alike-requires (c .before) (c .accepted-alike .lifetimes))
+returns-2 c = search needs
 
 pub sheet-alike-spec : {M : Type 1} → statement M
 sheet-alike-spec =

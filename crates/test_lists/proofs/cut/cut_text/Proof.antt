@@ -1,99 +1,95 @@
 -- `cut::cut_text` meets its contract. Assumes nothing.
-use mathlib.Core.Path.{sym}
-use lib.Seq.{length-take-le}
+use mathlib.Core.Path.{ap, _∙_}
+use lib.ListN.{replicate}
+use denote.Ref.{now}
+use Rattle.split.specs.Answer.{ResultF}
+use Rattle.split.specs.Split.{splitF, lent}
+use Rattle.test_runs.specs.Along.{follows}
+use Rattle.test_lists.specs.Answers.{cutWords}
+use Rattle.test_lists.proofs.CutLists.{Lists, Cuts, served-inside, served-counted, ends-inside, ends-counted, dropped-inside, dropped-counted, cut-is}
 use borrow.Author.Needs.{needs}
 use Rattle.test_lists.proofs.cut.cut_text.Statement.{statement}
 use Rattle.test_lists.proofs.cut.cut_text.Tie as tie
 
-returns : tie.Need-returns
-returns c = search needs
+-- ---- the places on the way: before the lent slices, the head, the records and the three arrays; and the cut, before its lists are lent
 
-slice-aggregate-cut : tie.Need-slice-aggregate-cut
-slice-aggregate-cut c = search needs
+abbrev entry : tie.After-split → tie.Start
+entry x = let arrays = x .before .before .before .before .before .before in arrays .before .before .before
 
-slice-aggregate-cut-2 : tie.Need-slice-aggregate-cut-2
-slice-aggregate-cut-2 c = search needs
+abbrev gone : tie.After-served3 → tie.After-split
+gone x = x .before .before .before .before
 
-slice-aggregate-cut-3 : tie.Need-slice-aggregate-cut-3
-slice-aggregate-cut-3 c = search needs
+abbrev plan : tie.Start → ResultF
+plan s =
+    let a = s .args in
+    let head = a .held .head in
+    splitF (lent (a .held .customers) (now (a .distances)) (head .places) (head .capacity) (head .«fixed_cost»)) (now (a .tour))
 
-cut-requires : tie.Need-cut-requires
-cut-requires c κs = search needs
+abbrev blank : Lists
+blank = record { served = replicate 128 0; ends = replicate 128 0; dropped = replicate 128 0 }
 
-fewer-requires : tie.Need-fewer-requires
-fewer-requires c κs = search needs
+abbrev lists : tie.After-split → Lists
+lists x =
+    let l = x .split .last .1 .1 .1 .1 .1 .1 in
+    record { served = l .0; ends = l .1 .0; dropped = l .1 .1 .0 }
 
-fewer-requires-2 : tie.Need-fewer-requires-2
-fewer-requires-2 c κs = search needs
+made : (x : tie.After-split) → Cuts (plan (entry x)) (x .split .result) blank (lists x)
+made x =
+    let e = x .split .ensures in
+    record { counts = e .0; served-is = e .1 .0; ends-are = e .1 .1 .0; dropped-are = e .1 .1 .1 }
 
-fewer-requires-3 : tie.Need-fewer-requires-3
-fewer-requires-3 c κs = search needs
+slice-aggregate-split : tie.Need-slice-aggregate-split
+slice-aggregate-split c = search needs
 
-slice-aggregate-list-line : tie.Need-slice-aggregate-list-line
-slice-aggregate-list-line c = search needs
+slice-aggregate-split-2 : tie.Need-slice-aggregate-split-2
+slice-aggregate-split-2 c = search needs
+
+slice-aggregate-split-3 : tie.Need-slice-aggregate-split-3
+slice-aggregate-split-3 c = search needs
+
+split-requires : tie.Need-split-requires
+split-requires c κs = search needs
 
 array-share-prefix-served : tie.Need-array-share-prefix-served
-array-share-prefix-served c = search needs
+array-share-prefix-served c = served-inside (made (c .before .before .before))
 
-slice-aggregate-list-line-2 : tie.Need-slice-aggregate-list-line-2
-slice-aggregate-list-line-2 c = sym (length-take-le _ _ (array-share-prefix-served (c .before)))
-
-list-line-requires : tie.Need-list-line-requires
-list-line-requires c κs = search needs
-
-slice-aggregate-list-line-3 : tie.Need-slice-aggregate-list-line-3
-slice-aggregate-list-line-3 c = search needs
+slice-aggregate-cut-lines : tie.Need-slice-aggregate-cut-lines
+slice-aggregate-cut-lines c = served-counted (made (gone c))
 
 array-share-prefix-run-ends : tie.Need-array-share-prefix-run-ends
-array-share-prefix-run-ends c = search needs
+array-share-prefix-run-ends c = ends-inside (made (gone c))
 
-slice-aggregate-list-line-4 : tie.Need-slice-aggregate-list-line-4
-slice-aggregate-list-line-4 c = sym (length-take-le _ _ (array-share-prefix-run-ends (c .before)))
-
-list-line-requires-2 : tie.Need-list-line-requires-2
-list-line-requires-2 c κs = search needs
-
-slice-aggregate-list-line-5 : tie.Need-slice-aggregate-list-line-5
-slice-aggregate-list-line-5 c = search needs
+slice-aggregate-cut-lines-2 : tie.Need-slice-aggregate-cut-lines-2
+slice-aggregate-cut-lines-2 c = ends-counted (made (gone (c .before)))
 
 array-share-prefix-dropped : tie.Need-array-share-prefix-dropped
-array-share-prefix-dropped c = search needs
+array-share-prefix-dropped c = dropped-inside (made (gone (c .before)))
 
-slice-aggregate-list-line-6 : tie.Need-slice-aggregate-list-line-6
-slice-aggregate-list-line-6 c = sym (length-take-le _ _ (array-share-prefix-dropped (c .before)))
+slice-aggregate-cut-lines-3 : tie.Need-slice-aggregate-cut-lines-3
+slice-aggregate-cut-lines-3 c = dropped-counted (made (gone (c .before .before)))
 
-list-line-requires-3 : tie.Need-list-line-requires-3
-list-line-requires-3 c κs = search needs
+cut-lines-requires : tie.Need-cut-lines-requires
+cut-lines-requires c κs = search needs
 
-total-line-requires : tie.Need-total-line-requires
-total-line-requires c κs = search needs
-
-returns-2 : tie.Need-returns-2
-returns-2 c = search needs
+returns : tie.Need-returns
+returns c =
+    let x = gone (c .before .before .before) in
+    let a = entry x .args in
+    c .cut-lines .ensures ∙ ap (λ (y : ResultF). follows (now (a .recorded)) (a .at) (cutWords y)) (cut-is (made x))
 
 pub cut-text-spec : {M : Type 1} → statement M
 cut-text-spec =
     tie.close
     (tie.spec
-    returns
-    slice-aggregate-cut
-    slice-aggregate-cut-2
-    slice-aggregate-cut-3
-    cut-requires
-    fewer-requires
-    fewer-requires-2
-    fewer-requires-3
-    slice-aggregate-list-line
+    slice-aggregate-split
+    slice-aggregate-split-2
+    slice-aggregate-split-3
+    split-requires
     array-share-prefix-served
-    slice-aggregate-list-line-2
-    list-line-requires
-    slice-aggregate-list-line-3
+    slice-aggregate-cut-lines
     array-share-prefix-run-ends
-    slice-aggregate-list-line-4
-    list-line-requires-2
-    slice-aggregate-list-line-5
+    slice-aggregate-cut-lines-2
     array-share-prefix-dropped
-    slice-aggregate-list-line-6
-    list-line-requires-3
-    total-line-requires
-    returns-2)
+    slice-aggregate-cut-lines-3
+    cut-lines-requires
+    returns)

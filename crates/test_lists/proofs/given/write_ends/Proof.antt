@@ -1,25 +1,28 @@
--- `given::write_ends` meets its contract. The loop's invariant: the place is inside the list. Assumes nothing.
-use Prim.Native.Nat.{_≤_, _-_}
-use mathlib.Core.Path.{_≡_}
-use lib.ListN.{length}
+-- `given::write_ends` meets its contract. Assumes nothing.
+use Prim.Native.Nat.{ℕ, _-_, _≤_}
+use native.Mathlib.Omega.{arith}
+use mathlib.Core.Path.{_≡_, refl, sym, ap, _∙_}
+use mathlib.Core.List.{List}
+use lib.ListN.{length, take, getD, set, length-take}
+use denote.Ref.{now}
+use Rattle.definitions.specs.Room.{written}
+use Rattle.cut_table.proofs.Writing.{length-written, copied-more, copied-all}
 use borrow.Author.Needs.{needs}
 use Rattle.test_lists.proofs.given.write_ends.Statement.{statement}
 use Rattle.test_lists.proofs.given.write_ends.Tie as tie
 
 abbrev Inv-loop : tie.InvT-loop
-Inv-loop bytes ends₀ k₀ ends k = (length ends ≡ length ends₀) × (k ≤ length ends₀)
+Inv-loop bytes ends₀ k₀ ends k = (k ≤ length bytes) × (ends ≡ written (take k bytes) ends₀)
 
 abbrev μ-loop : tie.MeasureT-loop
 μ-loop bytes ends₀ k₀ ends k = length bytes - k
 
+-- what is written keeps its length
+long : (ends bytes : List ℕ) (k : ℕ) (old : List ℕ) → length bytes ≤ length old → ends ≡ written (take k bytes) old → length ends ≡ length old
+long ends bytes k old h e = ap length e ∙ length-written (take k bytes) old (omega (arith, length-take k bytes))
+
 loop-holds : tie.Need-loop-holds Inv-loop μ-loop
-loop-holds c = search needs
-
-same-length : tie.Need-same-length Inv-loop μ-loop
-same-length c = search needs
-
-returns : tie.Need-returns Inv-loop μ-loop
-returns c = search needs
+loop-holds c = (omega arith, refl)
 
 shared-slice-read-number-of : tie.Need-shared-slice-read-number-of Inv-loop μ-loop
 shared-slice-read-number-of c = search needs
@@ -31,7 +34,10 @@ mul-ends : tie.Need-mul-ends Inv-loop μ-loop
 mul-ends c = search needs
 
 slice-write-ends : tie.Need-slice-write-ends Inv-loop μ-loop
-slice-write-ends c = search needs
+slice-write-ends c =
+    let l = c .before .before .before in
+    let s = l .before .before .before in
+    omega (arith, s .pre, long (l .loop .ends) (now (s .args .bytes)) (l .loop .k) (now (s .args .ends)) (s .pre) (l .loop .inv .1))
 
 add-k : tie.Need-add-k Inv-loop μ-loop
 add-k c = search needs
@@ -40,13 +46,25 @@ loop-less : tie.Need-loop-less Inv-loop μ-loop
 loop-less c = search needs
 
 loop-again : tie.Need-loop-again Inv-loop μ-loop
-loop-again c = search needs
+loop-again c =
+    let n = c in
+    let l = c .before .before .before in
+    let s = l .before .before .before in
+    let a = s .args in
+    (omega arith, ap (λ (x : ℕ). set (l .loop .ends) (l .loop .k) x) (n .number-of .ensures) ∙ ap (λ (e : List ℕ). set e (l .loop .k) (getD (now (a .bytes)) (l .loop .k) 0)) (l .loop .inv .1) ∙ copied-more (now (a .bytes)) (now (a .ends)) (l .loop .k) 0 (omega arith) (s .pre))
 
-same-length-2 : tie.Need-same-length-2 Inv-loop μ-loop
-same-length-2 c = search needs
+same-length : tie.Need-same-length Inv-loop μ-loop
+same-length c =
+    let l = c .before in
+    let s = l .before .before .before in
+    long (l .loop .ends) (now (s .args .bytes)) (l .loop .k) (now (s .args .ends)) (s .pre) (l .loop .inv .1)
 
-returns-2 : tie.Need-returns-2 Inv-loop μ-loop
-returns-2 c = search needs
+returns : tie.Need-returns Inv-loop μ-loop
+returns c =
+    let l = c .before in
+    let s = l .before .before .before in
+    let a = s .args in
+    l .loop .inv .1 ∙ copied-all (now (a .bytes)) (now (a .ends)) (l .loop .k) (omega (arith, l .loop .inv .0))
 
 pub write-ends-spec : {M : Type 1} → statement M
 write-ends-spec =
@@ -55,8 +73,6 @@ write-ends-spec =
     Inv-loop
     μ-loop
     loop-holds
-    same-length
-    returns
     shared-slice-read-number-of
     number-of-requires
     mul-ends
@@ -64,5 +80,5 @@ write-ends-spec =
     add-k
     loop-less
     loop-again
-    same-length-2
-    returns-2)
+    same-length
+    returns)

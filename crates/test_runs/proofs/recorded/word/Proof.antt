@@ -4,7 +4,7 @@ use native.Mathlib.Omega.{arith}
 use lib.ListN.{length}
 use denote.Ref.{now}
 use borrow.Author.Needs.{needs}
-use Rattle.test_runs.proofs.Along.{beyond, too-long, is-there, is-not-there, placed}
+use Rattle.test_runs.proofs.Along.{beyond, too-long, is-there, is-not-there}
 use Rattle.test_runs.proofs.recorded.word.Statement.{statement}
 use Rattle.test_runs.proofs.recorded.word.Tie as tie
 
@@ -15,12 +15,12 @@ entry x = x .before .before .before .before
 returns : tie.Need-returns
 returns c =
     let a = c .before .before .before .args in
-    placed (now (a .recorded)) (a .at) (now (a .bytes)) _ (beyond (now (a .recorded)) (a .at) (now (a .bytes)) (omega arith))
+    beyond (now (a .recorded)) (a .at) (now (a .bytes)) (omega arith)
 
 returns-2 : tie.Need-returns-2
 returns-2 c =
     let a = c .before .before .before .before .args in
-    placed (now (a .recorded)) (a .at) (now (a .bytes)) _ (too-long (now (a .recorded)) (a .at) (now (a .bytes)) (omega arith))
+    too-long (now (a .recorded)) (a .at) (now (a .bytes)) (omega arith)
 
 add-end : tie.Need-add-end
 add-end c = search needs
@@ -42,16 +42,14 @@ returns-3 c =
     let compared = c .before in
     let a = entry (compared .before .before) .args in
     let m = compared .same in
-    placed (now (a .recorded)) (a .at) (now (a .bytes)) _
-    (is-there (now (a .recorded)) (a .at) (now (a .bytes)) {n = a .at + length (now (a .bytes)) - a .at} (omega arith) (m .result) (m .ensures) (omega arith) (search needs))
+    is-there (now (a .recorded)) (a .at) (now (a .bytes)) {n = a .at + length (now (a .bytes)) - a .at} (omega arith) (m .result) (m .ensures) (omega arith) (search needs)
 
 returns-4 : tie.Need-returns-4
 returns-4 c =
     let compared = c .before in
     let a = entry (compared .before .before) .args in
     let m = compared .same in
-    placed (now (a .recorded)) (a .at) (now (a .bytes)) _
-    (is-not-there (now (a .recorded)) (a .at) (now (a .bytes)) {n = a .at + length (now (a .bytes)) - a .at} (omega arith) (m .result) (m .ensures) (search needs))
+    is-not-there (now (a .recorded)) (a .at) (now (a .bytes)) {n = a .at + length (now (a .bytes)) - a .at} (omega arith) (m .result) (m .ensures) (search needs)
 
 pub word-spec : {M : Type 1} → statement M
 word-spec =

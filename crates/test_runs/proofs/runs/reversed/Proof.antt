@@ -1,12 +1,11 @@
 -- `runs::reversed` meets its contract. Assumes nothing.
-use mathlib.Core.Path.{sym}
+use mathlib.Core.Path.{sym, ap, _∙_}
 use lib.Seq.{length-take-le}
+use Rattle.test_runs.specs.Runs.{runWords}
+use Rattle.test_runs.proofs.Along.{headed}
 use borrow.Author.Needs.{needs}
 use Rattle.test_runs.proofs.runs.reversed.Statement.{statement}
 use Rattle.test_runs.proofs.runs.reversed.Tie as tie
-
-returns : tie.Need-returns
-returns c = search needs
 
 slice-aggregate-improved : tie.Need-slice-aggregate-improved
 slice-aggregate-improved c = search needs
@@ -32,14 +31,18 @@ slice-aggregate-calls c = sym (length-take-le _ _ (array-share-prefix-current (c
 calls-requires : tie.Need-calls-requires
 calls-requires c κs = search needs
 
-returns-2 : tie.Need-returns-2
-returns-2 c = search needs
+returns : tie.Need-returns
+unfolding runWords
+returns c =
+    let figured = c .before .before in
+    let said = figured .before in
+    let x = said .before .before .before in
+    headed _ _ _ _ (said .word .ensures) (headed _ _ _ _ (rw (x .improved .ensures .0) at (figured .figure .ensures)) (rw (x .improved .ensures .1) at (c .calls .ensures)))
 
 pub reversed-spec : {M : Type 1} → statement M
 reversed-spec =
     tie.close
     (tie.spec
-    returns
     slice-aggregate-improved
     improved-requires
     slice-aggregate-word
@@ -48,4 +51,4 @@ reversed-spec =
     array-share-prefix-current
     slice-aggregate-calls
     calls-requires
-    returns-2)
+    returns)

@@ -1,0 +1,48 @@
+-- A sheet that is read and held, and what its bytes say. Assumes nothing.
+use Prim.Native.Nat.{ℕ, _≤_}
+use mathlib.Core.Path.{_≡_, refl, sym, ap, _∙_}
+use mathlib.Core.Bool.{Bool, false}
+use mathlib.Core.List.{List}
+use lib.Ieee.{Float}
+use lib.ListN.{length, take}
+use Rattle.definitions.specs.Load.{Load}
+use Rattle.definitions.specs.Sheet.{Sheet, CustomerOf}
+use Rattle.definitions.specs.Reader.{sheet, refusedAt, read}
+use Rattle.bounds.proofs.Inside as Inside
+use Rattle.evaluation.specs.Records.{LimitsF}
+use Rattle.improve_base.specs.Search.{searchF}
+use Rattle.route_elimination.specs.Insertion.{GivenF}
+use Rattle.sheet_loaded.specs.declared.load.Loaded.{Loaded}
+use Rattle.sheet_loaded.specs.Loaded.{Arrays, Holds}
+use Rattle.sheet_loaded.proofs.Loading.{calls-are}
+use Rattle.test_runs.specs.Runs.{givenIn}
+use Rattle.test_lists.specs.Answers.{givenOf, listAlike, sheetAlike}
+
+-- what is given, by its parts
+abbrev given : List (CustomerOf Float) → List Float → List Float → ℕ → Load → Float → LimitsF → GivenF
+given c d t n k f l =
+    record { tables = record { customers = c; distances = d; times = t; size = n }; capacity = k; fixed = f; search = searchF c d n l }
+
+same-given : {c c' : List (CustomerOf Float)} {d d' t t' : List Float} {n n' : ℕ} {k k' : Load} {f f' : Float} {l l' : LimitsF} → c ≡ c' → d ≡ d' → t ≡ t' → n ≡ n' → k ≡ k' → f ≡ f' → l ≡ l'
+    → given c d t n k f l ≡ given c' d' t' n' k' f' l'
+same-given a b e g h i j = rw (a, b, e, g, h, i, j) refl
+
+module _ {s : Sheet} {calls : List ℕ} {l : Loaded} {old new : Arrays} (H : Holds s calls l old new) where
+  pub few-calls : length (take (l .calls) (new .tour)) ≤ 128
+  few-calls = Inside.few-calls s (take (l .calls) (new .tour)) (H .in-memory .calls)
+
+  given-is : givenIn l (take (l .«distance_count») (new .distances)) (take (l .«time_count») (new .times)) ≡ givenOf s
+  given-is =
+      let M = H .in-memory in
+      same-given (H .customers-are) (M .tables .distances-are) (M .tables .times-are) (M .tables .size-is) (M .capacity) (M .fixed) (M .limits)
+
+  pub alike-on : (bytes : List ℕ) → read bytes ≡ sheet s calls → (ends recorded : List ℕ) (r : Bool)
+      → r ≡ listAlike (givenIn l (take (l .«distance_count») (new .distances)) (take (l .«time_count») (new .times))) (take (l .calls) (new .tour)) ends recorded
+      → r ≡ sheetAlike (read bytes) ends recorded
+  alike-on bytes e ends recorded r h =
+      h ∙ ap (λ (G : GivenF). listAlike G (take (l .calls) (new .tour)) ends recorded) given-is
+      ∙ ap (λ (t : List ℕ). listAlike (givenOf s) t ends recorded) (calls-are H)
+      ∙ sym (ap (λ x. sheetAlike x ends recorded) e)
+
+pub refused-unlike : (bytes ends recorded : List ℕ) (number word : ℕ) → read bytes ≡ refusedAt number word → false ≡ sheetAlike (read bytes) ends recorded
+refused-unlike bytes ends recorded number word e = sym (ap (λ x. sheetAlike x ends recorded) e)

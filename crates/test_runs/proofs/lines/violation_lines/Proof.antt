@@ -1,0 +1,69 @@
+-- `lines::violation_lines` meets its contract. Assumes nothing.
+use Prim.Native.Nat.{_-_}
+use native.Mathlib.Omega.{arith}
+use mathlib.Core.Path.{_≡_, refl, sym, _∙_}
+use lib.ListN.{take, drop}
+use denote.Ref.{now}
+use Rattle.test_runs.specs.Along.{follows}
+use Rattle.test_runs.specs.Words.{each, violationLine}
+use Rattle.test_runs.proofs.Along.{first-more, first-done}
+use borrow.Author.Needs.{needs}
+use Rattle.test_runs.proofs.lines.violation_lines.Statement.{statement}
+use Rattle.test_runs.proofs.lines.violation_lines.Tie as tie
+
+abbrev Inv-loop : tie.InvT-loop
+Inv-loop recorded at count violations n end₀ k₀ end k = follows recorded end (each violationLine (drop k (take count violations))) ≡ follows recorded at (each violationLine (take count violations))
+
+abbrev μ-loop : tie.MeasureT-loop
+μ-loop recorded at count violations n end₀ k₀ end k = n - k
+
+fewer-requires : tie.Need-fewer-requires Inv-loop μ-loop
+fewer-requires c κs = search needs
+
+loop-holds : tie.Need-loop-holds Inv-loop μ-loop
+loop-holds c = refl
+
+mul-violation-line : tie.Need-mul-violation-line Inv-loop μ-loop
+mul-violation-line c = search needs
+
+array-copy-out-violation-line : tie.Need-array-copy-out-violation-line Inv-loop μ-loop
+array-copy-out-violation-line c = search needs
+
+violation-line-requires : tie.Need-violation-line-requires Inv-loop μ-loop
+violation-line-requires c κs = search needs
+
+add-k : tie.Need-add-k Inv-loop μ-loop
+add-k c = search needs
+
+loop-less : tie.Need-loop-less Inv-loop μ-loop
+loop-less c = search needs
+
+loop-again : tie.Need-loop-again Inv-loop μ-loop
+loop-again c =
+    let l = c .before .before .before in
+    let s = l .before .before .before in
+    let a = s .args in
+    rw (c .violation-line .ensures) (sym (first-more (now (a .recorded)) violationLine (a .count) (a .t3) (l .loop .end) (l .loop .k) _ (omega (arith, l .before .fewer .ensures)) (omega (arith, l .before .fewer .ensures, s .good .1 .1 .0 .1 .0 .1))) ∙ l .loop .inv)
+
+returns : tie.Need-returns Inv-loop μ-loop
+returns c =
+    let l = c .before in
+    let s = l .before .before .before in
+    let a = s .args in
+    sym (first-done (now (a .recorded)) violationLine (a .count) (a .t3) (l .loop .end) (l .loop .k) (omega (arith, l .before .fewer .ensures, s .good .1 .1 .0 .1 .0 .1))) ∙ l .loop .inv
+
+pub violation-lines-spec : {M : Type 1} → statement M
+violation-lines-spec =
+    tie.close
+    (tie.spec
+    Inv-loop
+    μ-loop
+    fewer-requires
+    loop-holds
+    mul-violation-line
+    array-copy-out-violation-line
+    violation-line-requires
+    add-k
+    loop-less
+    loop-again
+    returns)
