@@ -26,11 +26,12 @@ mod solomon;
 mod source;
 mod spoiled;
 mod word;
+mod wrong;
 
 use std::io::Read;
 use std::process::exit;
 
-const USAGE: &str = "usage: oracle [--seed S] list | random N | record N FILE.. | runs N | marks N | compare PROGRAM N FILE..";
+const USAGE: &str = "usage: oracle [--seed S] [--wrong] list | random N | record N FILE.. | runs N | marks N | compare PROGRAM N FILE..";
 
 fn main() {
     let args: Vec<String> = std::env::args().skip(1).collect();
@@ -38,18 +39,23 @@ fn main() {
         [option, seed, rest @ ..] if option == "--seed" => (number(seed), rest),
         rest => (0, rest),
     };
+    let (mut out, args) = match args {
+        [option, rest @ ..] if option == "--wrong" => (record::Out::wrong(seed), rest),
+        rest => (record::Out::right(), rest),
+    };
     match args.iter().map(String::as_str).collect::<Vec<_>>()[..] {
         ["list"] => list(),
         ["random", n] => random(seed, number(n)),
-        ["record", n, ..] => record::write(seed, number(n), &args[2..]),
-        ["runs", n] => runs::write(seed, number(n)),
-        ["marks", n] => marks::write(seed, number(n)),
+        ["record", n, ..] => record::write(&mut out, seed, number(n), &args[2..]),
+        ["runs", n] => runs::write(&mut out, seed, number(n)),
+        ["marks", n] => marks::write(&mut out, seed, number(n)),
         ["compare", program, n, ..] => {
             let alike = compare::all(program, seed, number(n), &args[3..]);
             exit(i32::from(!alike))
         }
         _ => usage(),
     }
+    out.close();
 }
 
 fn usage() -> ! {

@@ -5,24 +5,25 @@ use crate::edges::{damaged, on_edges};
 use crate::faults::at_fault;
 use crate::features::Features;
 use crate::marker::{mark, spans, Cutting, Verdict, BEST, CHEAPER, DEARER, OTHER_CALLS};
+use crate::record::Out;
 use crate::sheet::Sheet;
 use crate::source::Source;
 use crate::spoiled::spoil;
 use crate::word::bytes;
-use crate::{cases, cuttings, plan, reader, record, ruled};
+use crate::{cases, cuttings, plan, reader, ruled};
 
 /// A question of this kind is a cutting.
 const MARK: u8 = b'm';
 
 /// A cutting of each bench case and of `count` generated sheets, to standard output; what they have, to standard error.
-pub fn write(seed: u64, count: usize) {
+pub fn write(out: &mut Out, seed: u64, count: usize) {
     let mut source = Source::new(seed);
     let mut features = Features::default();
     let mut put = |cutting: &Cutting, file: &[u8]| {
         let answer = answer(file, cutting);
         features.mark(file, &answer);
         let question = [lines(cutting).as_bytes(), file].concat();
-        record::put(MARK, &question, answer.as_bytes());
+        out.put(MARK, &question, &answer);
     };
     for words in cases::sheets() {
         put(&cuttings::drawn(&mut source, &words), &bytes(&words));

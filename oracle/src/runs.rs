@@ -3,16 +3,17 @@
 //! A question is a byte for the number of runs, one for each run end, and a sheet with its tour as the calls of all runs.
 use crate::edges::on_edge;
 use crate::features::Features;
+use crate::record::Out;
 use crate::sheet::Sheet;
 use crate::source::Source;
 use crate::word::{bytes, ended, kind};
-use crate::{random, reader, record, run_answer};
+use crate::{random, reader, run_answer};
 
 /// A question of this kind is a run list.
 const RUNS: u8 = b'r';
 
 /// `count` run lists to standard output; what they have, to standard error.
-pub fn write(seed: u64, count: usize) {
+pub fn write(out: &mut Out, seed: u64, count: usize) {
     let mut source = Source::new(seed);
     let mut features = Features::default();
     for number in 0..count {
@@ -28,7 +29,7 @@ pub fn write(seed: u64, count: usize) {
         question.extend(bytes(&words));
         let answer = run_answer::of(&sheet, &routes);
         features.runs(&sheet, &routes, &answer);
-        record::put(RUNS, &question, answer.as_bytes());
+        out.put(RUNS, &question, &answer);
     }
     eprintln!("{features}");
 }

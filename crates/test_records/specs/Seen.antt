@@ -1,23 +1,18 @@
 -- What a record shows. Definitions only.
 use mathlib.Core.Bool.{Bool, true, false, cond}
 use Rattle.test_records.specs.declared.seen.Seen.{Seen}
-use Rattle.test_records.specs.declared.seen.Seen.the-variants.{Alike, Unlike, End, CutShort, TooLong}
+use Rattle.test_records.specs.declared.seen.Seen.the-variants.{Alike, Unlike, Noticed, Missed, End, CutShort, TooLong}
 
-abbrev pub seenOf : Bool → Seen
-seenOf alike = cond alike Alike Unlike
-
--- another answer was recorded
-abbrev pub isUnlike : Seen → Bool
-isUnlike Alike = false
-isUnlike Unlike = true
-isUnlike End = false
-isUnlike CutShort = false
-isUnlike TooLong = false
+-- by whether the recorded answer is wrong on purpose, and whether it is the computed one
+abbrev pub seenOf : Bool → Bool → Seen
+seenOf wrong alike = cond wrong (cond alike Missed Noticed) (cond alike Alike Unlike)
 
 -- an answer was compared
 abbrev pub isAnswer : Seen → Bool
 isAnswer Alike = true
 isAnswer Unlike = true
+isAnswer Noticed = true
+isAnswer Missed = true
 isAnswer End = false
 isAnswer CutShort = false
 isAnswer TooLong = false

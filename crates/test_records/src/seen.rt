@@ -1,12 +1,16 @@
 // What the next record shows.
 ghost use mathlib.Core.Path.{_≡_};
-ghost use Rattle.test_records.specs.Seen.{isAnswer, isUnlike, seenOf};
+ghost use Rattle.test_records.specs.Seen.{isAnswer, seenOf};
 
 pub enum Seen {
     // The recorded answer is the computed one.
     Alike,
     // It is another one.
     Unlike,
+    // It is another one, and was to be: it is wrong on purpose.
+    Noticed,
+    // It is wrong on purpose, and yet it is the computed one.
+    Missed,
     // There is no further record.
     End,
     // The input ends in the middle of the record.
@@ -22,28 +26,20 @@ pub fn is_answer(seen: Seen) -> bool
     match seen {
         Seen::Alike => true,
         Seen::Unlike => true,
+        Seen::Noticed => true,
+        Seen::Missed => true,
         Seen::End => false,
         Seen::CutShort => false,
         Seen::TooLong => false,
     }
 }
 
-// Whether another answer was recorded.
-pub fn is_unlike(seen: Seen) -> bool
-    ensures { λ r. ⌜ r ≡ isUnlike seen ⌝ }
+// What a comparison shows of an answer that is wrong on purpose, or right.
+pub fn seen_of(wrong: bool, alike: bool) -> Seen
+    ensures { λ r. ⌜ r ≡ seenOf wrong alike ⌝ }
 {
-    match seen {
-        Seen::Alike => false,
-        Seen::Unlike => true,
-        Seen::End => false,
-        Seen::CutShort => false,
-        Seen::TooLong => false,
+    if wrong {
+        return if alike { Seen::Missed } else { Seen::Noticed };
     }
-}
-
-// What a comparison shows.
-pub fn seen_of(alike: bool) -> Seen
-    ensures { λ r. ⌜ r ≡ seenOf alike ⌝ }
-{
     if alike { Seen::Alike } else { Seen::Unlike }
 }

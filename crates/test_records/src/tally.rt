@@ -1,18 +1,30 @@
-// How many answers were replayed, and which of them are unlike.
+// How many answers were replayed, and which of them are not as they should be.
 ghost use mathlib.Core.Path.{_≡_};
 ghost use Prim.Native.Nat.{_<_};
-ghost use Rattle.test_records.specs.Tally.{InRun, mostAnswers, nothingYet, firstOf, countedWith};
+ghost use Rattle.test_records.specs.Tally.{InRun, mostAnswers, nothingYet, weightOf, firstOf, countedWith};
+ghost use Rattle.test_records.specs.Tally as Counts;
 use crate::seen::Seen;
-use crate::seen::is_unlike;
 
 // No more answers than this are replayed in one run.
 pub const MOST: u64 = 1_000_000_000_000;
 
 pub struct Tally {
     pub answers: u64,
+    // Those that are wrong on purpose, and of these those that were noticed.
+    pub wrong: u64,
+    pub noticed: u64,
+    // Those of the others that are unlike.
     pub unlike: u64,
-    // The number of the first that is unlike, from 1; 0 where all are alike.
+    // The number of the first that is not as it should be, from 1; 0 where there is none.
     pub first: u64,
+}
+
+// What an answer adds to each count, and whether it is not as it should be: unlike, or wrong and not noticed.
+pub struct Weight {
+    pub wrong: u64,
+    pub noticed: u64,
+    pub unlike: u64,
+    pub amiss: bool,
 }
 
 pub fn start() -> Tally
@@ -20,16 +32,46 @@ pub fn start() -> Tally
 {
     Tally {
         answers: 0,
+        wrong: 0,
+        noticed: 0,
         unlike: 0,
         first: 0,
     }
 }
 
-// The first answer that is unlike, where this one is.
-fn first_of(first: u64, answer: u64) -> u64
-    ensures { λ r. ⌜ r ≡ firstOf first answer ⌝ }
+fn weighed(wrong: u64, noticed: u64, unlike: u64, amiss: bool) -> Weight
+    ensures { λ r. ⌜ r ≡ Counts.weight wrong noticed unlike amiss ⌝ }
 {
-    if first == 0 { answer } else { first }
+    Weight {
+        wrong,
+        noticed,
+        unlike,
+        amiss,
+    }
+}
+
+fn weight_of(seen: Seen) -> Weight
+    ensures { λ r. ⌜ r ≡ weightOf seen ⌝ }
+{
+    match seen {
+        Seen::Alike => weighed(0, 0, 0, false),
+        Seen::Unlike => weighed(0, 0, 1, true),
+        Seen::Noticed => weighed(1, 1, 0, false),
+        Seen::Missed => weighed(1, 0, 0, true),
+        Seen::End => weighed(0, 0, 0, false),
+        Seen::CutShort => weighed(0, 0, 0, false),
+        Seen::TooLong => weighed(0, 0, 0, false),
+    }
+}
+
+// The first answer that is not as it should be.
+fn first_of(first: u64, answer: u64, amiss: bool) -> u64
+    ensures { λ r. ⌜ r ≡ firstOf first answer amiss ⌝ }
+{
+    if amiss {
+        return if first == 0 { answer } else { first };
+    }
+    first
 }
 
 // One answer more.
@@ -39,16 +81,12 @@ pub fn counted(tally: Tally, seen: Seen) -> Tally
     ensures { λ r. ⌜ r ≡ countedWith tally seen ⌝ }
 {
     let answer = tally.answers + 1;
-    if is_unlike(seen) {
-        return Tally {
-            answers: answer,
-            unlike: tally.unlike + 1,
-            first: first_of(tally.first, answer),
-        };
-    }
+    let weight = weight_of(seen);
     Tally {
         answers: answer,
-        unlike: tally.unlike,
-        first: tally.first,
+        wrong: tally.wrong + weight.wrong,
+        noticed: tally.noticed + weight.noticed,
+        unlike: tally.unlike + weight.unlike,
+        first: first_of(tally.first, answer, weight.amiss),
     }
 }

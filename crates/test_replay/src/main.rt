@@ -1,8 +1,10 @@
 // Replays recorded answers of the Rust planner: reads records on standard input, computes each answer anew, and says
-// whether all are alike.
+// whether all are alike but those that are wrong on purpose.
 ghost use mathlib.Core.Path.{_≡_};
 ghost use Rattle.definitions.specs.Listing.{listing};
 ghost use Rattle.test_runs.specs.Alike.{sameList};
+ghost use Rattle.test_runs.specs.Along.{Short};
+ghost use Rattle.test_replay.specs.Replayed.{oneOf, answerAlike, seenIn};
 use listing_text::text::text;
 use test_lists::alike::runs_alike;
 use test_records::closing::print_closing;
@@ -24,20 +26,39 @@ fn listing_alike(sheet: &[u8], recorded: &[u8]) -> bool
     check::same(&out[..end], recorded)
 }
 
-// The first byte of a question says its kind: `s` stands before a sheet, whose answer is its listing, and `r` before a
-// run list, whose answer is what is made of the runs. No other question has an answer.
-fn alike(question: &[u8], recorded: &[u8]) -> bool {
-    if question.len() == 0 {
-        return false;
+// Whether a kind is one of two.
+fn one_of(kind: u8, a: u8, b: u8) -> bool
+    ensures { λ r. ⌜ r ≡ oneOf kind a b ⌝ }
+{
+    kind == a || kind == b
+}
+
+// Whether the recorded answer is the computed one. No other kind of question has an answer.
+fn alike(kind: u8, asked: &[u8], recorded: &[u8]) -> bool
+    requires { ⌜ Short (now recorded) ⌝ }
+    ensures { λ r. ⌜ r ≡ answerAlike kind (now (asked .entry)) (now (recorded .entry)) ⌝ }
+{
+    if one_of(kind, b's', b'S') {
+        return listing_alike(asked, recorded);
     }
-    let kind = question[0];
-    if kind == b's' {
-        return listing_alike(&question[1..], recorded);
-    }
-    if kind == b'r' {
-        return runs_alike(&question[1..], recorded);
+    if one_of(kind, b'r', b'R') {
+        return runs_alike(asked, recorded);
     }
     false
+}
+
+// The first byte of a question says its kind: `s` stands before a sheet, whose answer is its listing, and `r` before a
+// run list, whose answer is what is made of the runs; `S` and `R` where the answer is wrong on purpose.
+fn seen(question: &[u8], recorded: &[u8]) -> Seen
+    requires { ⌜ Short (now recorded) ⌝ }
+    ensures { λ r. ⌜ r ≡ seenIn (now (question .entry)) (now (recorded .entry)) ⌝ }
+{
+    if question.len() == 0 {
+        return Seen::Unlike;
+    }
+    let kind = question[0];
+    let wrong = one_of(kind, b'S', b'R');
+    seen_of(wrong, alike(kind, &question[1..], recorded))
 }
 
 // Reads a question and its recorded answer, and compares. A question has a byte for its kind, and a sheet of at most
@@ -47,7 +68,7 @@ fn next() -> Seen {
     let mut question = [0u8; 34706];
     let mut recorded = [0u8; 65535];
     match read(&mut question, &mut recorded) {
-        Record::Whole(n, m) => seen_of(alike(&question[..n], &recorded[..m])),
+        Record::Whole(n, m) => seen(&question[..n], &recorded[..m]),
         Record::End => Seen::End,
         Record::CutShort => Seen::CutShort,
         Record::TooLong => Seen::TooLong,

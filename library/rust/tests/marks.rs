@@ -1,9 +1,9 @@
 //! The marks of the worked sheets, beside those that the program crates/test_marks says, and recorded marks, beside those of the oracle's own marker.
 mod common;
-use common::recorded_marks::{recorded_marks, Recorded};
+use common::recorded_marks::{recorded_marks, wrong_marks, Recorded};
 use common::worked::marked;
 use common::{kept, runs};
-use lizsomdur::{mark, Run, Verdict};
+use lizsomdur::{mark, Refusal, Run, Verdict};
 
 /// A fault with what clashes, as that program says it.
 fn fault(
@@ -132,15 +132,32 @@ fn given(question: &Recorded) -> Option<Vec<Run>> {
     whole.then(|| runs(&cut))
 }
 
+/// What the library says of a question that can be asked by runs.
+fn asked(question: &Recorded) -> Option<Result<(u32, Vec<u64>), Refusal>> {
+    let runs = given(question)?;
+    Some(mark(&question.sheet, &runs).map(numbered))
+}
+
 #[test]
 fn marks_are_the_recorded_ones() {
     let mut marked = 0;
     for (number, question) in recorded_marks().iter().enumerate() {
-        if let Some(runs) = given(question) {
-            let said = mark(&question.sheet, &runs).map(numbered);
+        if let Some(said) = asked(question) {
             assert_eq!(said, question.mark, "question {number}");
             marked += 1;
         }
     }
     assert!(marked > 200);
+}
+
+#[test]
+fn wrong_marks_are_noticed() {
+    let mut marked = 0;
+    for (number, question) in wrong_marks().iter().enumerate() {
+        if let Some(said) = asked(question) {
+            assert_ne!(said, question.mark, "wrong question {number}");
+            marked += 1;
+        }
+    }
+    assert!(marked > 40);
 }

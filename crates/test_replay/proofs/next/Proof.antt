@@ -1,5 +1,7 @@
 -- `next` meets its contract. Assumes nothing.
 use mathlib.Core.Path.{_≡_, sym}
+use native.Mathlib.Omega.{arith}
+use lib.ListN.{length, length-take}
 use lib.Seq.{length-take-le}
 use Rattle.test_records.specs.declared.record.Record.the-variants.{Whole}
 use borrow.Author.Needs.{needs}
@@ -26,8 +28,8 @@ array-share-prefix-question c =
     let e : x .result ≡ Whole (n .0) (n .1 .0) = search needs in
     (rw e at (x .ensures)) .0
 
-slice-aggregate-alike : tie.Need-slice-aggregate-alike
-slice-aggregate-alike c =
+slice-aggregate-seen : tie.Need-slice-aggregate-seen
+slice-aggregate-seen c =
     let known = c .before .before in
     let x = known .before .before .before .before .read in
     sym (length-take-le (known .n .given .0 .0) (x .last .0) (array-share-prefix-question (c .before)))
@@ -40,17 +42,18 @@ array-share-prefix-recorded c =
     let e : x .result ≡ Whole (n .0) (n .1 .0) = search needs in
     (rw e at (x .ensures)) .1
 
-slice-aggregate-alike-2 : tie.Need-slice-aggregate-alike-2
-slice-aggregate-alike-2 c =
+slice-aggregate-seen-2 : tie.Need-slice-aggregate-seen-2
+slice-aggregate-seen-2 c =
     let known = c .before .before .before in
     let x = known .before .before .before .before .read in
     sym (length-take-le (known .n .given .0 .1 .0) (x .last .1 .0) (array-share-prefix-recorded (c .before)))
 
-alike-requires : tie.Need-alike-requires
-alike-requires c κs = search needs
-
-seen-of-requires : tie.Need-seen-of-requires
-seen-of-requires c κs = search needs
+seen-requires : tie.Need-seen-requires
+seen-requires c κs =
+    let known = c .before .before .before in
+    let x = known .before .before .before .before .read in
+    let long : length (x .last .1 .0) ≡ 65535 = search needs in
+    omega (arith, long, length-take (known .n .given .0 .1 .0) (x .last .1 .0))
 
 enum-told : tie.Need-enum-told
 enum-told c = search needs
@@ -82,11 +85,10 @@ next-spec =
     read-requires
     enum-known-n
     array-share-prefix-question
-    slice-aggregate-alike
+    slice-aggregate-seen
     array-share-prefix-recorded
-    slice-aggregate-alike-2
-    alike-requires
-    seen-of-requires
+    slice-aggregate-seen-2
+    seen-requires
     enum-told
     enum-told-2
     enum-told-3

@@ -14,7 +14,16 @@ pub struct Recorded {
 
 /// Those in the repository, and the fresh ones if there are any.
 pub fn recorded_marks() -> Vec<Recorded> {
-    let records = records(b'm').into_iter();
+    marks(b'm')
+}
+
+/// Those that are wrong on purpose.
+pub fn wrong_marks() -> Vec<Recorded> {
+    marks(b'M')
+}
+
+fn marks(kind: u8) -> Vec<Recorded> {
+    let records = records(kind).into_iter();
     records
         .map(|(question, answer)| {
             let mut parts = question.splitn(4, |&byte| byte == b'\n');

@@ -1,5 +1,5 @@
 //! Recorded marks, with what they leave in lent memory.
-use crate::common::recorded_marks::{recorded_marks, Recorded};
+use crate::common::recorded_marks::{recorded_marks, wrong_marks, Recorded};
 use crate::lists::{Judged, OLD};
 use lizsomdur::Refusal;
 use std::collections::BTreeSet;
@@ -31,21 +31,34 @@ fn said(question: &Recorded) -> Option<Result<u32, u32>> {
     }
 }
 
+/// The number returned, and what the library leaves.
+fn given(question: &Recorded) -> (u32, Judged) {
+    let Recorded {
+        sheet,
+        calls,
+        ends,
+        places,
+        ..
+    } = question;
+    Judged::new().after(sheet, calls, ends, places)
+}
+
 #[test]
 fn marks_are_the_recorded_ones_and_leave_the_rest() {
     let questions = recorded_marks();
     for (number, question) in questions.iter().enumerate() {
-        let Recorded {
-            sheet,
-            calls,
-            ends,
-            places,
-            ..
-        } = question;
-        let given = Judged::new().after(sheet, calls, ends, places);
-        assert_eq!(given, expected(question), "question {number}");
+        assert_eq!(given(question), expected(question), "question {number}");
     }
     let seen: BTreeSet<_> = questions.iter().filter_map(said).collect();
     let all = (1..=10).map(Ok).chain([1, 5, 13].map(Err));
     assert_eq!(seen, all.collect());
+}
+
+#[test]
+fn wrong_marks_are_noticed() {
+    let questions = wrong_marks();
+    assert!(questions.len() >= 57);
+    for (number, question) in questions.iter().enumerate() {
+        assert_ne!(given(question), expected(question), "question {number}");
+    }
 }

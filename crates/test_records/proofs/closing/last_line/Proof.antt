@@ -11,21 +11,29 @@ use Rattle.test_records.specs.declared.seen.Seen.{Seen}
 use Rattle.test_records.specs.declared.tally.Tally.{Tally}
 use Rattle.test_records.specs.Closing.{stopLine, lastLine}
 use Rattle.test_records.proofs.seen.Seen.{the-type}
-use Rattle.test_records.specs.declared.seen.Seen.the-variants.{Alike, Unlike, End, CutShort, TooLong}
+use Rattle.test_records.specs.declared.seen.Seen.the-variants.{Alike, Unlike, Noticed, Missed, End, CutShort, TooLong}
 use borrow.Author.Needs.{needs}
 use Rattle.test_records.proofs.closing.last_line.Statement.{statement}
 use Rattle.test_records.proofs.closing.last_line.Tie as tie
 
 -- an answer where none is due
-one-too-many : (t : Tally) (last : Seen) → OneOf (0 ∷ 1 ∷ []) (tagOf the-type last) → lastLine t last ≡ stopLine (t .answers + 1) (text " is one too many\n")
+one-too-many : (t : Tally) (last : Seen) → OneOf (0 ∷ 1 ∷ 2 ∷ 3 ∷ []) (tagOf the-type last) → lastLine t last ≡ stopLine (t .answers + 1) (text " is one too many\n")
 one-too-many t Alike o = refl
 one-too-many t Unlike o = refl
+one-too-many t Noticed o = refl
+one-too-many t Missed o = refl
 one-too-many t End (inl e) = absurd (omega arith)
-one-too-many t End (inr e) = absurd (omega arith)
+one-too-many t End (inr (inl e)) = absurd (omega arith)
+one-too-many t End (inr (inr (inl e))) = absurd (omega arith)
+one-too-many t End (inr (inr (inr e))) = absurd (omega arith)
 one-too-many t CutShort (inl e) = absurd (omega arith)
-one-too-many t CutShort (inr e) = absurd (omega arith)
+one-too-many t CutShort (inr (inl e)) = absurd (omega arith)
+one-too-many t CutShort (inr (inr (inl e))) = absurd (omega arith)
+one-too-many t CutShort (inr (inr (inr e))) = absurd (omega arith)
 one-too-many t TooLong (inl e) = absurd (omega arith)
-one-too-many t TooLong (inr e) = absurd (omega arith)
+one-too-many t TooLong (inr (inl e)) = absurd (omega arith)
+one-too-many t TooLong (inr (inr (inl e))) = absurd (omega arith)
+one-too-many t TooLong (inr (inr (inr e))) = absurd (omega arith)
 
 add-number : tie.Need-add-number
 add-number c = search needs
