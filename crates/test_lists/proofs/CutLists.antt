@@ -43,8 +43,11 @@ module _ {x : ResultF} {r : SplitResult} {old new : Lists} (C : Cuts x r old new
 
   pub cut-is : result (take (r .served) (new .served)) (take (r .runs) (new .ends)) (take (r .dropped) (new .dropped)) (r .cost) (r .distance) ≡ x
   cut-is =
-      rw (front (r .served) (x .served) (old .served) (new .served) (C .counts .served-count) (C .served-is),
-      front (r .runs) (x .ends) (old .ends) (new .ends) (C .counts .runs-count) (C .ends-are),
-      front (r .dropped) (x .dropped) (old .dropped) (new .dropped) (C .counts .dropped-count) (C .dropped-are),
-      C .counts .cost-is, C .counts .distance-is)
+      rw (
+        front (r .served) (x .served) (old .served) (new .served) (C .counts .served-count) (C .served-is),
+        front (r .runs) (x .ends) (old .ends) (new .ends) (C .counts .runs-count) (C .ends-are),
+        front (r .dropped) (x .dropped) (old .dropped) (new .dropped) (C .counts .dropped-count) (C .dropped-are),
+        C .counts .cost-is,
+        C .counts .distance-is,
+      )
       refl

@@ -89,7 +89,12 @@ fn last_line(out: &mut [u8], at: usize, tally: Tally, last: Seen) -> usize
         Seen::End => count_line(&mut *out, at, tally),
         Seen::CutShort => stop_line(&mut *out, at, number, b" is cut short\n"),
         Seen::TooLong => stop_line(&mut *out, at, number, b" is too long\n"),
-        Seen::Alike | Seen::Unlike | Seen::Noticed | Seen::Missed => stop_line(&mut *out, at, number, b" is one too many\n"),
+        Seen::Alike | Seen::Unlike | Seen::Noticed | Seen::Missed => stop_line(
+            &mut *out,
+            at,
+            number,
+            b" is one too many\n",
+        ),
     }
 }
 

@@ -100,12 +100,7 @@ fn visit_lines(recorded: &[u8], at: usize, visits: [Visit; 128], count: usize) -
 }
 
 // The first violations of an array.
-fn violation_lines(
-    recorded: &[u8],
-    at: usize,
-    violations: [Violation; 131],
-    count: usize,
-) -> usize
+fn violation_lines(recorded: &[u8], at: usize, violations: [Violation; 131], count: usize) -> usize
     ensures { λ r. ⌜ r ≡ follows (now (recorded .entry)) at (each violationLine (take count violations)) ⌝ }
 {
     let n = fewer(count, 131);
