@@ -40,6 +40,7 @@ pub mod SortLaws
 pub mod LegLaws
 pub mod TwoOptLaws
 pub mod EliminationLaws
+pub mod EliminationBound
 pub mod Improving
 -- Demand 3 and the marks pin their answers, and what wrong planners would return does not keep them.
 pub mod OneAnswer
