@@ -164,7 +164,7 @@ pub fn is_too_far(limits: RouteLimits, far: f64) -> bool
 }
 
 // The search on a run: whether a reversal is taken, and the distance of the run, where it is limited.
-pub struct Tried {
+pub struct SoFar {
     pub improved: bool,
     pub far: f64,
 }
@@ -218,8 +218,8 @@ pub fn reverse_if_allowed(
     i: usize,
     j: usize,
     delta: f64,
-    tried: Tried,
-) -> Tried
+    tried: SoFar,
+) -> SoFar
     requires { ⌜ Long (numbers (now codes) (now figures)) × (i < j) × (j < length (now current)) ⌝ }
     requires { let tables = listed (numbers (now codes) (now figures)) (now distances) (now times) size in
         ⌜ Leads tables (limitsOf (search .limits)) (take i (now current)) (prefixOf prefix) ⌝ }
@@ -255,7 +255,7 @@ pub fn reverse_if_allowed(
         return tried;
     }
     let far = limited_distance(limits, &current[..], distances, size);
-    Tried {
+    SoFar {
         improved: true,
         far,
     }
@@ -283,8 +283,8 @@ pub fn try_all(
     search: Search,
     prefix: Prefix,
     i: usize,
-    tried: Tried,
-) -> Tried
+    tried: SoFar,
+) -> SoFar
     requires { ⌜ Long (numbers (now codes) (now figures)) × (i < length (now current)) ⌝ }
     requires { let tables = listed (numbers (now codes) (now figures)) (now distances) (now times) size in
         ⌜ Leads tables (limitsOf (search .limits)) (take i (now current)) (prefixOf prefix) ⌝ }
@@ -370,7 +370,7 @@ pub fn pass(
 {
     let limits = search.limits;
     let far = limited_distance(limits, &current[..], distances, size);
-    let mut tried = Tried {
+    let mut tried = SoFar {
         improved: false,
         far,
     };
