@@ -50,7 +50,8 @@ module _ (question recorded : List ℕ) where
   asked runs e h m r q =
       let here : runEnds question < length question = omega (arith, e) in
       let few : runEnds question ≤ 128 = omega (arith, e) in
-      let all : take (length question - (runs + 1)) (drop (runs + 1) question) ≡ drop (runs + 1) question = take-all (length question - (runs + 1)) (drop (runs + 1) question) (omega (arith, length-drop (runs + 1) question)) in
+      let left = length question - (runs + 1) in
+      let all = take-all left (drop (runs + 1) question) (omega (arith, length-drop (runs + 1) question)) in
       let one : runs + 1 - 1 ≡ runs = omega arith in
       q
       ∙ ap (λ (l : List ℕ). sheetAlike (read l) (take (runs + 1 - 1) (drop 1 question)) recorded) all

@@ -76,11 +76,11 @@ cut-text-requires c κs = search needs
 
 returns-2 : tie.Need-returns-2
 returns-2 c =
-    let x = c .before .before .before .before .before .before .before in
+    let test = c .before .before .before in
+    let x = test .before .before .before .before in
     let s = entry x in
     let a = s .args in
     let G = givenIn (a .held) (now (a .distances)) (now (a .times)) in
-    let test = c .before .before .before in
     let rise = sym (ap (λ (l : List ℕ). endsFall 0 l (length (now (a .tour)))) (lent-are x)) ∙ sym (test .before .ends-fall .ensures) ∙ test .if1 .left in
     let said = c .before .runs-text .ensures ∙ ap (λ (l : List ℕ). follows (now (a .recorded)) 0 (runsWords G (runsOf (now (a .tour)) l))) (lent-are x) in
     whole-alike G (now (a .tour)) (now (a .end-bytes)) (now (a .recorded)) (s .pre .1) rise (c .cut-text .result) (joined _ _ _ _ said (c .cut-text .ensures))

@@ -14,7 +14,7 @@ use Rattle.test_lists.proofs.cut.cut_text.Tie as tie
 -- ---- the places on the way: before the lent slices, the head, the records and the three arrays; and the cut, before its lists are lent
 
 abbrev entry : tie.After-split → tie.Start
-entry x = let arrays = x .before .before .before .before .before .before in arrays .before .before .before
+entry x = let arrays = x .before .before .before .before .before in arrays .before .before .before .before
 
 abbrev gone : tie.After-served3 → tie.After-split
 gone x = x .before .before .before .before

@@ -47,11 +47,15 @@ loop-less c = search needs
 
 loop-again : tie.Need-loop-again Inv-loop μ-loop
 loop-again c =
-    let n = c in
     let l = c .before .before .before in
     let s = l .before .before .before in
     let a = s .args in
-    (omega arith, ap (λ (x : ℕ). set (l .loop .ends) (l .loop .k) x) (n .number-of .ensures) ∙ ap (λ (e : List ℕ). set e (l .loop .k) (getD (now (a .bytes)) (l .loop .k) 0)) (l .loop .inv .1) ∙ copied-more (now (a .bytes)) (now (a .ends)) (l .loop .k) 0 (omega arith) (s .pre))
+    let k = l .loop .k in (
+      omega arith,
+      ap (λ (x : ℕ). set (l .loop .ends) k x) (c .number-of .ensures)
+          ∙ ap (λ (e : List ℕ). set e k (getD (now (a .bytes)) k 0)) (l .loop .inv .1)
+          ∙ copied-more (now (a .bytes)) (now (a .ends)) k 0 (omega arith) (s .pre),
+    )
 
 same-length : tie.Need-same-length Inv-loop μ-loop
 same-length c =

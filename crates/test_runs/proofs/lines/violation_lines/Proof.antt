@@ -43,7 +43,10 @@ loop-again c =
     let l = c .before .before .before in
     let s = l .before .before .before in
     let a = s .args in
-    rw (c .violation-line .ensures) (sym (first-more (now (a .recorded)) violationLine (a .count) (a .t3) (l .loop .end) (l .loop .k) _ (omega (arith, l .before .fewer .ensures)) (omega (arith, l .before .fewer .ensures, s .good .1 .1 .0 .1 .0 .1))) ∙ l .loop .inv)
+    let few = l .before .fewer .ensures in
+    let long = s .good .1 .1 .0 .1 .0 .1 in
+    rw (c .violation-line .ensures)
+    (sym (first-more (now (a .recorded)) violationLine (a .count) (a .t3) (l .loop .end) (l .loop .k) _ (omega (arith, few)) (omega (arith, few, long))) ∙ l .loop .inv)
 
 returns : tie.Need-returns Inv-loop μ-loop
 returns c =

@@ -50,7 +50,8 @@ part-run-text-end c =
 run-text-requires : tie.Need-run-text-requires Inv-loop μ-loop
 run-text-requires c κs =
     let t = c .before .before in
-    let s = t .before .before .before .before .before .before .before in
+    let slices = t .before .before .before .before in
+    let s = slices .before .before .before in
     omega (arith, run-short (t .before .loop .inv) (t .loop-test .taken), s .pre .0)
 
 add-k : tie.Need-add-k Inv-loop μ-loop
