@@ -1,21 +1,21 @@
--- The same in a run list by value: what its arrays hold when a customer is put into a run, and when a run is taken out. Assumes nothing.
+-- The same in a run list: what its two lists hold when a customer is put into a run, and when a run is taken out. Assumes nothing.
 use Prim.Native.Nat.{ℕ, suc, _+_, _-_, _<_, _≤_}
 use native.Mathlib.Omega.{arith}
 use native.Mathlib.Nat.{le-of-lt}
 use native.Mathlib.Numerals.{add-one}
-use mathlib.Core.Path.{_≡_, sym, ap, ap₂, subst, _∙_}
+use mathlib.Core.Path.{_≡_, refl, sym, ap, ap₂, subst, _∙_}
 use mathlib.Core.List.{List, _∷_, _++_, map}
-use lib.ListN.{length, getD, set, take, drop, length-append, length-drop}
-use lib.Seq.{length-take-le, take-suc-set, take-take, append-snoc}
+use lib.ListN.{length, getD, take, drop, length-append, length-drop}
+use lib.Seq.{length-take-le, take-take}
 use Rattle.basics.specs.Lists.{without}
 use Rattle.basics.proofs.ListLaws.{length-without}
 use Rattle.definitions.specs.RunList.{callsOf, endsOf}
 use Rattle.theorems.proofs.RunListLaws.{ends-many}
-use Rattle.improve_runs.specs.declared.runs.Runs.{Runs}
-use Rattle.improve_runs.specs.RunLists.{room, Front, startIn, runsIn, Sound, runAt, insertAt, putIn, shifted}
+use Rattle.evaluation.specs.Tables.{placeBefore}
+use Rattle.improve_runs.specs.RunLists.{room, Front, Runs, startIn, runsIn, Sound, Rise, runAt, insertAt, putIn, shifted, Measures}
 use Rattle.improve_runs.proofs.Fronts.{front-same, front-part, part-is}
-use Rattle.improve_runs.proofs.Holding.{Held, held, startAt, start-is, start-next, within, run-part}
-use Rattle.improve_runs.proofs.RunParts.{length-put, calls-put, ends-put, calls-less, ends-less, ends-inside, ends-behind}
+use Rattle.improve_runs.proofs.Holding.{Held, held, calls-are, startAt, start-is, start-next, within, run-part}
+use Rattle.improve_runs.proofs.RunParts.{length-put, calls-put, ends-put, calls-less, ends-less, ends-behind}
 
 module _ (r : Runs) (S : Sound r) where
   abbrev here : List (List ℕ)
@@ -40,19 +40,14 @@ module _ (r : Runs) (S : Sound r) where
     pub run-inside : startIn (r .ends) k + length (runAt here k) ≤ r .many
     run-inside = omega (arith, start-here, within here k inside, held r S .many-is)
 
-    -- what `moved` asks of the ends from run k on, and of those behind it
-    pub ends-from : (part : List ℕ) → part ≡ take (r .count - k) (drop k (r .ends)) → (j : ℕ) → j < length part → (0 ≤ getD part j 0) × (getD part j 0 ≤ room)
-    ends-from part e j b =
-        let p = e ∙ ends-part k in
-        (omega arith, omega (arith, ap (λ (l : List ℕ). getD l j 0) p, ends-inside here k inside j (subst (λ (l : List ℕ). j < length l) p b), held r S .many-is, S .calls-fit))
-
+    -- what `paste_moved` asks of the ends behind run k
     pub ends-later : (part : List ℕ) → part ≡ take (r .count - (k + 1)) (drop (k + 1) (r .ends)) → (j : ℕ) → j < length part
-        → (length (runAt here k) ≤ getD part j 0) × (getD part j 0 ≤ room)
+        → length (runAt here k) ≤ getD part j 0
     ends-later part e j b =
         let p = e ∙ ends-part (k + 1) ∙ ap (λ (n : ℕ). drop n (endsOf here)) (add-one k) in
         let q = ends-behind here k inside j (subst (λ (l : List ℕ). j < length l) p b) in
         let v = ap (λ (l : List ℕ). getD l j 0) p in
-        (omega (arith, v, q .0), omega (arith, v, q .1, held r S .many-is, S .calls-fit))
+        omega (arith, v, q .0)
 
     front-calls : (at : ℕ) → at ≤ r .many → take at (r .calls) ≡ take at (callsOf here)
     front-calls at b = sym (take-take at (length (callsOf here)) (r .calls) (omega (arith, held r S .many-is))) ∙ ap (take at) (held r S .calls-front .is)
@@ -62,18 +57,15 @@ module _ (r : Runs) (S : Sound r) where
 
     -- a customer put into run k
     module _ (pos c at : ℕ) (b : pos ≤ length (runAt here k)) (short : r .many < room) (ea : at ≡ startIn (r .ends) k + pos) (calls' ends' : List ℕ)
-        (C : Front (take (at + 1) (set (r .calls) at c) ++ take (r .many - at) (drop at (r .calls))) calls')
+        (C : Front (insertAt at c (take (r .many) (r .calls))) calls')
         (E : Front (take k (r .ends) ++ map (shifted 1 0) (take (r .count - k) (drop k (r .ends)))) ends') where
       place : at ≡ startAt here k + pos
       place = ea ∙ ap (λ (n : ℕ). n + pos) start-here
 
-      calls-are-put : take (at + 1) (set (r .calls) at c) ++ take (r .many - at) (drop at (r .calls)) ≡ callsOf (putIn k pos c here)
+      calls-are-put : insertAt at c (take (r .many) (r .calls)) ≡ callsOf (putIn k pos c here)
       calls-are-put =
-          ap₂ (λ (n : ℕ) (l : List ℕ). take n (set (r .calls) at c) ++ l) (add-one at) (calls-part at)
-          ∙ ap (λ (l : List ℕ). l ++ drop at (callsOf here)) (take-suc-set (r .calls) at c (omega (arith, ea, run-inside, S .calls-long)))
-          ∙ append-snoc (take at (r .calls)) c (drop at (callsOf here))
-          ∙ ap (λ (l : List ℕ). l ++ (c ∷ drop at (callsOf here))) (front-calls at (omega (arith, ea, run-inside)))
-          ∙ ap (λ (n : ℕ). take n (callsOf here) ++ (c ∷ drop n (callsOf here))) place
+          ap (insertAt at c) (calls-are here r (held r S))
+          ∙ ap (λ (n : ℕ). insertAt n c (callsOf here)) place
           ∙ sym (calls-put here k inside pos c b)
 
       ends-are-put : take k (r .ends) ++ map (shifted 1 0) (take (r .count - k) (drop k (r .ends))) ≡ endsOf (putIn k pos c here)
@@ -163,8 +155,21 @@ run-lent r k from to p ef et =
     ∙ ap₂ (λ (m n : ℕ). take m (drop n (callsOf rs))) (b .2) (ef ∙ start-here r (p .0) k (p .1))
     ∙ run-part rs k (inside r (p .0) k (p .1))
 
--- run k with a customer, at the front of an array
-pub grown-all : (run : List ℕ) (pos c : ℕ) → pos ≤ length run → (trial : List ℕ) → Front (insertAt pos c run) trial → take (length run + 1) trial ≡ insertAt pos c run
-grown-all run pos c h trial F =
-    let many : length run + 1 ≡ length (insertAt pos c run) = omega (arith, length-append (take pos run) (c ∷ drop pos run), length-take-le pos run h, length-drop pos run) in
-    ap (λ (n : ℕ). take n trial) many ∙ F .is
+-- its end is the start of the next
+pub end-is : (ends : List ℕ) (k : ℕ) → getD ends k 0 ≡ startIn ends (k + 1)
+unfolding placeBefore
+end-is ends k = ap (startIn ends) (sym (add-one k))
+
+-- run by run
+module _ (r : Runs) (S : Sound r) where
+  bounds : (k : ℕ) → k < r .count → (startIn (r .ends) k ≤ getD (r .ends) k 0) × (getD (r .ends) k 0 ≤ r .many) × (getD (r .ends) k 0 - startIn (r .ends) k ≡ length (runAt (runsIn r) k))
+  bounds k h = run-bound r k (startIn (r .ends) k) (getD (r .ends) k 0) (S, h) refl (end-is (r .ends) k)
+
+  pub all-rise : Rise (r .ends) (r .count)
+  all-rise k h = bounds k h .0
+
+  pub ends-small : (k : ℕ) → k < r .count → getD (r .ends) k 0 ≤ room
+  ends-small k h = omega (arith, bounds k h .1, S .calls-fit)
+
+  pub lengths-are : (lengths : List ℕ) → Measures (r .ends) (r .count) lengths → (k : ℕ) → k < r .count → getD lengths k 0 ≡ length (runAt (runsIn r) k)
+  lengths-are lengths M k h = M .are k h ∙ bounds k h .2

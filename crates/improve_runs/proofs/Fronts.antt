@@ -6,12 +6,12 @@ use native.Mathlib.Numerals.{add-one}
 use mathlib.Core.Path.{_≡_, sym, ap, ap₂, _∙_}
 use mathlib.Core.List.{List, [], _∷_, _++_, append-assoc, append-nil}
 use lib.ListN.{length, getD, set, take, drop, length-append, length-take, length-set}
-use lib.Seq.{take-suc, take-suc-set, take-all, length-take-le, getD-take, take-nil, take-take, append-snoc}
-use Rattle.improve_runs.specs.RunLists.{room, Front, insertAt}
+use lib.Seq.{take-suc, take-suc-set, take-all, length-take-le, getD-take, take-nil}
+use Rattle.improve_runs.specs.RunLists.{room, Front}
 
 module _ {A : Type 0} where
   -- one element more, at k
-  front-more : {l a : List A} → Front l a → (k : ℕ) (x : A) → length l ≡ k → k < room → Front (l ++ (x ∷ [])) (set a k x)
+  pub front-more : {l a : List A} → Front l a → (k : ℕ) (x : A) → length l ≡ k → k < room → Front (l ++ (x ∷ [])) (set a k x)
   front-more {l} {a} F k x e h =
       let inside : length l < length a = omega (arith, F .long) in
       record {
@@ -24,7 +24,7 @@ module _ {A : Type 0} where
       }
 
   -- the first n elements of an array
-  front-take : (a : List A) (n : ℕ) → length a ≡ room → n ≤ room → Front (take n a) a
+  pub front-take : (a : List A) (n : ℕ) → length a ≡ room → n ≤ room → Front (take n a) a
   front-take a n long h =
       let e : length (take n a) ≡ n = length-take-le n a (omega arith) in
       record { long = long; fits = omega arith; is = ap (λ (m : ℕ). take m a) e }
@@ -68,14 +68,11 @@ module _ {A : Type 0} where
   pub pasted-all : (to from new : List A) (at k : ℕ) → length from ≤ k → Front (take at to ++ take k from) new → Front (take at to ++ from) new
   pasted-all to from new at k h F = front-same (ap (λ (t : List A). take at to ++ t) (take-all k from h)) F
 
--- c put before element number pos of a list, which is then copied behind it
-pub grown-front : (list new r : List ℕ) (pos : ℕ) (c : ℕ) → pos ≤ length list → length list < room → Front list new
-    → (part : List ℕ) → part ≡ drop pos list → Front (take (pos + 1) (set new pos c) ++ part) r → Front (insertAt pos c list) r
-grown-front list new r pos c h short F part e G =
-    let first : take pos new ≡ take pos list = sym (take-take pos (length list) new h) ∙ ap (take pos) (F .is) in
-    front-same
-    (ap (λ (n : ℕ). take n (set new pos c) ++ part) (add-one pos)
-    ∙ ap (λ (l : List ℕ). l ++ part) (take-suc-set new pos c (omega (arith, F .long)))
-    ∙ append-snoc (take pos new) c part
-    ∙ ap₂ (λ (l m : List ℕ). l ++ (c ∷ m)) first e)
-    G
+  -- a whole array
+  pub pasted-whole : (from a : List A) → length from ≡ room → Front from a → a ≡ from
+  pasted-whole from a long F = sym (take-all (length from) a (omega (arith, F .long))) ∙ F .is
+
+  -- two lists, one behind the other
+  pub pasted-twice : (b c first second : List A) (n : ℕ) → length first ≡ n → Front first b → Front (take n b ++ second) c → Front (first ++ second) c
+  pasted-twice b c first second n e F G =
+      front-same (ap (λ (m : ℕ). take m b ++ second) (sym e) ∙ ap (λ (l : List A). l ++ second) (F .is)) G

@@ -1,4 +1,4 @@
--- What a run list by value holds: the joined calls and the run ends of its runs stand at the front of its arrays. Assumes nothing.
+-- What a run list in two lists holds: the joined calls and the run ends of its runs stand at the front of its arrays. Assumes nothing.
 use Prim.Native.Nat.{ℕ, zero, suc, _+_, _<_, _≤_}
 use native.Mathlib.Omega.{arith}
 use native.Mathlib.Nat.{add-zero, zero-add, not-suc-le-zero, le-of-suc-le-suc}
@@ -14,9 +14,8 @@ use Rattle.definitions.specs.Refusals.{endsFall}
 use Rattle.definitions.specs.RunList.{runsOf, callsOf, endsFrom, endsOf}
 use Rattle.theorems.proofs.RunListLaws.{RiseTo, runs-back, calls-back, ends-back, ends-many}
 use Rattle.evaluation.specs.Tables.{placeBefore}
-use Rattle.improve_runs.specs.declared.runs.Runs.{Runs}
-use Rattle.improve_runs.specs.RunLists.{room, Front, startIn, runsIn, Sound, runAt}
-use Rattle.improve_runs.proofs.Fronts.{front-at}
+use Rattle.improve_runs.specs.RunLists.{room, Front, Runs, runs, startIn, runsIn, Sound, runAt, Copies}
+use Rattle.improve_runs.proofs.Fronts.{front-at, front-same}
 
 pub record Held (rs : List (List ℕ)) (r : Runs) : Type 0 where
   pub calls-front : Front (callsOf rs) (r .calls)
@@ -88,6 +87,15 @@ lent-runs calls ends a b F G rises = (
   record { calls-long = F .long; ends-long = G .long; calls-fit = F .fits; runs-fit = G .fits; rises = subst (λ (l : List ℕ). endsFall 0 l (length calls) ≡ false) (sym (G .is)) rises },
   ap₂ runsOf (F .is) (G .is),
 )
+
+-- the same calls and ends in two other lists
+pub copied : (r : Runs) → Sound r → (a b : List ℕ) → Front (take (r .many) (r .calls)) a → Front (take (r .count) (r .ends)) b → Copies r (runs a b (r .many) (r .count))
+copied r S a b F G =
+    let rs = runsIn r in
+    let H = held r S in
+    let new : Held rs (runs a b (r .many) (r .count)) =
+    record { calls-front = front-same (calls-are rs r H) F; ends-front = front-same (ends-are rs r H) G; many-is = H .many-is; count-is = H .count-is } in
+    record { sound = sound rs (runs a b (r .many) (r .count)) new; is = same-runs rs (runs a b (r .many) (r .count)) new }
 
 -- ---- where a run starts, and its part of the calls
 

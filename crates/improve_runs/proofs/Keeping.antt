@@ -1,24 +1,25 @@
 -- Run by run: the ends of those runs that are not empty, and how many calls each has. Assumes nothing.
 use Prim.Native.Nat.{ℕ, suc, _+_, _-_, _<_, _≤_}
 use native.Mathlib.Omega.{arith}
-use native.Mathlib.Nat.{le-refl}
+use native.Mathlib.Nat.{le-refl, not-suc-le-zero}
 use native.Mathlib.Numerals.{add-one}
 use mathlib.Core.Path.{_≡_, refl, sym, ap, ap₂, subst, _∙_}
 use mathlib.Core.Bool.{cond}
-use mathlib.Core.List.{List, [], _∷_, _++_, map, map-append, append-nil}
-use lib.ListN.{length, getD, set, take, length-append, length-set, length-map}
-use lib.Seq.{take-suc, take-all, take-set-le, take-suc-set}
+use mathlib.Core.List.{List, [], _∷_, _++_, append-nil}
+use lib.ListN.{length, getD, set, take, length-append, length-set}
+use lib.Seq.{take-suc, take-all, take-set-le, take-suc-set, getD-set-same, getD-set-other}
 use lib.Dec.{ltb}
-use borrow.Author.Tests.{lt-ltb, le-ltb}
+use borrow.Author.Tests.{lt-ltb, le-ltb, ltb-true, ltb-false}
+use Rattle.basics.proofs.TestLaws.{by-test}
 use Rattle.definitions.specs.RunList.{callsOf, endsOf}
 use Rattle.definitions.specs.Elimination.{nonEmpty}
 use Rattle.theorems.proofs.RunListLaws.{ends-many}
 use Rattle.evaluation.specs.Tables.{placeBefore}
-use Rattle.improve_runs.specs.declared.runs.Runs.{Runs}
-use Rattle.improve_runs.specs.RunLists.{room, Front, runsIn, Sound, runAt}
+use Rattle.improve_runs.specs.RunLists.{room, Runs, startIn, runsIn, Sound, runAt, Measures}
 use Rattle.improve_runs.proofs.Fronts.{front-same}
 use Rattle.improve_runs.proofs.Holding.{Held, held, startAt, start-next, start-is}
 use Rattle.improve_runs.proofs.RunParts.{ends-append}
+use Rattle.improve_runs.proofs.Changing.{end-is}
 
 non-empty-append : (a b : List (List ℕ)) → nonEmpty (a ++ b) ≡ nonEmpty a ++ nonEmpty b
 non-empty-append [] b = refl
@@ -48,8 +49,8 @@ module _ (rs : List (List ℕ)) where
     abbrev run : List ℕ
     run = runAt rs i
 
-    end-is : end ≡ prev + length run
-    end-is = e ∙ start-next rs i h ∙ ap (λ (n : ℕ). n + length run) (sym (K .last-end))
+    end-next-is : end ≡ prev + length run
+    end-next-is = e ∙ start-next rs i h ∙ ap (λ (n : ℕ). n + length run) (sym (K .last-end))
 
     one-more : nonEmpty (take (i + 1) rs) ≡ nonEmpty (take i rs) ++ nonEmpty (run ∷ [])
     one-more = ap (λ (m : ℕ). nonEmpty (take m rs)) (add-one i) ∙ ap nonEmpty (take-suc rs i [] h) ∙ non-empty-append (take i rs) (run ∷ [])
@@ -76,7 +77,7 @@ module _ (rs : List (List ℕ)) where
     taken c cs x =
         let done = nonEmpty (take i rs) in
         let more : nonEmpty (take (i + 1) rs) ≡ done ++ (run ∷ []) = one-more ∙ ap (λ (r : List ℕ). done ++ nonEmpty (r ∷ [])) x ∙ ap (λ (r : List ℕ). done ++ (r ∷ [])) (sym x) in
-        let behind : 0 + length (callsOf done) + length run ≡ end = omega (arith, end-is, K .last-end, ap length (calls-kept (take i rs))) in
+        let behind : 0 + length (callsOf done) + length run ≡ end = omega (arith, end-next-is, K .last-end, ap length (calls-kept (take i rs))) in
         record {
           within = omega arith;
           ends-kept =
@@ -95,8 +96,12 @@ module _ (rs : List (List ℕ)) where
     kept-more = go run refl
       where
         go : (r : List ℕ) → run ≡ r → Kept rs (i + 1) (cond (ltb prev end) (n + 1) n) end (set kept n end)
-        go [] x = rw (le-ltb prev end (omega (arith, end-is, ap length x))) (passed x)
-        go (c ∷ cs) x = rw (lt-ltb prev end (omega (arith, end-is, ap length x))) (taken c cs x)
+        go [] x = rw (le-ltb prev end (omega (arith, end-next-is, ap length x))) (passed x)
+        go (c ∷ cs) x = rw (lt-ltb prev end (omega (arith, end-next-is, ap length x))) (taken c cs x)
+
+-- no more are kept than there are
+pub counted-few : (prev end n i : ℕ) → n ≤ i → cond (ltb prev end) (n + 1) n ≤ i + 1
+counted-few prev end n i h = by-test (ltb prev end) (λ t. rw t (omega arith)) (λ f. rw f (omega arith))
 
 -- all runs
 pub kept-all : (r : Runs) → Sound r → (i n prev : ℕ) (kept : List ℕ) → Kept (runsIn r) i n prev kept → r .count ≤ i
@@ -124,44 +129,32 @@ end-read r S i h =
 -- ---- how many calls each run has
 
 -- after k runs, of which the last ends at prev
-pub record Measured (rs : List (List ℕ)) (k prev : ℕ) (lengths : List ℕ) : Type 0 where
-  pub within : k ≤ length rs
-  pub last-end : prev ≡ startAt rs k
+pub record Measuring (ends : List ℕ) (k prev : ℕ) (lengths : List ℕ) : Type 0 where
+  pub last-end : prev ≡ startIn ends k
   pub long : length lengths ≡ room
-  pub are : take k lengths ≡ map length (take k rs)
+  pub are : (j : ℕ) → j < k → getD lengths j 0 ≡ getD ends j 0 - startIn ends j
 
-pub measured-none : (rs : List (List ℕ)) (lengths : List ℕ) → length lengths ≡ room → Measured rs 0 0 lengths
-unfolding startAt
-measured-none rs lengths long = record { within = omega arith; last-end = refl; long = long; are = refl }
+pub measuring-none : (ends lengths : List ℕ) → length lengths ≡ room → Measuring ends 0 0 lengths
+unfolding placeBefore
+measuring-none ends lengths long = record { last-end = refl; long = long; are = λ j h. absurd (not-suc-le-zero h) }
 
-module _ (r : Runs) (S : Sound r) (k prev : ℕ) (lengths : List ℕ) (M : Measured (runsIn r) k prev lengths) where
-  module _ (h : k < r .count) (end : ℕ) (e : end ≡ getD (r .ends) k 0) where
-    ends-at : end ≡ prev + length (runAt (runsIn r) k)
-    ends-at = e ∙ end-read r S k h .2 ∙ start-next (runsIn r) k (end-read r S k h .0) ∙ ap (λ (n : ℕ). n + length (runAt (runsIn r) k)) (sym (M .last-end))
+pub measuring-more : (ends : List ℕ) (k prev : ℕ) (lengths : List ℕ) → Measuring ends k prev lengths → k < room
+    → Measuring ends (k + 1) (getD ends k 0) (set lengths k (getD ends k 0 - prev))
+measuring-more ends k prev lengths M fit =
+    let here = getD ends k 0 - prev in
+    record {
+      last-end = end-is ends k;
+      long = length-set lengths k here ∙ M .long;
+      are =
+          λ j h.
+          by-test (ltb j k)
+          (λ t. (let b = ltb-true j k t in getD-set-other lengths k j here 0 (λ q. omega arith) ∙ M .are j b))
+          (λ f.
+          let b = ltb-false j k f in
+          let e : k ≡ j = omega arith in
+          subst (λ (i : ℕ). getD (set lengths k here) i 0 ≡ getD ends i 0 - startIn ends i) e
+          (getD-set-same lengths k here 0 (omega (arith, M .long)) ∙ ap (λ (p : ℕ). getD ends k 0 - p) (M .last-end)));
+    }
 
-    pub measured-rises : prev ≤ end
-    measured-rises = omega (arith, ends-at)
-
-    pub measured-more : Measured (runsIn r) (k + 1) end (set lengths k (end - prev))
-    measured-more =
-        let inside = end-read r S k h .0 in
-        let here : end - prev ≡ length (runAt (runsIn r) k) = omega (arith, ends-at) in
-        record {
-          within = omega (arith, inside);
-          last-end = e ∙ end-read r S k h .2 ∙ ap (startAt (runsIn r)) (sym (add-one k));
-          long = length-set lengths k (end - prev) ∙ M .long;
-          are =
-              ap (λ (n : ℕ). take n (set lengths k (end - prev))) (add-one k)
-              ∙ take-suc-set lengths k (end - prev) (omega (arith, M .long, S .runs-fit))
-              ∙ ap₂ (λ (l : List ℕ) (n : ℕ). l ++ (n ∷ [])) (M .are) here
-              ∙ sym (ap (λ (n : ℕ). map length (take n (runsIn r))) (add-one k) ∙ ap (map length) (take-suc (runsIn r) k [] inside) ∙ map-append length (take k (runsIn r)) (runAt (runsIn r) k ∷ []));
-        }
-
-  pub measured-all : r .count ≤ k → Front (map length (runsIn r)) lengths
-  measured-all h =
-      let all : k ≡ length (map length (runsIn r)) = omega (arith, M .within, held r S .count-is, length-map (runsIn r) length) in
-      record {
-        long = M .long;
-        fits = omega (arith, M .within, held r S .count-is, S .runs-fit, length-map (runsIn r) length);
-        is = ap (λ (n : ℕ). take n lengths) (sym all) ∙ M .are ∙ ap (map length) (take-all k (runsIn r) (omega (arith, held r S .count-is)));
-      }
+pub measuring-all : (ends : List ℕ) (count k prev : ℕ) (lengths : List ℕ) → Measuring ends k prev lengths → count ≤ k → Measures ends count lengths
+measuring-all ends count k prev lengths M h = record { long = M .long; are = λ j b. M .are j (omega arith) }

@@ -1,6 +1,7 @@
 -- Lists at the front of arrays and of lent lists.
 pub mod Fronts
--- Run lists by value: what they hold, and what a changed one holds.
+pub mod Shifting
+-- Run lists in two lists: what they hold, and what a changed one holds.
 pub mod Holding
 pub mod RunParts
 pub mod Changing

@@ -1,4 +1,4 @@
--- Run lists by value.
+-- Run lists in two lists.
 pub mod RunLists
 -- The first of the least.
 pub mod Least

@@ -9,8 +9,7 @@ use lib.ListN.{length, take, drop}
 use Rattle.definitions.specs.Refusals.{endsFall}
 use Rattle.definitions.specs.RunList.{runsFrom, runsOf, callsOf, endsOf}
 use Rattle.theorems.proofs.RunListLaws.{RiseTo, calls-back, ends-many}
-use Rattle.improve_runs.specs.declared.runs.Runs.{Runs}
-use Rattle.improve_runs.specs.RunLists.{runsIn, Sound}
+use Rattle.improve_runs.specs.RunLists.{Runs, runsIn, Sound}
 use Rattle.improve_runs.proofs.Holding.{rises-to, held, calls-are, ends-are}
 use Rattle.route_elimination.specs.Insertion.{GivenF}
 use Rattle.route_elimination.specs.Elimination.{eliminatedF, Counts}

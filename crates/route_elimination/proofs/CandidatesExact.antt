@@ -3,11 +3,12 @@ use Prim.Native.Nat.{ℕ, suc, _+_, _-_, _*_, _<_, _≤_}
 use native.Mathlib.Omega.{arith}
 use native.Mathlib.Nat.{sub-zero}
 use mathlib.Core.Path.{_≡_, refl, sym, ap, ap₂, _∙_}
-use mathlib.Core.Bool.{Bool, cond}
+use mathlib.Core.Bool.{Bool, cond, not}
 use mathlib.Core.List.{List, [], _∷_, _++_, map, map-append}
 use lib.ListN.{length, getD}
-use lib.Dec.{leb}
-use borrow.Author.Tests.{leb-true, leb-false, le-leb, lt-leb}
+use lib.Dec.{ltb, leb}
+use lib.Ieee as Ieee
+use borrow.Author.Tests.{leb-true, leb-false, le-leb, lt-leb, le-ltb, lt-ltb}
 use Rattle.basics.proofs.TestLaws.{by-test}
 use Rattle.basics.specs.Lists.{count, All}
 use Rattle.basics.proofs.ListLaws.{all-imp}
@@ -15,18 +16,18 @@ use Rattle.bounds.specs.Sized.{Sized, Place}
 use Rattle.definitions.specs.Domain.{mostCalls, mostNumber}
 use Rattle.definitions.specs.Sheet.{Sheet, distance}
 use Rattle.definitions.specs.Run as Run
-use Rattle.definitions.specs.Sort.{rising, sort}
 use Rattle.definitions.specs.Improver.{givenOf, total}
 use Rattle.definitions.specs.Elimination.{Put, beyond, inserts, candidates}
 use Rattle.whole.specs.Difference.{diff}
-use Rattle.whole.proofs.DifferenceLaws.{diff-same, diff-le}
+use Rattle.whole.proofs.DifferenceLaws.{diff-same, diff-lt, diff-le}
 use Rattle.evaluation.specs.Tables.{placeBefore}
 use Rattle.improve_runs.specs.RunLists.{runAt, insertAt, putIn}
-use Rattle.improve_runs.proofs.Sorting.{sort-map, map-twice, count-next}
-use Rattle.route_elimination.specs.Loads.{roomF}
-use Rattle.route_elimination.specs.Insertion.{GivenF, Candidate, addsF, cheaper, candidateF, placesIn, placesOf, candidatesFrom, legF, demandF, candidatesF}
+use Rattle.improve_runs.proofs.RunParts.{put-run}
+use Rattle.improve_runs.proofs.Sorting.{map-twice, count-next}
+use Rattle.route_elimination.specs.declared.insertion.Spot.{Spot}
+use Rattle.route_elimination.specs.Insertion.{GivenF, addsF, spotF, placesIn, placesOf, eachFrom, legF, roomsF, candidatesF}
 use Rattle.route_elimination.specs.Image.{Image}
-use Rattle.route_elimination.proofs.Placing.{Within, candidates-within}
+use Rattle.route_elimination.proofs.Spots.{Within, candidates-within}
 use Rattle.route_elimination.proofs.CostExact.{room-exact, adds-exact, total-put, total-most}
 use Rattle.route_elimination.proofs.GoodRuns.{Good, good-put, good-run}
 
@@ -53,10 +54,10 @@ inserts-are c (x ∷ xs) =
 -- ---- a candidate as what the definitions put
 
 -- in the runs of which the first is run k
-abbrev putFrom : ℕ → ℕ → List (List ℕ) → Candidate → Put
+abbrev putFrom : ℕ → ℕ → List (List ℕ) → Spot → Put
 putFrom k c rs x = record { grown = runAt (putIn (x .run - k) (x .pos) c rs) (x .run - k); runs = putIn (x .run - k) (x .pos) c rs }
 
-abbrev pub putOf : ℕ → List (List ℕ) → Candidate → Put
+abbrev pub putOf : ℕ → List (List ℕ) → Spot → Put
 putOf c rs x = record { grown = runAt (putIn (x .run) (x .pos) c rs) (x .run); runs = putIn (x .run) (x .pos) c rs }
 
 -- the same number on both sides
@@ -66,9 +67,15 @@ shifted-leb a b t =
     (λ y. let h = leb-true a b y in le-leb (a + t) (b + t) (omega arith) ∙ sym y)
     (λ n. let h = leb-false a b n in lt-leb (a + t) (b + t) (omega arith) ∙ sym n)
 
+shifted-ltb : (a b t : ℕ) → ltb (a + t) (b + t) ≡ not (leb b a)
+shifted-ltb a b t =
+    by-test (leb b a)
+    (λ y. let h = leb-true b a y in le-ltb (a + t) (b + t) (omega arith) ∙ sym (ap not y))
+    (λ n. let h = leb-false b a n in lt-ltb (a + t) (b + t) (omega arith) ∙ sym (ap not n))
+
 module _ (s : Sheet) (S : Sized s) (T : GivenF) (I : Image s T) (c : ℕ) (p : Place s c) where
   abbrev fits : ℕ → List ℕ → Bool
-  fits = roomF (demandF T) (T .capacity)
+  fits = roomsF T
 
   module _ (k : ℕ) (r : List ℕ) (rs : List (List ℕ)) where
     abbrev here : List ℕ → Put
@@ -78,50 +85,55 @@ module _ (s : Sheet) (S : Sized s) (T : GivenF) (I : Image s T) (c : ℕ) (p : P
     places-are =
         let ps = count 0 (suc (length r)) in
         let none : k - k ≡ 0 = omega arith in
-        map-twice (candidateF (legF T) k c r) (putFrom k c (r ∷ rs)) ps
-        ∙ map-same (λ (pos : ℕ). putFrom k c (r ∷ rs) (candidateF (legF T) k c r pos)) (λ (pos : ℕ). here (insertAt pos c r))
+        map-twice (spotF (legF T) k c r) (putFrom k c (r ∷ rs)) ps
+        ∙ map-same (λ (pos : ℕ). putFrom k c (r ∷ rs) (spotF (legF T) k c r pos)) (λ (pos : ℕ). here (insertAt pos c r))
         (λ pos. ap (λ (m : ℕ). record { grown = runAt (putIn m pos c (r ∷ rs)) m; runs = putIn m pos c (r ∷ rs) }) none) ps
         ∙ sym (map-twice (λ (pos : ℕ). insertAt pos c r) here ps)
         ∙ ap (map here) (sym (inserts-are c r))
 
-    here-are : All (Place s) r → map (putFrom k c (r ∷ rs)) (placesOf (legF T) fits k c r)
+    here-are : All (Place s) r → map (putFrom k c (r ∷ rs)) (placesOf (legF T) fits c k r)
         ≡ cond (Run.fits s (c ∷ r)) (map here (inserts c r)) []
     here-are a =
         let e = room-exact s S T I c r p a in
         by-test (fits c r) (λ t. rw (t, sym e ∙ t) places-are) (λ f. rw (f, sym e ∙ f))
 
-    later-are : (x : Candidate) → Within (legF T) c (suc k) rs x → putFrom k c (r ∷ rs) x ≡ beyond r (putFrom (suc k) c rs x)
+    later-are : (x : Spot) → Within (legF T) c (suc k) rs x → putFrom k c (r ∷ rs) x ≡ beyond r (putFrom (suc k) c rs x)
     later-are x W =
         let e : x .run - k ≡ suc (x .run - suc k) = omega (arith, W .at-least) in
         ap (λ (m : ℕ). record { grown = runAt (putIn m (x .pos) c (r ∷ rs)) m; runs = putIn m (x .pos) c (r ∷ rs) }) e
 
-  candidates-from : (k : ℕ) (rs : List (List ℕ)) → All (All (Place s)) rs → map (putFrom k c rs) (candidatesFrom (legF T) fits k c rs) ≡ candidates (givenOf s) c rs
-  unfolding candidatesFrom candidates
+  candidates-from : (k : ℕ) (rs : List (List ℕ)) → All (All (Place s)) rs → map (putFrom k c rs) (eachFrom (placesOf (legF T) fits c) k rs) ≡ candidates (givenOf s) c rs
+  unfolding eachFrom candidates
   candidates-from k [] a = refl
   candidates-from k (r ∷ rs) a =
-      let later = candidatesFrom (legF T) fits (suc k) c rs in
+      let later = eachFrom (placesOf (legF T) fits c) (suc k) rs in
       let behind =
-      map-alike (putFrom k c (r ∷ rs)) (λ (x : Candidate). beyond r (putFrom (suc k) c rs x)) (Within (legF T) c (suc k) rs) (later-are k r rs) later
+      map-alike (putFrom k c (r ∷ rs)) (λ (x : Spot). beyond r (putFrom (suc k) c rs x)) (Within (legF T) c (suc k) rs) (later-are k r rs) later
       (candidates-within (legF T) fits c (suc k) rs) in
-      map-append (putFrom k c (r ∷ rs)) (placesOf (legF T) fits k c r) later
+      map-append (putFrom k c (r ∷ rs)) (placesOf (legF T) fits c k r) later
       ∙ ap₂ (λ (l m : List Put). l ++ m) (here-are k r rs (a .0))
       (behind ∙ sym (map-twice (putFrom (suc k) c rs) (beyond r) later) ∙ ap (map (beyond r)) (candidates-from (suc k) rs (a .1)))
 
   module _ (rs : List (List ℕ)) (n : ℕ) (few : n < mostCalls) (W : Good s n rs) where
-    candidates-are : map (putOf c rs) (candidatesF T c rs) ≡ candidates (givenOf s) c rs
+    pub candidates-are : map (putOf c rs) (candidatesF T c rs) ≡ candidates (givenOf s) c rs
     candidates-are =
         map-same (putOf c rs) (putFrom 0 c rs) (λ x. ap (λ (m : ℕ). record { grown = runAt (putIn m (x .pos) c rs) m; runs = putIn m (x .pos) c rs }) (sym (sub-zero (x .run)))) (candidatesF T c rs)
         ∙ candidates-from 0 rs (W .inside)
 
     -- a candidate's cost is what the runs become longer by
-    pub record Priced (x : Candidate) : Type 0 where
+    pub record Priced (x : Spot) : Type 0 where
       pub cost-is : x .cost ≡ diff (total (givenOf s) (putOf c rs x .runs)) (total (givenOf s) rs)
       pub next : Good s (suc n) (putOf c rs x .runs)
+      pub grown-is : putOf c rs x .grown ≡ insertAt (x .pos) c (runAt rs (x .run))
+
+    -- by the distance they lead to
+    abbrev pub key : Spot → ℕ
+    key x = total (givenOf s) (putOf c rs x .runs)
 
     pub small : (m : ℕ) (qs : List (List ℕ)) → m ≤ mostCalls → Good s m qs → total (givenOf s) qs ≤ mostCalls * (2 * mostNumber)
     small m qs h Q = omega (arith, total-most s S qs (Q .some-calls), Q .few)
 
-    priced : (x : Candidate) → Within (legF T) c 0 rs x → Priced x
+    priced : (x : Spot) → Within (legF T) c 0 rs x → Priced x
     priced x Q =
         let z = sub-zero (x .run) in
         let run = runAt rs (x .run) in
@@ -136,22 +148,22 @@ module _ (s : Sheet) (S : Sized s) (T : GivenF) (I : Image s T) (c : ℕ) (p : P
               ∙ diff-same (distance s prev c + distance s c next) (distance s prev next) (total (givenOf s) (putOf c rs x .runs)) (total (givenOf s) rs)
               (omega (arith, total-put s rs (W .some-calls) (x .run) (x .pos) c inside pos));
           next = good-put s n rs W (x .run) (x .pos) c p;
+          grown-is = put-run (x .run) (x .pos) c rs inside;
         }
 
     pub all-priced : All Priced (candidatesF T c rs)
     all-priced = all-imp (Within (legF T) c 0 rs) Priced priced (candidatesF T c rs) (candidates-within (legF T) fits c 0 rs)
 
-    same-order : (x y : Candidate) → Priced x → Priced y → rising (λ (q : Put). total (givenOf s) (q .runs)) (putOf c rs x) (putOf c rs y) ≡ cheaper x y
-    same-order x y X Y =
-        let a = total (givenOf s) (putOf c rs x .runs) in
-        let b = total (givenOf s) (putOf c rs y .runs) in
-        let t = total (givenOf s) rs in
-        let sa = small (suc n) (putOf c rs x .runs) few (X .next) in
-        let sb = small (suc n) (putOf c rs y .runs) few (Y .next) in
-        let st = small n rs (omega arith) W in
-        sym (rw (X .cost-is, Y .cost-is) (diff-le a t b t (omega arith) (omega arith) (omega arith) (omega arith) ∙ shifted-leb a b t))
+    module _ (x y : Spot) (X : Priced x) (Y : Priced y) where
+      sizes : (key x ≤ mostCalls * (2 * mostNumber)) × (key y ≤ mostCalls * (2 * mostNumber)) × (total (givenOf s) rs ≤ mostCalls * (2 * mostNumber))
+      sizes = (small (suc n) (putOf c rs x .runs) few (X .next), small (suc n) (putOf c rs y .runs) few (Y .next), small n rs (omega arith) W)
 
-    pub sorted-exact : sort (rising (λ (q : Put). total (givenOf s) (q .runs))) (candidates (givenOf s) c rs) ≡ map (putOf c rs) (sort cheaper (candidatesF T c rs))
-    sorted-exact =
-        ap (sort (rising (λ (q : Put). total (givenOf s) (q .runs)))) (sym candidates-are)
-        ∙ sort-map (rising (λ (q : Put). total (givenOf s) (q .runs))) (putOf c rs) cheaper Priced same-order (candidatesF T c rs) all-priced
+      pub at-most-exact : Ieee.le (x .cost) (y .cost) ≡ leb (key x) (key y)
+      at-most-exact =
+          let t = total (givenOf s) rs in
+          rw (X .cost-is, Y .cost-is) (diff-le (key x) t (key y) t (omega (arith, sizes .0)) (omega (arith, sizes .2)) (omega (arith, sizes .1)) (omega (arith, sizes .2)) ∙ shifted-leb (key x) (key y) t)
+
+      pub below-exact : Ieee.lt (x .cost) (y .cost) ≡ not (leb (key y) (key x))
+      below-exact =
+          let t = total (givenOf s) rs in
+          rw (X .cost-is, Y .cost-is) (diff-lt (key x) t (key y) t (omega (arith, sizes .0)) (omega (arith, sizes .2)) (omega (arith, sizes .1)) (omega (arith, sizes .2)) ∙ shifted-ltb (key x) (key y) t)

@@ -10,11 +10,9 @@ use Rattle.basics.specs.Options.{_>>=_, given}
 use Rattle.definitions.specs.Sort.{sort}
 use Rattle.definitions.specs.Elimination.{Parted}
 use Rattle.whole.specs.Whole.{fl}
-use Rattle.improve_runs.specs.RunLists.{runsIn}
 use Rattle.improve_runs.specs.Least.{bySeats}
-use Rattle.route_elimination.specs.declared.insertion.Placed.{Placed}
 use Rattle.improve_base.specs.Route.{routeDistanceF}
-use Rattle.route_elimination.specs.Insertion.{GivenF, PlacedF, legF, demandF, placeAllF, placedOf}
+use Rattle.route_elimination.specs.Insertion.{GivenF, PlacedF, legF, demandF, placeAllF}
 use Rattle.route_elimination.specs.Elimination.{finiteF, savedF, emptiedF}
 
 -- the run as it is lent, and what it saves
@@ -35,28 +33,22 @@ abbrev pub pays : GivenF → Float → Float → Bool
 pays T saved added = Ieee.lt added (Ieee.sub binary64 saved (T .search .floor))
 
 -- the run goes when its customers are placed for less than is saved
-pub record Decides (T : GivenF) (p : Parted) (saved : Float) (q : Placed) : Type 0 where
-  pub not-placed : q .found ≡ false → none ≡ emptiedF T p
-  pub goes : q .found ≡ true → pays T saved (q .added) ≡ true → some (runsIn (q .runs)) ≡ emptiedF T p
-  pub stays : q .found ≡ true → pays T saved (q .added) ≡ false → none ≡ emptiedF T p
-
 module _ (T : GivenF) (p : Parted) (saved : Float) (es : saved ≡ savedF T (p .run)) where
   pub not-finite : finiteF saved ≡ false → none ≡ emptiedF T p
   unfolding emptiedF
   not-finite f = let g = rw es at f in rw g
 
-  module _ (fin : finiteF saved ≡ true) (q : Placed) (eq : placedOf q ≡ movedF T saved (p .run) (p .rest)) where
-    found : (placedOf q >>= λ r. given (pays T saved (r .added)) (r .runs)) ≡ emptiedF T p
+  module _ (fin : finiteF saved ≡ true) (q : Option PlacedF) (eq : q ≡ movedF T saved (p .run) (p .rest)) where
+    found : (q >>= λ r. given (pays T saved (r .added)) (r .runs)) ≡ emptiedF T p
     unfolding emptiedF
     found =
         let g = rw es at fin in
         let e = rw es at eq in
         rw (g, es, ← e)
 
-    pub decides : Decides T p saved q
-    decides =
-        record {
-          not-placed = λ f. (let d = rw f at found in d);
-          goes = λ f t. (let d = rw (f, t) at found in d);
-          stays = λ f t. (let d = rw (f, t) at found in d);
-        }
+  pub not-placed : finiteF saved ≡ true → none ≡ movedF T saved (p .run) (p .rest) → none ≡ emptiedF T p
+  not-placed fin e = found fin none e
+
+  pub decided : finiteF saved ≡ true → (runs : List (List ℕ)) (added : Float) → some (record { runs = runs; added = added }) ≡ movedF T saved (p .run) (p .rest)
+      → given (pays T saved added) runs ≡ emptiedF T p
+  decided fin runs added e = found fin (some (record { runs = runs; added = added })) e

@@ -17,11 +17,13 @@ use Rattle.definitions.specs.Sort.{rising, sort}
 use Rattle.definitions.specs.Elimination.{nonEmpty, Parted, past, parted}
 use Rattle.theorems.proofs.SortLaws.{sort-all}
 use Rattle.whole.specs.Whole.{fl}
-use Rattle.improve_runs.specs.RunLists.{insertAt, putIn, runAt}
+use Rattle.improve_runs.specs.RunLists.{insertAt, putIn}
 use Rattle.improve_runs.specs.Least.{bySeats}
 use Rattle.improve_runs.proofs.RunParts.{length-put}
 use Rattle.improve_runs.proofs.Sorting.{sort-length}
-use Rattle.route_elimination.specs.Insertion.{GivenF, Candidate, PlacedF, demandF, cheaper, candidatesF, allowedF, firstPayingF, putAt, bestF, placeF, placeAllF}
+use Rattle.route_elimination.specs.declared.insertion.Spot.{Spot}
+use Rattle.route_elimination.specs.declared.tested.Mover.{Mover}
+use Rattle.route_elimination.specs.Insertion.{GivenF, PlacedF, demandF, moverF, putAt, bestF, placeF, placeAllF}
 use Rattle.route_elimination.specs.Elimination.{finiteF, savedF, emptiedF, firstEmptiedF, searchF, searchesF, eliminatedF}
 
 -- the calls of all runs
@@ -72,19 +74,15 @@ non-empty-fewer ((c ∷ cs) ∷ rs) =
     record { runs-most = omega (arith, m .runs-most); calls-most = omega (arith, m .calls-most, length-append cs (callsOf rs), length-append cs (callsOf (nonEmpty rs))) }
 
 module _ (T : GivenF) where
-  first-grows : (added saved : Float) (c : ℕ) (rs : List (List ℕ)) (xs : List Candidate) → Holds (λ (q : PlacedF). Grows 1 rs (q .runs)) (Option·map (putAt c rs) (firstPayingF T added saved c rs xs))
-  unfolding firstPayingF
-  first-grows added saved c rs [] = tt
-  first-grows added saved c rs (x ∷ xs) =
-      by-test (Ieee.le saved (Ieee.add binary64 added (x .cost)))
-      (λ t. rw t tt)
-      (λ f. by-test (allowedF T (runAt (putIn (x .run) (x .pos) c rs) (x .run)))
-      (λ t. rw (f, t) (record { runs-same = length-put (x .run) (x .pos) c rs; calls-more = omega (arith, put-grows (x .run) (x .pos) c rs) }))
-      (λ g. rw (f, g) (first-grows added saved c rs xs)))
-
   place-grows : (added saved : Float) (c : ℕ) (rs : List (List ℕ)) → Holds (λ (q : PlacedF). Grows 1 rs (q .runs)) (placeF T added saved c rs)
-  unfolding bestF
-  place-grows added saved c rs = first-grows added saved c rs (sort cheaper (candidatesF T c rs))
+  place-grows added saved c rs = go (bestF T m rs)
+    where
+      m : Mover
+      m = moverF c added saved
+
+      go : (o : Option Spot) → Holds (λ (q : PlacedF). Grows 1 rs (q .runs)) (Option·map (putAt m rs) o)
+      go none = tt
+      go (some x) = record { runs-same = length-put (x .run) (x .pos) c rs; calls-more = omega (arith, put-grows (x .run) (x .pos) c rs) }
 
   all-grow : (added saved : Float) (cs : List ℕ) (rs : List (List ℕ)) → Holds (λ (q : PlacedF). Grows (length cs) rs (q .runs)) (placeAllF T added saved cs rs)
   unfolding placeAllF

@@ -2,27 +2,24 @@
 use Prim.Native.Nat.{ℕ, zero, suc, _-_, _<_, _≤_}
 use native.Mathlib.Omega.{arith}
 use mathlib.Core.Path.{_≡_, sym, ap, subst, _∙_}
-use mathlib.Core.Bool.{true, false}
-use mathlib.Core.List.{List, [], _∷_, map}
+use mathlib.Core.Bool.{Bool, true, false}
+use mathlib.Core.List.{List, _∷_, map}
 use mathlib.Core.Option.{none, some}
-use lib.ListN.{length, getD, take, length-map, List·getD-map}
-use Rattle.basics.specs.Options.{Holds}
+use lib.ListN.{length, getD, take}
+use Rattle.basics.specs.Options.{Holds, given}
 use Rattle.basics.specs.Lists.{count, All, without}
 use Rattle.basics.proofs.ListLaws.{all-imp, length-count}
 use Rattle.definitions.specs.Room.{written}
 use Rattle.definitions.specs.Sort.{sort}
 use Rattle.definitions.specs.Elimination.{nonEmpty, Parted}
 use Rattle.cut_table.proofs.Writing.{length-written, front-written}
-use Rattle.improve_runs.specs.declared.runs.Runs.{Runs}
-use Rattle.improve_runs.specs.RunLists.{room, Front, runsIn, Sound, runAt}
+use Rattle.improve_runs.specs.RunLists.{room, Runs, runsIn, Sound, runAt}
 use Rattle.improve_runs.specs.Least.{leastAt, byLength}
-use Rattle.improve_runs.proofs.Fronts.{front-at}
 use Rattle.improve_runs.proofs.Holding.{held}
 use Rattle.improve_runs.proofs.Least.{none-left, picked-inside, picked, picked-all}
 use Rattle.improve_runs.proofs.Sorting.{count-below}
-use Rattle.route_elimination.specs.declared.route_elimination.Tried.{Tried}
 use Rattle.route_elimination.specs.Insertion.{GivenF}
-use Rattle.route_elimination.specs.Elimination.{partAt, emptiedF, firstEmptiedF, searchF, searchesF, eliminatedF, triedOf, Tries}
+use Rattle.route_elimination.specs.Elimination.{partAt, emptiedF, firstEmptiedF, searchF, searchesF, eliminatedF, Tries}
 use Rattle.route_elimination.proofs.Ordering.{order-is}
 use Rattle.route_elimination.proofs.Fewer.{Fewer, search-fewer, non-empty-fewer}
 
@@ -37,19 +34,16 @@ module _ (T : GivenF) (rs : List (List ℕ)) (lengths : List ℕ) where
     pub inside : All (λ (k : ℕ). k < length rs) (take n pending)
     pub same : firstEmptiedF T (map (partAt rs) (sort (byLength lengths) (take n pending))) ≡ searchF T rs
 
-  pub trying-first : Front (map length rs) lengths → (pending old : List ℕ) (n : ℕ) → n ≡ length rs → length old ≡ room → pending ≡ written (count 0 n) old
-      → Trying pending n
+  pub trying-first : ((k : ℕ) → k < length rs → getD lengths k 0 ≡ length (runAt rs k)) → length rs ≤ room → (pending old : List ℕ) (n : ℕ) → n ≡ length rs → length old ≡ room
+      → pending ≡ written (count 0 n) old → Trying pending n
   unfolding searchF
-  trying-first F pending old n en long e =
+  trying-first each few pending old n en long e =
       let many : length (count 0 n) ≡ n = length-count 0 n in
-      let runs : length (map length rs) ≡ length rs = length-map rs length in
-      let fits : n ≤ room = omega (arith, F .fits) in
       let front : take n pending ≡ count 0 (length rs) = ap (take n) e ∙ ap (λ (m : ℕ). take m (written (count 0 n) old)) (sym many) ∙ front-written (count 0 n) old ∙ ap (count 0) en in
-      let each : (k : ℕ) → k < length rs → getD lengths k 0 ≡ length (runAt rs k) = λ k h. front-at F k 0 (omega arith) ∙ List·getD-map length rs k [] in
       record {
         long = ap length e ∙ length-written (count 0 n) old (omega arith) ∙ long;
-        fits = fits;
-        few = omega (arith, F .fits);
+        fits = omega arith;
+        few = few;
         inside = rw front (count-below (length rs));
         same = rw front (ap (firstEmptiedF T) (order-is lengths rs each));
       }
@@ -96,27 +90,27 @@ module _ (T : GivenF) (rs : List (List ℕ)) (lengths : List ℕ) where
 
 -- ---- the searches
 
-module _ (T : GivenF) (given : List (List ℕ)) where
+module _ (T : GivenF) (whole : List (List ℕ)) where
   -- the searches that may still follow lead from here to the answer
   pub record Searching (left : Runs) : Type 0 where
     pub sound : Sound left
     pub bound : ℕ
     pub enough : length (runsIn left) ≤ bound
-    pub same : searchesF T bound (runsIn left) ≡ eliminatedF T given
+    pub same : searchesF T bound (runsIn left) ≡ eliminatedF T whole
 
-  pub searching-first : (left : Runs) → Sound left → runsIn left ≡ given → Searching left
+  pub searching-first : (left : Runs) → Sound left → runsIn left ≡ whole → Searching left
   unfolding eliminatedF
-  searching-first left S e = record { sound = S; bound = length given; enough = omega (arith, ap length e); same = ap (searchesF T (length given)) e }
+  searching-first left S e = record { sound = S; bound = length whole; enough = omega (arith, ap length e); same = ap (searchesF T (length whole)) e }
 
   module _ (left : Runs) (X : Searching left) where
     abbrev kept : List (List ℕ)
     kept = nonEmpty (runsIn left)
 
-    pub searching-over : searchF T kept ≡ none → kept ≡ eliminatedF T given
+    pub searching-over : searchF T kept ≡ none → kept ≡ eliminatedF T whole
     unfolding searchesF
     searching-over e = go (X .bound) (X .same)
       where
-        go : (b : ℕ) → searchesF T b (runsIn left) ≡ eliminatedF T given → kept ≡ eliminatedF T given
+        go : (b : ℕ) → searchesF T b (runsIn left) ≡ eliminatedF T whole → kept ≡ eliminatedF T whole
         go zero q = q
         go (suc b) q = (let d : kept ≡ searchesF T (suc b) (runsIn left) = rw e in d) ∙ q
 
@@ -131,7 +125,7 @@ module _ (T : GivenF) (given : List (List ℕ)) where
       unfolding searchesF
       searching-again = go (X .bound) (X .enough) (X .same)
         where
-          go : (b : ℕ) → length (runsIn left) ≤ b → searchesF T b (runsIn left) ≡ eliminatedF T given → Searching next
+          go : (b : ℕ) → length (runsIn left) ≤ b → searchesF T b (runsIn left) ≡ eliminatedF T whole → Searching next
           go zero h q = absurd (none-left (fewer .one-less) (non-empty-fewer (runsIn left) .runs-most) h)
             where
               none-left : suc (length (runsIn next)) ≡ length kept → length kept ≤ length (runsIn left) → length (runsIn left) ≤ 0 → ⊥
@@ -148,9 +142,9 @@ pub record Pick (rs : List (List ℕ)) (pending : List ℕ) (n j : ℕ) : Type 0
   pub inside : getD pending j 0 < length rs
 
 -- what follows from its answer, among the runs that are left of those before
-pub record Turn (T : GivenF) (before kept : Runs) (lengths pending : List ℕ) (n j : ℕ) (t : Tried) : Type 0 where
-  pub found : t .found ≡ true → searchF T (nonEmpty (runsIn before)) ≡ some (runsIn (t .runs))
-  pub more : t .found ≡ false → (less : List ℕ) → length less ≡ room → take (n - 1) less ≡ without j (take n pending)
+pub record Turn (T : GivenF) (before kept : Runs) (lengths pending : List ℕ) (n j : ℕ) (goes : Bool) (new : Runs) : Type 0 where
+  pub found : goes ≡ true → searchF T (nonEmpty (runsIn before)) ≡ some (runsIn new)
+  pub more : goes ≡ false → (less : List ℕ) → length less ≡ room → take (n - 1) less ≡ without j (take n pending)
       → Trying T (runsIn kept) lengths less (n - 1)
 
 module _ (T : GivenF) (kept : Runs) (lengths pending : List ℕ) (n : ℕ) (Y : Trying T (runsIn kept) lengths pending n) where
@@ -162,12 +156,12 @@ module _ (T : GivenF) (kept : Runs) (lengths pending : List ℕ) (n : ℕ) (Y : 
     tried-pick =
         record { picks = trying-picks T (runsIn kept) lengths pending n Y h j ej; inside = trying-inside T (runsIn kept) lengths pending n Y h j ej }
 
-    pub tried-turn : (before left : Runs) → runsIn kept ≡ nonEmpty (runsIn before) → left ≡ kept
-        → (t : Tried) → Tries (emptiedF T (partAt (runsIn left) (getD pending j 0))) t → Turn T before kept lengths pending n j t
-    tried-turn before left ek el t R =
-        let answer : triedOf t ≡ emptiedF T (partAt (runsIn kept) (getD pending j 0)) =
+    pub tried-turn : (before left : Runs) → runsIn kept ≡ nonEmpty (runsIn before) → left ≡ kept → (goes : Bool) (new : Runs)
+        → Tries (emptiedF T (partAt (runsIn left) (getD pending j 0))) goes new → Turn T before kept lengths pending n j goes new
+    tried-turn before left ek el goes new R =
+        let answer : given goes (runsIn new) ≡ emptiedF T (partAt (runsIn kept) (getD pending j 0)) =
         R .is ∙ ap (λ (r : Runs). emptiedF T (partAt (runsIn r) (getD pending j 0))) el in
         record {
-          found = λ f. ap (searchF T) (sym ek) ∙ trying-found T (runsIn kept) lengths pending n Y h j ej (runsIn (t .runs)) (rw f at answer);
+          found = λ f. ap (searchF T) (sym ek) ∙ trying-found T (runsIn kept) lengths pending n Y h j ej (runsIn new) (rw f at answer);
           more = λ f less long el. trying-more T (runsIn kept) lengths pending n Y h j ej (rw f at answer) less long el;
         }

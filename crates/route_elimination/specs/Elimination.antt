@@ -15,9 +15,8 @@ use Rattle.definitions.specs.Room.{written}
 use Rattle.definitions.specs.Elimination.{nonEmpty, Parted, parted}
 use Rattle.whole.specs.Whole.{fl}
 use Rattle.improve_base.specs.Route.{routeDistanceF}
-use Rattle.improve_runs.specs.RunLists.{Sound, runsIn, runAt}
+use Rattle.improve_runs.specs.RunLists.{Runs, Sound, runsIn, runAt}
 use Rattle.improve_runs.specs.Least.{bySeats}
-use Rattle.route_elimination.specs.declared.route_elimination.Tried.{Tried}
 use Rattle.route_elimination.specs.declared.route_elimination.Left.{Left}
 use Rattle.route_elimination.specs.Insertion.{GivenF, legF, demandF, placeAllF}
 
@@ -58,13 +57,15 @@ module _ (G : GivenF) where
   unfoldable pub eliminatedF : List (List ℕ) → List (List ℕ)
   eliminatedF runs = searchesF (length runs) runs
 
--- what is answered
-abbrev pub triedOf : Tried → Option (List (List ℕ))
-triedOf t = cond (t .found) (some (runsIn (t .runs))) none
+-- what is answered: a run can go, and the runs that are left then
+pub record Tries (o : Option (List (List ℕ))) (goes : Bool) (new : Runs) : Type 0 where
+  pub is : given goes (runsIn new) ≡ o
+  pub sound : goes ≡ true → Sound new
 
-pub record Tries (o : Option (List (List ℕ))) (t : Tried) : Type 0 where
-  pub is : triedOf t ≡ o
-  pub sound : Sound (t .runs)
+-- the runs that are left in the end
+pub record Eliminates (answer : List (List ℕ)) (left : Runs) : Type 0 where
+  pub is : runsIn left ≡ answer
+  pub sound : Sound left
 
 -- how many calls and runs are left
 pub record Counts (rs : List (List ℕ)) (calls runs : ℕ) : Type 0 where

@@ -1,16 +1,15 @@
--- Where a customer may go and what it adds there, on floats, as the code has it. Definitions only.
+-- Where a customer may go, what it adds there and the best of these places, on floats, as the code has it. Definitions only.
 use Prim.Native.Nat.{ℕ, suc, _≤_, _<_}
 use mathlib.Core.Path.{_≡_}
-use mathlib.Core.Bool.{Bool, true, cond}
+use mathlib.Core.Bool.{Bool, true, false, cond, _&&_}
 use mathlib.Core.List.{List, [], _∷_, _++_, map}
 use mathlib.Core.Option.{Option, none, some, Option·map}
-use lib.ListN.{length, getD, take}
+use lib.ListN.{length, getD}
 use lib.Ieee as Ieee
-use lib.Ieee.{Float, binary64}
-use Rattle.basics.specs.Options.{_>>=_, Holds}
-use Rattle.basics.specs.Lists.{count}
+use lib.Ieee.{Float, binary64, inf}
+use Rattle.basics.specs.Options.{_>>=_, Holds, given}
+use Rattle.basics.specs.Lists.{count, only}
 use Rattle.definitions.specs.Load.{Load}
-use Rattle.definitions.specs.Sort.{sort}
 use Rattle.models.specs.declared.customer.Customer.{Customer}
 use Rattle.models.specs.declared.load.Space.{Space}
 use Rattle.models.specs.Load.{spaceOf}
@@ -18,14 +17,17 @@ use Rattle.evaluation.specs.Records.{Tables, lent}
 use Rattle.evaluation.specs.Tables as Tables
 use Rattle.evaluation.specs.Tables.{distanceF, placeBefore}
 use Rattle.evaluation.specs.Route.{feasibleF}
+use Rattle.cut_stops.specs.Stops.{Numbers, listed}
 use Rattle.improve_base.specs.declared.search.Search.{Search}
 use Rattle.improve_base.specs.Search.{SearchF, searchOf}
-use Rattle.improve_runs.specs.RunLists.{Sound, runsIn, runAt, putIn}
-use Rattle.route_elimination.specs.declared.insertion.Given.{Given}
+use Rattle.improve_runs.specs.RunLists.{Runs, runsIn, Sound, runAt, insertAt, putIn}
 use Rattle.route_elimination.specs.declared.insertion.Spot.{Spot}
-use Rattle.route_elimination.specs.declared.insertion.Best.{Best}
-use Rattle.route_elimination.specs.declared.insertion.Best.the-variants.{At, Nowhere}
-use Rattle.route_elimination.specs.declared.insertion.Placed.{Placed}
+use Rattle.route_elimination.specs.declared.tested.Given.{Given}
+use Rattle.route_elimination.specs.declared.tested.Mover.{Mover}
+use Rattle.route_elimination.specs.declared.chosen.Best.{Best}
+use Rattle.route_elimination.specs.declared.chosen.Best.the-variants.{At, Nowhere}
+use Rattle.route_elimination.specs.declared.placing.Placed.{Placed}
+use Rattle.route_elimination.specs.declared.placing.Placed.the-variants.{All, NotAll}
 use Rattle.route_elimination.specs.Loads.{roomF}
 
 -- ---- what is lent
@@ -38,19 +40,17 @@ pub record GivenF : Type 0 where
   -- what an improver is told of the sheet
   pub search : SearchF
 
+abbrev pub givenOf : Tables → Space → Float → Search → GivenF
+givenOf tables capacity fixed search = record { tables = tables; capacity = spaceOf capacity; fixed = fixed; search = searchOf search }
+
 abbrev pub lentGiven : List Customer → List Float → List Float → ℕ → Space → Float → Search → GivenF
-lentGiven customers distances times size capacity fixed search =
-    record {
-      tables = lent customers distances times size;
-      capacity = spaceOf capacity;
-      fixed = fixed;
-      search = searchOf search;
-    }
+lentGiven customers distances times size capacity fixed search = givenOf (lent customers distances times size) capacity fixed search
 
-abbrev pub givenIn : Given → List Float → List Float → GivenF
-givenIn g distances times = lentGiven (g .customers) distances times (g .size) (g .capacity) (g .fixed) (g .search)
+-- with the records in lists of numbers
+abbrev pub givenIn : Given → Numbers → List Float → List Float → GivenF
+givenIn g records distances times = givenOf (listed records distances times (g .size)) (g .capacity) (g .fixed) (g .search)
 
--- ---- one place
+-- ---- the places
 
 -- what c adds before call number pos of a run
 unfoldable pub addsF : (ℕ → ℕ → Float) → List ℕ → ℕ → ℕ → Float
@@ -59,55 +59,112 @@ addsF leg run pos c =
     let next = getD run pos 0 in
     Ieee.sub binary64 (Ieee.add binary64 (leg prev c) (leg c next)) (leg prev next)
 
--- a customer's place in a run, and what it adds there
-pub record Candidate : Type 0 where
-  pub cost : Float
-  pub run : ℕ
-  pub pos : ℕ
-
-abbrev pub candidateF : (ℕ → ℕ → Float) → ℕ → ℕ → List ℕ → ℕ → Candidate
-candidateF leg k c run pos = record { cost = addsF leg run pos c; run = k; pos = pos }
+-- that place in run k
+abbrev pub spotF : (ℕ → ℕ → Float) → ℕ → ℕ → List ℕ → ℕ → Spot
+spotF leg k c run pos = record { run = k; pos = pos; cost = addsF leg run pos c }
 
 -- each place in run k, from before the first call to behind the last
-abbrev pub placesIn : (ℕ → ℕ → Float) → ℕ → ℕ → List ℕ → List Candidate
-placesIn leg k c run = map (candidateF leg k c run) (count 0 (suc (length run)))
+abbrev pub placesIn : (ℕ → ℕ → Float) → ℕ → ℕ → List ℕ → List Spot
+placesIn leg k c run = map (spotF leg k c run) (count 0 (suc (length run)))
 
--- by rising cost
-abbrev pub cheaper : Candidate → Candidate → Bool
-cheaper x y = Ieee.le (x .cost) (y .cost)
+-- those of a run that has room
+abbrev pub offered : Bool → List Spot → List Spot
+offered fits places = cond fits places []
 
 -- the places of c in run k, where there is room for it
-abbrev pub placesOf : (ℕ → ℕ → Float) → (ℕ → List ℕ → Bool) → ℕ → ℕ → List ℕ → List Candidate
-placesOf leg room k c run = cond (room c run) (placesIn leg k c run) []
+abbrev pub placesOf : (ℕ → ℕ → Float) → (ℕ → List ℕ → Bool) → ℕ → ℕ → List ℕ → List Spot
+placesOf leg room c k run = offered (room c run) (placesIn leg k c run)
 
--- and in the runs behind it
-unfoldable pub candidatesFrom : (ℕ → ℕ → Float) → (ℕ → List ℕ → Bool) → ℕ → ℕ → List (List ℕ) → List Candidate
-candidatesFrom leg room k c [] = []
-candidatesFrom leg room k c (r ∷ rs) = placesOf leg room k c r ++ candidatesFrom leg room (suc k) c rs
+-- places in each run, from run k on
+unfoldable pub eachFrom : (ℕ → List ℕ → List Spot) → ℕ → List (List ℕ) → List Spot
+eachFrom places k [] = []
+eachFrom places k (r ∷ rs) = places k r ++ eachFrom places (suc k) rs
 
--- three lists side by side: what each candidate adds, its run and its place in it
-pub record Columns : Type 0 where
-  pub costs : List Float
-  pub runs : List ℕ
-  pub spots : List ℕ
+-- ---- the best of them
 
-abbrev pub columns : List Float → List ℕ → List ℕ → Columns
-columns costs runs spots = record { costs = costs; runs = runs; spots = spots }
+-- from the first element to the last
+unfoldable pub folded : {A B : Type 0} → (B → A → B) → B → List A → B
+folded f b [] = b
+folded f b (x ∷ l) = folded f (f b x) l
 
--- n candidates at the front of three lists of 256
-pub record Listed (l : List Candidate) (n : ℕ) (t : Columns) : Type 0 where
-  pub many : length l ≡ n
-  pub fits : n ≤ 256
-  pub costs-long : length (t .costs) ≡ 256
-  pub runs-long : length (t .runs) ≡ 256
-  pub spots-long : length (t .spots) ≡ 256
-  pub costs-are : take n (t .costs) ≡ map (λ (x : Candidate). x .cost) l
-  pub runs-are : take n (t .runs) ≡ map (λ (x : Candidate). x .run) l
-  pub spots-are : take n (t .spots) ≡ map (λ (x : Candidate). x .pos) l
+-- no place: what is added is infinite
+abbrev pub nowhereF : Spot
+nowhereF = record { run = 0; pos = 0; cost = inf false }
 
--- candidates put behind whichever n are listed: there are m then
-abbrev pub Adds : List Candidate → ℕ → Columns → ℕ → Columns → Type 0
-Adds places n old m new = (l : List Candidate) → Listed l n old → Listed (l ++ places) m new
+-- the cheaper of two places, the first among equals
+abbrev pub cheaperF : Spot → Spot → Spot
+cheaperF best x = cond (Ieee.lt (x .cost) (best .cost)) x best
+
+-- the cheapest in run k
+abbrev pub leastIn : (ℕ → ℕ → Float) → ℕ → ℕ → List ℕ → List Spot
+leastIn leg k c run = folded cheaperF nowhereF (placesIn leg k c run) ∷ []
+
+abbrev pub leastOf : (ℕ → ℕ → Float) → (ℕ → List ℕ → Bool) → ℕ → ℕ → List ℕ → List Spot
+leastOf leg room c k run = offered (room c run) (leastIn leg k c run)
+
+-- no dearer than this
+abbrev pub upTo : Float → Spot → Bool
+upTo bound x = Ieee.le (x .cost) bound
+
+-- less is added than is saved
+abbrev pub paysF : Mover → Float → Bool
+paysF m cost = Ieee.lt (Ieee.add binary64 (m .added) cost) (m .saved)
+
+-- the best place so far, or one that pays, is cheaper and is allowed
+abbrev pub betterF : Mover → Spot → Spot → Bool → Spot
+betterF m best x allowed = cond (paysF m (x .cost) && (Ieee.lt (x .cost) (best .cost) && allowed)) x best
+
+-- no dearer than the bound, cheaper than the best so far, and it pays
+abbrev pub wantedF : Mover → Float → Spot → Float → Bool
+wantedF m bound best cost = Ieee.le cost bound && (Ieee.lt cost (best .cost) && paysF m cost)
+
+-- place number r of a run is the first from number `from` on that is wanted; there is none where it is behind the last
+pub record Wants (m : Mover) (bound : Float) (best : Spot) (leg : ℕ → ℕ → Float) (run : List ℕ) (from r : ℕ) : Type 0 where
+  pub at-least : from ≤ r
+  pub at-most : r ≤ suc (length run)
+  pub passed : (j : ℕ) → from ≤ j → j < r → wantedF m bound best (addsF leg run j (m .call)) ≡ false
+  pub wanted : r ≤ length run → wantedF m bound best (addsF leg run r (m .call)) ≡ true
+
+module _ (G : GivenF) where
+  abbrev pub legF : ℕ → ℕ → Float
+  legF = distanceF (G .tables)
+
+  abbrev pub demandF : ℕ → Load
+  demandF = Tables.demandF (G .tables .customers)
+
+  abbrev pub roomsF : ℕ → List ℕ → Bool
+  roomsF = roomF demandF (G .capacity)
+
+  abbrev pub candidatesF : ℕ → List (List ℕ) → List Spot
+  candidatesF c runs = eachFrom (placesOf legF roomsF c) 0 runs
+
+  -- feasible, where that is asked
+  unfoldable pub allowedF : List ℕ → Bool
+  allowedF run = cond (G .search .constrained) (feasibleF (G .tables) (G .search .limits) run) true
+
+  module _ (m : Mover) where
+    -- of the places in one run, and of those in several
+    abbrev pub betterIn : List ℕ → Spot → Spot → Spot
+    betterIn run best x = betterF m best x (allowedF (insertAt (x .pos) (m .call) run))
+
+    abbrev pub betterOf : List (List ℕ) → Spot → Spot → Spot
+    betterOf runs best x = betterIn (runAt runs (x .run)) best x
+
+    -- a place that is allowed, of the cheapest in each run
+    abbrev pub boundF : List (List ℕ) → Spot
+    boundF runs = folded (betterOf runs) nowhereF (eachFrom (leastOf legF roomsF (m .call)) 0 runs)
+
+    -- the best of those that are no dearer
+    abbrev pub testedF : List (List ℕ) → Spot
+    testedF runs = folded (betterOf runs) nowhereF (only (upTo (boundF runs .cost)) (candidatesF (m .call) runs))
+
+    -- the first of the cheapest, if it pays and is allowed; or else the first of the cheapest that do
+    unfoldable pub bestF : List (List ℕ) → Option Spot
+    bestF runs =
+        let least = folded cheaperF nowhereF (candidatesF (m .call) runs) in
+        let best = testedF runs in
+        let allowed = allowedF (insertAt (least .pos) (m .call) (runAt runs (least .run))) in
+        cond (paysF m (least .cost)) (cond allowed (some least) (given (paysF m (best .cost)) best)) none
 
 -- ---- what is answered
 
@@ -130,49 +187,27 @@ pub record PlacedF : Type 0 where
   pub runs : List (List ℕ)
   pub added : Float
 
-abbrev pub placedOf : Placed → Option PlacedF
-placedOf p = cond (p .found) (some (record { runs = runsIn (p .runs); added = p .added })) none
+abbrev pub placedOf : Placed → List (List ℕ) → Option PlacedF
+placedOf NotAll runs = none
+placedOf (All added) runs = some (record { runs = runs; added = added })
 
-pub record Answers (o : Option PlacedF) (p : Placed) : Type 0 where
-  pub is : placedOf p ≡ o
-  pub sound : Sound (p .runs)
+pub record Answers (o : Option PlacedF) (p : Placed) (new : Runs) : Type 0 where
+  pub is : placedOf p (runsIn new) ≡ o
+  pub sound : Holds (λ (q : PlacedF). Sound new) (placedOf p (runsIn new))
+
+-- ---- the customers placed
 
 -- the runs with c at its place
-abbrev pub putAt : ℕ → List (List ℕ) → Spot → PlacedF
-putAt c runs x = record { runs = putIn (x .run) (x .pos) c runs; added = x .added }
+abbrev pub putAt : Mover → List (List ℕ) → Spot → PlacedF
+putAt m runs x = record { runs = putIn (x .run) (x .pos) (m .call) runs; added = Ieee.add binary64 (m .added) (x .cost) }
 
--- ---- the places of a customer in the runs
+abbrev pub moverF : ℕ → Float → Float → Mover
+moverF c added saved = record { call = c; added = added; saved = saved }
 
 module _ (G : GivenF) where
-  abbrev pub legF : ℕ → ℕ → Float
-  legF = distanceF (G .tables)
-
-  abbrev pub demandF : ℕ → Load
-  demandF = Tables.demandF (G .tables .customers)
-
-  abbrev pub candidatesF : ℕ → List (List ℕ) → List Candidate
-  candidatesF c runs = candidatesFrom legF (roomF demandF (G .capacity)) 0 c runs
-
-  -- feasible, where that is asked
-  unfoldable pub allowedF : List ℕ → Bool
-  allowedF run = cond (G .search .constrained) (feasibleF (G .tables) (G .search .limits) run) true
-
-  -- the first candidate that is allowed; the search stops where what is added reaches what is saved
-  unfoldable pub firstPayingF : Float → Float → ℕ → List (List ℕ) → List Candidate → Option Spot
-  firstPayingF added saved c runs [] = none
-  firstPayingF added saved c runs (x ∷ xs) =
-      let grown = runAt (putIn (x .run) (x .pos) c runs) (x .run) in
-      let sum = Ieee.add binary64 added (x .cost) in
-      let later = firstPayingF added saved c runs xs in
-      let here : Spot = record { run = x .run; pos = x .pos; added = sum } in
-      cond (Ieee.le saved sum) none (cond (allowedF grown) (some here) later)
-
-  unfoldable pub bestF : Float → Float → ℕ → List (List ℕ) → Option Spot
-  bestF added saved c runs = firstPayingF added saved c runs (sort cheaper (candidatesF c runs))
-
   -- c put there
   abbrev pub placeF : Float → Float → ℕ → List (List ℕ) → Option PlacedF
-  placeF added saved c runs = Option·map (putAt c runs) (bestF added saved c runs)
+  placeF added saved c runs = let m = moverF c added saved in Option·map (putAt m runs) (bestF G m runs)
 
   -- all of the customers, one after the other
   unfoldable pub placeAllF : Float → Float → List ℕ → List (List ℕ) → Option PlacedF

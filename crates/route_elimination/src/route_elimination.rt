@@ -2,41 +2,38 @@
 // where that adds less than the run costs.
 ghost use mathlib.Core.Path.{_≡_};
 ghost use mathlib.Core.Bool.{false};
-ghost use mathlib.Core.List.{map};
-ghost use Prim.Native.Nat.{_<_, _≤_};
+ghost use Prim.Native.Nat.{_-_, _<_, _≤_};
 ghost use lib.ListN.{length};
 ghost use Rattle.definitions.specs.RunList.{runsOf};
 ghost use Rattle.definitions.specs.Refusals.{endsFall};
-ghost use Rattle.models.specs.Records.{customerOf};
 ghost use Rattle.evaluation.specs.Tables.{Asks};
-ghost use Rattle.improve_runs.specs.RunLists.{Sound, runsIn};
+ghost use Rattle.cut_stops.specs.Stops.{numbers, Long, recordsIn};
+ghost use Rattle.improve_runs.specs.RunLists.{room, Sound, runs, runsIn};
 ghost use Rattle.route_elimination.specs.Insertion.{givenIn, lentGiven};
-ghost use Rattle.route_elimination.specs.Elimination.{finiteF, partAt, Tries, emptiedF, eliminatedF, lists, Leaves};
-use crate::insertion::Given;
-use crate::insertion::place_all;
+ghost use Rattle.route_elimination.specs.Elimination.{finiteF, partAt, Tries, emptiedF, eliminatedF, Eliminates, lists, Leaves};
+use crate::placing::Placed;
+use crate::placing::place_all;
+use crate::tested::Given;
+use cut_stops::stops::ALL_CODES;
+use cut_stops::stops::ALL_FIGURES;
+use cut_stops::stops::work_out;
 use cut_table::held::number;
 use cut_table::held::remove;
 use cut_table::held::write_front;
 use evaluation::load::Demands;
 use evaluation::load::demands_of;
+use evaluation::route::place_before;
 use improve_base::route::route_distance;
 use improve_base::search::Search;
 use improve_runs::picking::shortest;
-use improve_runs::runs::Runs;
-use improve_runs::runs::gathered;
+use improve_runs::runs::drop_empty;
 use improve_runs::runs::lengths_of;
-use improve_runs::runs::non_empty;
-use improve_runs::runs::start_of;
+use improve_runs::runs::paste;
+use improve_runs::runs::take_over;
 use improve_runs::runs::without_run;
 use models::customer::Customer;
 use models::load::Space;
 use whole::infinity;
-
-// Whether a run could go, and then the runs that are left. Here too the flag stands beside arrays.
-pub struct Tried {
-    pub found: bool,
-    pub runs: Runs,
-}
 
 // How many calls and runs are left.
 pub struct Left {
@@ -52,69 +49,121 @@ pub fn is_finite(x: f64) -> bool
     x < top && -top < x
 }
 
-// The runs without run r, if they take its customers for less than it costs.
+// Whether run r can go: the others take its customers for less than it costs. They are then in the other two lists.
 pub fn emptied(
-    runs: Runs,
+    calls: &[usize],
+    ends: &[usize],
+    many: usize,
+    count: usize,
     r: usize,
+    rest_calls: &mut [usize],
+    rest_ends: &mut [usize],
     given: Given,
     demands: &Demands,
+    codes: &[u32],
+    figures: &[f64],
     distances: &[f64],
     times: &[f64],
-) -> Tried
-    requires { ⌜ Sound runs × (r < runs .count) × Asks (map customerOf (given .customers)) (now demands) ⌝ }
-    ensures { λ t.
-        let G = givenIn given (now (distances .entry)) (now (times .entry)) in
-        ⌜ Tries (emptiedF G (partAt (runsIn runs) r)) t ⌝ }
+) -> bool
+    requires { ⌜ Sound (runs (now calls) (now ends) many count) × (r < count) ⌝ }
+    requires { ⌜ (length (now «rest_calls») ≡ room) × (length (now «rest_ends») ≡ room) ⌝ }
+    requires { let lists = numbers (now codes) (now figures) in
+        ⌜ Long lists × Asks (recordsIn lists) (now demands) ⌝ }
+    ensures { λ goes.
+        let lists = numbers (now (codes .entry)) (now (figures .entry)) in
+        let G = givenIn given lists (now (distances .entry)) (now (times .entry)) in
+        let old = runsIn (runs (now (calls .entry)) (now (ends .entry)) many count) in
+        let new = runs (now («rest_calls» .exit)) (now («rest_ends» .exit)) many (count - 1) in
+        ⌜ Tries (emptiedF G (partAt old r)) goes new ⌝ }
 {
-    let calls = runs.calls;
-    let ends = runs.ends;
-    let from = start_of(ends, r);
-    let to = start_of(ends, r + 1);
+    let from = place_before(ends, r);
+    let to = ends[r];
     let run = &calls[from..to];
     let saved = route_distance(run, distances, given.size) + given.fixed;
     if !is_finite(saved) {
-        return Tried { found: false, runs };
+        return false;
     }
-    let rest = without_run(runs, r);
-    let p = place_all(rest, run, saved, given, demands, distances, times);
-    if !p.found {
-        return Tried { found: false, runs };
-    }
+    let held = without_run(
+        calls,
+        ends,
+        many,
+        count,
+        r,
+        &mut *rest_calls,
+        &mut *rest_ends,
+    );
+    let Placed::All(added) = place_all(
+        &mut *rest_calls,
+        &mut *rest_ends,
+        held,
+        count - 1,
+        run,
+        saved,
+        given,
+        demands,
+        codes,
+        figures,
+        distances,
+        times,
+    ) else {
+        return false;
+    };
     let search = given.search;
-    if p.added < saved - search.floor {
-        let left = p.runs;
-        return Tried {
-            found: true,
-            runs: left,
-        };
-    }
-    Tried { found: false, runs }
+    added < saved - search.floor
 }
 
-// The shortest run that can go goes, and the search begins again, until none can.
-pub fn eliminate(runs: Runs, given: Given, distances: &[f64], times: &[f64]) -> Runs
-    requires { ⌜ Sound runs ⌝ }
-    ensures { λ r.
-        let G = givenIn given (now (distances .entry)) (now (times .entry)) in
-        ⌜ Sound r × (runsIn r ≡ eliminatedF G (runsIn runs)) ⌝ }
+// The shortest run that can go goes, and the search begins again, until none can. Gives how many runs are left.
+pub fn eliminate(
+    calls: &mut [usize],
+    ends: &mut [usize],
+    many: usize,
+    count: usize,
+    given: Given,
+    demands: &Demands,
+    codes: &[u32],
+    figures: &[f64],
+    distances: &[f64],
+    times: &[f64],
+) -> usize
+    requires { ⌜ Sound (runs (now calls) (now ends) many count) ⌝ }
+    requires { let lists = numbers (now codes) (now figures) in
+        ⌜ Long lists × Asks (recordsIn lists) (now demands) ⌝ }
+    ensures { λ left.
+        let lists = numbers (now (codes .entry)) (now (figures .entry)) in
+        let G = givenIn given lists (now (distances .entry)) (now (times .entry)) in
+        let old = runsIn (runs (now (calls .entry)) (now (ends .entry)) many count) in
+        ⌜ Eliminates (eliminatedF G old) (runs (now (calls .exit)) (now (ends .exit)) many left) ⌝ }
 {
-    let customers = given.customers;
-    let demands = demands_of(customers);
-    let mut left = runs;
+    let mut rest_calls = [0usize; 128];
+    let mut rest_ends = [0usize; 128];
+    let mut left = count;
     'search: loop {
-        let kept = non_empty(left);
-        left = kept;
-        let lengths = lengths_of(left);
+        left = drop_empty(&mut *ends, left);
+        let lengths = lengths_of(ends, left);
         let mut pending = [0usize; 128];
-        let mut n = left.count;
+        let mut n = left;
         number(&mut pending, 0, n);
         while 0 < n {
             let j = shortest(&pending[..n], &lengths);
             let r = pending[j];
-            let t = emptied(left, r, given, &demands, distances, times);
-            if t.found {
-                let fewer = t.runs;
-                left = fewer;
+            let goes = emptied(
+                calls,
+                ends,
+                many,
+                left,
+                r,
+                &mut rest_calls,
+                &mut rest_ends,
+                given,
+                demands,
+                codes,
+                figures,
+                distances,
+                times,
+            );
+            if goes {
+                left -= 1;
+                take_over(&mut *calls, &mut *ends, &rest_calls, &rest_ends, many, left);
                 continue 'search;
             }
             remove(&mut pending, n, j);
@@ -149,20 +198,34 @@ pub fn eliminate_routes(
         ⌜ Leaves (eliminatedF G (runsOf (now (calls .entry)) (now (ends .entry)))) r old new ⌝ }
 {
     let given = Given {
-        customers,
         size,
         capacity,
         fixed,
         search,
     };
-    let runs = gathered(calls, ends);
-    let left = eliminate(runs, given, distances, times);
-    let new_calls = left.calls;
-    let new_ends = left.ends;
-    let many = left.many;
-    let count = left.count;
-    write_front(&new_calls[..many], &mut *out_calls);
-    write_front(&new_ends[..count], &mut *out_ends);
+    let demands = demands_of(customers);
+    let mut codes = [0u32; ALL_CODES];
+    let mut figures = [0.0; ALL_FIGURES];
+    work_out(customers, distances, times, size, &mut codes, &mut figures);
+    let many = calls.len();
+    let mut held_calls = [0usize; 128];
+    let mut held_ends = [0usize; 128];
+    paste(&mut held_calls, 0, calls);
+    paste(&mut held_ends, 0, ends);
+    let count = eliminate(
+        &mut held_calls,
+        &mut held_ends,
+        many,
+        ends.len(),
+        given,
+        &demands,
+        &codes,
+        &figures,
+        distances,
+        times,
+    );
+    write_front(&held_calls[..many], &mut *out_calls);
+    write_front(&held_ends[..count], &mut *out_ends);
     Left {
         calls: many,
         runs: count,

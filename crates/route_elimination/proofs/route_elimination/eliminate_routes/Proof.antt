@@ -1,73 +1,149 @@
 -- `route_elimination::eliminate_routes` meets its contract. Assumes nothing.
 use Prim.Native.Nat.{ℕ}
 use native.Mathlib.Omega.{arith}
-use mathlib.Core.Path.{sym, ap, _∙_}
-use mathlib.Core.List.{List}
+use mathlib.Core.Path.{_≡_, sym, ap, subst, _∙_}
+use mathlib.Core.List.{List, map}
 use lib.ListN.{length}
 use lib.Seq.{length-take-le}
+use lib.Ieee.{Float}
 use denote.Ref.{now}
+use Rattle.cut_stops.specs.Stops.{Numbers, numbers, recordsIn, listed, WorkedOut}
+use Rattle.cut_stops.proofs.Listed.{listed-lent}
 use Rattle.definitions.specs.Room.{written}
 use Rattle.definitions.specs.RunList.{runsOf}
+use Rattle.definitions.specs.Sheet.{CustomerOf}
+use Rattle.models.specs.Records.{customerOf}
+use Rattle.evaluation.specs.Records.{Tables, lent}
+use Rattle.evaluation.specs.Tables.{Asks}
+use Rattle.improve_runs.specs.RunLists.{Runs, runs, runsIn, Sound}
+use Rattle.improve_runs.proofs.Holding.{lent-runs}
 use Rattle.route_elimination.specs.Elimination.{eliminatedF}
-use Rattle.route_elimination.specs.Insertion.{GivenF, lentGiven}
+use Rattle.route_elimination.specs.Insertion.{GivenF, givenOf, lentGiven}
 use Rattle.route_elimination.proofs.Answering.{Answered, answered}
 use borrow.Author.Needs.{needs}
 use Rattle.route_elimination.proofs.route_elimination.eliminate_routes.Statement.{statement}
 use Rattle.route_elimination.proofs.route_elimination.eliminate_routes.Tie as tie
 
--- ---- the places on the way: from the lent lists, from the runs that are left, and from the calls written
+-- ---- the places on the way: from the lists that are worked out, from the lent run list, from the runs that are left, and from the calls written
 
-abbrev entry : tie.After-shared-slice-known4 → tie.Start
-entry c = c .before .before .before .before
+abbrev entry : tie.After-slice-known2 → tie.Start
+entry c = c .before .before .before .before .before .before
 
-abbrev start : tie.After-eliminate → tie.Start
+abbrev start : tie.After-work-out → tie.Start
 start c = entry (c .before .before .before .before)
+
+abbrev worked : tie.After-held-calls3 → tie.After-work-out
+worked c = c .before .before .before .before .before .before .before
+
+abbrev begin : tie.After-eliminate → tie.Start
+begin c = start (worked (c .before .before .before .before .before))
 
 abbrev left : tie.After-write-front → tie.After-eliminate
 left c = c .before .before .before .before .before
 
-abbrev lent : tie.Start → GivenF
-lent s = let a = s .args in lentGiven (a .customers) (now (a .distances)) (now (a .times)) (a .size) (a .capacity) (a .fixed) (a .search)
+-- the records in lists of numbers are those that are lent
+abbrev records : tie.After-work-out → Numbers
+records c = numbers (c .work-out .last .1 .1 .1 .1 .0) (c .work-out .last .1 .1 .1 .1 .1 .0)
 
-abbrev answer : (c : tie.After-eliminate) →
+tables : (c : tie.After-work-out) →
+    let a = start c .args in
+    listed (records c) (now (a .distances)) (now (a .times)) (a .size) ≡ lent (a .customers) (now (a .distances)) (now (a .times)) (a .size)
+tables c =
     let s = start c in
-    Answered (eliminatedF (lent s) (runsOf (now (s .args .calls)) (now (s .args .ends)))) (now (s .args .calls)) (now (s .args .ends)) (c .eliminate .result)
+    let a = s .args in
+    listed-lent (a .customers) (now (a .distances)) (now (a .times)) (a .size) (records c) (s .good .1 .1 .0 .1 .0 .1) (c .work-out .ensures)
+
+-- the run list as it is held
+abbrev lists : tie.After-held-calls3 → Runs
+lists c =
+    let a = start (worked c) .args in
+    runs (c .before .before .before .before .before .paste .last .0) (c .before .before .paste2 .last .0) (length (now (a .calls))) (length (now (a .ends)))
+
+abbrev begun : (c : tie.After-held-calls3) →
+    let a = start (worked c) .args in
+    Sound (lists c) × (runsIn (lists c) ≡ runsOf (now (a .calls)) (now (a .ends)))
+begun c =
+    let s = start (worked c) in
+    lent-runs (now (s .args .calls)) (now (s .args .ends)) _ _ (c .before .before .before .before .before .paste .ensures) (c .before .before .paste2 .ensures) (s .pre .0 .2)
+
+abbrev lent-all : tie.Start → GivenF
+lent-all s = let a = s .args in lentGiven (a .customers) (now (a .distances)) (now (a .times)) (a .size) (a .capacity) (a .fixed) (a .search)
+
+abbrev over : tie.After-eliminate → Runs
+over c = runs (c .eliminate .last .0) (c .eliminate .last .1 .0) (length (now (begin c .args .calls))) (c .eliminate .result)
+
+answer : (c : tie.After-eliminate) →
+    let s = begin c in
+    Answered (eliminatedF (lent-all s) (runsOf (now (s .args .calls)) (now (s .args .ends)))) (now (s .args .calls)) (now (s .args .ends)) (over c)
 answer c =
-    let s = start c in
-    let l = c .eliminate in
-    answered (lent s) (now (s .args .calls)) (now (s .args .ends)) (s .pre .0 .2) (l .result) (l .ensures .0) _ (c .before .gathered .ensures .1) (l .ensures .1)
+    let known = c .before .before .before .before .before in
+    let s = begin c in
+    let a = s .args in
+    let l = c .eliminate .ensures in
+    let same = ap (λ (t : Tables). eliminatedF (givenOf t (a .capacity) (a .fixed) (a .search)) (runsIn (lists known))) (tables (worked known)) in
+    answered (lent-all s) (now (a .calls)) (now (a .ends)) (s .pre .0 .2) (over c) (l .sound) (runsIn (lists known)) (begun known .1) (l .is ∙ same)
 
-gathered-requires : tie.Need-gathered-requires
-gathered-requires c κs = search needs
+demands-of-requires : tie.Need-demands-of-requires
+demands-of-requires c κs = search needs
+
+work-out-requires : tie.Need-work-out-requires
+work-out-requires c κs = search needs
+
+slice-aggregate-paste : tie.Need-slice-aggregate-paste
+slice-aggregate-paste c = search needs
+
+paste-requires : tie.Need-paste-requires
+paste-requires c κs = search needs
+
+slice-aggregate-paste-2 : tie.Need-slice-aggregate-paste-2
+slice-aggregate-paste-2 c = search needs
+
+paste-requires-2 : tie.Need-paste-requires-2
+paste-requires-2 c κs = search needs
+
+slice-aggregate-eliminate : tie.Need-slice-aggregate-eliminate
+slice-aggregate-eliminate c = search needs
+
+slice-aggregate-eliminate-2 : tie.Need-slice-aggregate-eliminate-2
+slice-aggregate-eliminate-2 c = search needs
+
+slice-aggregate-eliminate-3 : tie.Need-slice-aggregate-eliminate-3
+slice-aggregate-eliminate-3 c = search needs
+
+slice-aggregate-eliminate-4 : tie.Need-slice-aggregate-eliminate-4
+slice-aggregate-eliminate-4 c = search needs
 
 eliminate-requires : tie.Need-eliminate-requires
-eliminate-requires c κs = search needs
+eliminate-requires c κs =
+    let out = worked (c .before .before .before .before) in
+    let known = c .before .before .before .before in
+    (begun known .0, (out .work-out .ensures .long, subst (λ (l : List (CustomerOf Float)). Asks l (out .before .before .before .demands-of .result)) (sym (ap (λ (t : Tables). t .customers) (tables out))) (out .before .before .before .demands-of .ensures .1)))
 
-array-share-prefix-new-calls : tie.Need-array-share-prefix-new-calls
-array-share-prefix-new-calls c = search needs
+array-share-prefix-held-calls : tie.Need-array-share-prefix-held-calls
+array-share-prefix-held-calls c = search needs
 
 slice-aggregate-write-front : tie.Need-slice-aggregate-write-front
 slice-aggregate-write-front c =
-    let S = c .before .before .before .eliminate .ensures .0 in
+    let S = c .before .before .before .eliminate .ensures .sound in
     sym (length-take-le _ _ (omega (arith, S .calls-fit, S .calls-long)))
 
 write-front-requires : tie.Need-write-front-requires
 write-front-requires c κs =
     let gone = c .before .before .before .before in
-    omega (arith, ap length (answer gone .calls-out), answer gone .few-calls, start gone .pre .1 .0)
+    omega (arith, ap length (answer gone .calls-out), answer gone .few-calls, begin gone .pre .1 .0)
 
-array-share-prefix-new-ends : tie.Need-array-share-prefix-new-ends
-array-share-prefix-new-ends c = let S = left (c .before .before) .eliminate .ensures .0 in omega (arith, S .runs-fit, S .ends-long)
+array-share-prefix-held-ends : tie.Need-array-share-prefix-held-ends
+array-share-prefix-held-ends c = search needs
 
 slice-aggregate-write-front-2 : tie.Need-slice-aggregate-write-front-2
 slice-aggregate-write-front-2 c =
-    let S = left (c .before .before .before) .eliminate .ensures .0 in
+    let S = left (c .before .before .before) .eliminate .ensures .sound in
     sym (length-take-le _ _ (omega (arith, S .runs-fit, S .ends-long)))
 
 write-front-requires-2 : tie.Need-write-front-requires-2
 write-front-requires-2 c κs =
     let gone = left (c .before .before .before .before) in
-    omega (arith, ap length (answer gone .ends-out), answer gone .few-runs, start gone .pre .1 .1)
+    omega (arith, ap length (answer gone .ends-out), answer gone .few-runs, begin gone .pre .1 .1)
 
 same-length : tie.Need-same-length
 same-length c = search needs
@@ -80,7 +156,7 @@ returns c =
     let second = c .before .before in
     let first = second .before .before .before .before .before in
     let gone = left first in
-    let a = start gone .args in
+    let a = begin gone .args in
     record {
       counts = answer gone .counts;
       calls-written = first .write-front .ensures ∙ ap (λ (r : List ℕ). written r (now (a .out-calls))) (answer gone .calls-out);
@@ -91,12 +167,21 @@ pub eliminate-routes-spec : {M : Type 1} → statement M
 eliminate-routes-spec =
     tie.close
     (tie.spec
-    gathered-requires
+    demands-of-requires
+    work-out-requires
+    slice-aggregate-paste
+    paste-requires
+    slice-aggregate-paste-2
+    paste-requires-2
+    slice-aggregate-eliminate
+    slice-aggregate-eliminate-2
+    slice-aggregate-eliminate-3
+    slice-aggregate-eliminate-4
     eliminate-requires
-    array-share-prefix-new-calls
+    array-share-prefix-held-calls
     slice-aggregate-write-front
     write-front-requires
-    array-share-prefix-new-ends
+    array-share-prefix-held-ends
     slice-aggregate-write-front-2
     write-front-requires-2
     same-length

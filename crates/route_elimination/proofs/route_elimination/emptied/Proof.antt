@@ -1,63 +1,73 @@
 -- `route_elimination::emptied` meets its contract. Assumes nothing.
-use Prim.Native.Nat.{_-_, _≤_}
+use Prim.Native.Nat.{ℕ, _+_, _-_, _≤_}
 use native.Mathlib.Omega.{arith}
-use mathlib.Core.Path.{_≡_, sym, ap, _∙_}
-use lib.ListN.{length, take, drop}
+use mathlib.Core.Path.{_≡_, refl, sym, ap, subst, _∙_}
+use mathlib.Core.Bool.{true, false≢true}
+use mathlib.Core.List.{List}
+use mathlib.Core.Option.{Option, none, some}
+use lib.ListN.{length, getD, take, drop}
 use lib.Ieee as Ieee
 use lib.Ieee.{Float, binary64}
 use denote.Ref.{now}
 use Rattle.basics.proofs.TestLaws.{not-true, not-false}
+use Rattle.basics.specs.Options.{Holds, given}
+use Rattle.cut_stops.specs.Stops.{numbers}
 use Rattle.definitions.specs.Elimination.{Parted}
-use Rattle.improve_runs.specs.RunLists.{runsIn, runAt}
-use Rattle.improve_runs.proofs.Changing.{run-bound, run-lent}
-use Rattle.route_elimination.specs.Insertion.{GivenF, givenIn}
-use Rattle.route_elimination.specs.Elimination.{partAt, savedF}
-use Rattle.route_elimination.proofs.Emptying.{saved-is, moved-is, not-finite, Decides, decides}
+use Rattle.improve_runs.specs.RunLists.{Runs, runs, runsIn, Sound, runAt}
+use Rattle.improve_runs.proofs.Changing.{run-bound, run-lent, end-is}
+use Rattle.route_elimination.specs.declared.placing.Placed.{Placed}
+use Rattle.route_elimination.specs.declared.placing.Placed.the-variants.{All, NotAll}
+use Rattle.route_elimination.specs.Insertion.{GivenF, PlacedF, givenIn, placedOf}
+use Rattle.route_elimination.specs.Elimination.{partAt, savedF, finiteF}
+use Rattle.route_elimination.proofs.Emptying.{pays, saved-is, movedF, moved-is, not-finite, not-placed, decided}
 use borrow.Author.Needs.{needs}
 use Rattle.route_elimination.proofs.route_elimination.emptied.Statement.{statement}
 use Rattle.route_elimination.proofs.route_elimination.emptied.Tie as tie
 
 -- ---- the places on the way: from the run's first and last call, from the test of what is saved, and from the placing
 
-abbrev entry : tie.After-ends → tie.Start
-entry c = c .before .before .before .before
+abbrev entry : tie.After-shared-slice-known4 → tie.Start
+entry c = c .before .before .before .before .before .before
 
-abbrev start : tie.After-start-of2 → tie.Start
-start c = entry (c .before .before)
+abbrev start : tie.After-place-before → tie.Start
+start c = entry (c .before .before .before)
 
-abbrev cut : tie.After-is-finite → tie.After-start-of2
+abbrev cut : tie.After-is-finite → tie.After-place-before
 cut c = c .before .before .before .before .before
 
-abbrev tested : tie.After-place-all → tie.After-is-finite
-tested c = c .before .before .before
+abbrev tested : tie.After-without-run → tie.After-is-finite
+tested c = c .before .before .before .before
+
+abbrev without : tie.After-place-all-arg2 → tie.After-without-run
+without c = c .before .before .before .before .before .before
 
 abbrev lent : tie.Start → GivenF
-lent s = let a = s .args in givenIn (a .given) (now (a .distances)) (now (a .times))
+lent s = let a = s .args in givenIn (a .given) (numbers (now (a .codes)) (now (a .figures))) (now (a .distances)) (now (a .times))
+
+abbrev old : tie.Start → Runs
+old s = let a = s .args in runs (now (a .calls)) (now (a .ends)) (a .many) (a .count)
 
 abbrev part : tie.Start → Parted
-part s = partAt (runsIn (s .args .runs)) (s .args .r)
+part s = partAt (runsIn (old s)) (s .args .r)
 
-abbrev bound : (c : tie.After-start-of2) →
-    let f = c .before .start-of .result in
-    let t = c .start-of2 .result in
+abbrev bound : (c : tie.After-place-before) →
     let a = start c .args in
-    (f ≤ t) × (t ≤ a .runs .many) × (t - f ≡ length (runAt (runsIn (a .runs)) (a .r)))
+    let f = c .place-before .result in
+    let t = getD (now (a .ends)) (a .r) 0 in
+    (f ≤ t) × (t ≤ a .many) × (t - f ≡ length (runAt (runsIn (old (start c))) (a .r)))
 bound c =
-    let f = c .before .start-of in
-    let t = c .start-of2 in
     let s = start c in
-    run-bound (s .args .runs) (s .args .r) (f .result) (t .result) (s .pre .0, s .pre .1) (f .ensures) (t .ensures)
+    let a = s .args in
+    run-bound (old s) (a .r) (c .place-before .result) (getD (now (a .ends)) (a .r) 0) (s .pre .0) (c .place-before .ensures) (end-is (now (a .ends)) (a .r))
 
-abbrev run : (c : tie.After-start-of2) →
-    let f = c .before .start-of .result in
-    let t = c .start-of2 .result in
+abbrev run : (c : tie.After-place-before) →
     let a = start c .args in
-    take (t - f) (drop f (a .runs .calls)) ≡ runAt (runsIn (a .runs)) (a .r)
+    let f = c .place-before .result in
+    take (getD (now (a .ends)) (a .r) 0 - f) (drop f (now (a .calls))) ≡ runAt (runsIn (old (start c))) (a .r)
 run c =
-    let f = c .before .start-of in
-    let t = c .start-of2 in
     let s = start c in
-    run-lent (s .args .runs) (s .args .r) (f .result) (t .result) (s .pre .0, s .pre .1) (f .ensures) (t .ensures)
+    let a = s .args in
+    run-lent (old s) (a .r) (c .place-before .result) (getD (now (a .ends)) (a .r) 0) (s .pre .0) (c .place-before .ensures) (end-is (now (a .ends)) (a .r))
 
 -- what is saved
 abbrev amount : tie.After-is-finite → Float
@@ -66,37 +76,63 @@ amount c = Ieee.add binary64 (c .before .before .route-distance .result) (start 
 abbrev saved : (c : tie.After-is-finite) → let s = start (cut c) in amount c ≡ savedF (lent s) (part s .run)
 saved c = saved-is (lent (start (cut c))) _ _ (run (cut c)) _ (c .before .before .route-distance .ensures)
 
-abbrev decided : (c : tie.After-place-all) → let s = start (cut (tested c)) in Decides (lent s) (part s) (amount (tested c)) (c .place-all .result)
-decided c =
-    let t = tested c in
+abbrev finite : (c : tie.After-place-all) → finiteF (amount (tested (without (c .before)))) ≡ true
+finite c =
+    let w = without (c .before) in
+    let t = tested w in
+    sym (t .is-finite .ensures) ∙ not-false (t .is-finite .result) (w .before .before .before .if1 .left)
+
+-- the runs that are left
+abbrev left : tie.After-place-all → Runs
+left c =
+    let w = without (c .before) in
+    let k = cut (tested w) in
+    let a = start k .args in
+    let f = k .place-before .result in
+    runs (c .place-all .last .0) (c .place-all .last .1 .0) (w .without-run .result + length (take (getD (now (a .ends)) (a .r) 0 - f) (drop f (now (a .calls))))) (a .count - 1)
+
+moved : (c : tie.After-place-all) →
+    let t = tested (without (c .before)) in
     let s = start (cut t) in
-    let finite = sym (t .is-finite .ensures) ∙ not-false (t .is-finite .result) (c .before .before .if1 .left) in
-    let placed = c .place-all .ensures .is ∙ moved-is (lent s) (amount t) _ _ (run (cut t)) _ _ (c .before .without-run .ensures .1) in
-    decides (lent s) (part s) (amount t) (saved t) finite (c .place-all .result) placed
+    placedOf (c .place-all .result) (runsIn (left c)) ≡ movedF (lent s) (amount t) (part s .run) (part s .rest)
+moved c =
+    let w = without (c .before) in
+    let t = tested w in
+    let s = start (cut t) in
+    c .place-all .ensures .is ∙ moved-is (lent s) (amount t) _ _ (run (cut t)) _ _ (w .without-run .ensures .is)
 
-start-of-requires : tie.Need-start-of-requires
-start-of-requires c κs = search needs
+all-held : (c : tie.After-place-all) →
+    let s = start (cut (tested (without (c .before)))) in
+    left c ≡ runs (c .place-all .last .0) (c .place-all .last .1 .0) (s .args .many) (s .args .count - 1)
+all-held c =
+    let w = without (c .before) in
+    let k = cut (tested w) in
+    let s = start k in
+    let fewer = w .without-run .ensures .fewer in
+    ap (λ (n : ℕ). runs (c .place-all .last .0) (c .place-all .last .1 .0) n (s .args .count - 1)) (ap (λ (r : List ℕ). w .without-run .result + length r) (run k) ∙ fewer)
 
-add-start-of : tie.Need-add-start-of
-add-start-of c = search needs
+place-before-requires : tie.Need-place-before-requires
+place-before-requires c κs = search needs
 
-start-of-requires-2 : tie.Need-start-of-requires-2
-start-of-requires-2 c κs = search needs
+mul-to : tie.Need-mul-to
+mul-to c = search needs
+
+shared-slice-read-to : tie.Need-shared-slice-read-to
+shared-slice-read-to c = search needs
 
 mul-run : tie.Need-mul-run
-mul-run c = let b = bound c in record { fits = omega (arith, b .0, b .1, start c .pre .0 .calls-fit) }
+mul-run c = let k = c .before in record { fits = omega (arith, bound k .0, bound k .1, start k .pre .0 .0 .calls-fit) }
 
 sub-run : tie.Need-sub-run
-sub-run c = bound c .0
+sub-run c = bound (c .before) .0
 
 part-run-start : tie.Need-part-run-start
 part-run-start c = bound (c .before) .0
 
 part-run-end : tie.Need-part-run-end
 part-run-end c =
-    let known = c .before in
-    let s = start known in
-    let h : known .start-of2 .result ≤ length (s .args .runs .calls) = omega (arith, bound known .1, s .pre .0 .calls-fit, s .pre .0 .calls-long) in
+    let s = start (c .before) in
+    let h : getD (now (s .args .ends)) (s .args .r) 0 ≤ length (now (s .args .calls)) = omega (arith, bound (c .before) .1, s .pre .0 .0 .calls-fit, s .pre .0 .0 .calls-long) in
     h
 
 route-distance-requires : tie.Need-route-distance-requires
@@ -110,50 +146,73 @@ returns c =
     let t = c .before in
     let s = start (cut t) in
     let endless = sym (t .is-finite .ensures) ∙ not-true (t .is-finite .result) (c .if1 .taken) in
-    record { is = not-finite (lent s) (part s) (amount t) (saved t) endless; sound = s .pre .0 }
+    record { is = not-finite (lent s) (part s) (amount t) (saved t) endless; sound = λ e. absurd (false≢true e) }
 
 without-run-requires : tie.Need-without-run-requires
 without-run-requires c κs = search needs
 
+sub-place-all : tie.Need-sub-place-all
+sub-place-all c = search needs
+
 place-all-requires : tie.Need-place-all-requires
 place-all-requires c κs =
-    let known = cut (c .before .before) in
-    let s = start known in
-    let w = c .without-run .ensures in
-    (w .0, omega (arith, ap length (run known), w .2, s .pre .0 .calls-fit), s .pre .2)
+    let w = without c in
+    let t = tested w in
+    let k = cut t in
+    let s = start k in
+    let fewer = w .without-run .ensures .fewer in
+    ((w .without-run .ensures .sound, omega (arith, ap length (run k), fewer, s .pre .0 .0 .calls-fit)), s .pre .1 .1)
+
+enum-known-added : tie.Need-enum-known-added
+enum-known-added c = search needs
+
+enum-told : tie.Need-enum-told
+enum-told c = search needs
+
+same-length : tie.Need-same-length
+same-length c = search needs
+
+same-length-2 : tie.Need-same-length-2
+same-length-2 c = search needs
 
 returns-2 : tie.Need-returns-2
 returns-2 c =
-    let placed = c .before .before in
-    let none-left = not-true (placed .place-all .result .found) (c .if2 .taken) in
-    record { is = decided placed .not-placed none-left; sound = start (cut (tested placed)) .pre .0 }
+    let placed = c .before .before .before .before .before .before in
+    let e : placed .place-all .result ≡ NotAll = search needs in
+    let t = tested (without (placed .before)) in
+    let s = start (cut t) in
+    record {
+      is = not-placed (lent s) (part s) (amount t) (saved t) (finite placed) (sym (ap (λ (p : Placed). placedOf p (runsIn (left placed))) e) ∙ moved placed);
+      sound = λ f. absurd (false≢true f);
+    }
+
+same-length-3 : tie.Need-same-length-3
+same-length-3 c = search needs
+
+same-length-4 : tie.Need-same-length-4
+same-length-4 c = search needs
 
 returns-3 : tie.Need-returns-3
 returns-3 c =
-    let decision = c .before in
-    let all = decision .before .before .before .before in
-    let placed = all .before .before in
+    let known = c .before .before .before in
+    let placed = known .before .before .before .before .before .before in
+    let x = known .added .given .0 .0 in
+    let e : placed .place-all .result ≡ All x = search needs in
+    let t = tested (without (placed .before)) in
+    let s = start (cut t) in
+    let all = all-held placed in
     record {
-      is = decided placed .goes (not-false (placed .place-all .result .found) (all .if2 .left)) (decision .if3 .taken);
-      sound = placed .place-all .ensures .sound;
-    }
-
-returns-4 : tie.Need-returns-4
-returns-4 c =
-    let all = c .before .before .before .before in
-    let placed = all .before .before in
-    record {
-      is = decided placed .stays (not-false (placed .place-all .result .found) (all .if2 .left)) (c .if3 .left);
-      sound = start (cut (tested placed)) .pre .0;
+      is = ap (λ (r : Runs). given (pays (lent s) (amount t) x) (runsIn r)) (sym all) ∙ decided (lent s) (part s) (amount t) (saved t) (finite placed) _ x (sym (ap (λ (p : Placed). placedOf p (runsIn (left placed))) e) ∙ moved placed);
+      sound = λ f. subst Sound all (subst (λ (p : Placed). Holds (λ (q : PlacedF). Sound (left placed)) (placedOf p (runsIn (left placed)))) e (placed .place-all .ensures .sound));
     }
 
 pub emptied-spec : {M : Type 1} → statement M
 emptied-spec =
     tie.close
     (tie.spec
-    start-of-requires
-    add-start-of
-    start-of-requires-2
+    place-before-requires
+    mul-to
+    shared-slice-read-to
     mul-run
     sub-run
     part-run-start
@@ -162,7 +221,13 @@ emptied-spec =
     is-finite-requires
     returns
     without-run-requires
+    sub-place-all
     place-all-requires
+    enum-known-added
+    enum-told
+    same-length
+    same-length-2
     returns-2
-    returns-3
-    returns-4)
+    same-length-3
+    same-length-4
+    returns-3)

@@ -1,0 +1,119 @@
+-- `tested::is_allowed` meets its contract. Assumes nothing.
+use Prim.Native.Nat.{ℕ, _-_, _<_, _≤_}
+use native.Mathlib.Omega.{arith}
+use mathlib.Core.Path.{_≡_, refl, sym, ap, subst, _∙_}
+use mathlib.Core.Bool.{true, false, true≢false}
+use mathlib.Core.List.{List}
+use lib.ListN.{length, getD, take, drop}
+use denote.Ref.{now}
+use Rattle.basics.proofs.TestLaws.{not-true, not-false}
+use Rattle.cut_stops.specs.Stops.{numbers}
+use Rattle.evaluation.specs.Route.{feasibleF}
+use Rattle.improve_runs.specs.RunLists.{Runs, runs, runsIn, runAt, insertAt}
+use Rattle.improve_runs.proofs.Holding.{held}
+use Rattle.improve_runs.proofs.Changing.{run-bound, run-lent, end-is}
+use Rattle.route_elimination.specs.Insertion.{givenIn, GivenF, allowedF}
+use Rattle.route_elimination.proofs.Wanting.{allowed-asked}
+use borrow.Author.Needs.{needs}
+use Rattle.route_elimination.proofs.tested.is_allowed.Statement.{statement}
+use Rattle.route_elimination.proofs.tested.is_allowed.Tie as tie
+
+abbrev start : tie.After-shared-slice-known6 → tie.Start
+start c = c .before .before .before .before .before .before
+
+abbrev entry : tie.After-place-before → tie.After-shared-slice-known6
+entry c = c .before .before .before .before
+
+abbrev given : tie.Start → GivenF
+given s = let a = s .args in givenIn (a .given) (numbers (now (a .codes)) (now (a .figures))) (now (a .distances)) (now (a .times))
+
+abbrev old : tie.Start → Runs
+old s = let a = s .args in runs (now (a .calls)) (now (a .ends)) (a .many) (a .count)
+
+few : (c : tie.After-place-before) → start (entry c) .args .spot .run < start (entry c) .args .count
+few c = let s = start (entry c) in omega (arith, s .pre .1 .run-inside, held (old s) (s .pre .0) .count-is)
+
+abbrev bound : (c : tie.After-place-before) →
+    let a = start (entry c) .args in
+    let to = getD (now (a .ends)) (a .spot .run) 0 in
+    (c .place-before .result ≤ to) × (to ≤ a .many) × (to - c .place-before .result ≡ length (runAt (runsIn (old (start (entry c)))) (a .spot .run)))
+bound c =
+    let s = start (entry c) in
+    let a = s .args in
+    run-bound (old s) (a .spot .run) (c .place-before .result) (getD (now (a .ends)) (a .spot .run) 0) (s .pre .0, few c) (c .place-before .ensures) (end-is (now (a .ends)) (a .spot .run))
+
+abbrev run : (c : tie.After-place-before) →
+    let a = start (entry c) .args in
+    take (getD (now (a .ends)) (a .spot .run) 0 - c .place-before .result) (drop (c .place-before .result) (now (a .calls))) ≡ runAt (runsIn (old (start (entry c)))) (a .spot .run)
+run c =
+    let s = start (entry c) in
+    let a = s .args in
+    run-lent (old s) (a .spot .run) (c .place-before .result) (getD (now (a .ends)) (a .spot .run) 0) (s .pre .0, few c) (c .place-before .ensures) (end-is (now (a .ends)) (a .spot .run))
+
+not-asked : (G : GivenF) (run : List ℕ) → G .search .constrained ≡ false → true ≡ allowedF G run
+unfolding allowedF
+not-asked G run e = rw e
+
+returns : tie.Need-returns
+returns c =
+    let s = start (c .before .before .before) in
+    let e = not-true (s .args .given .search .constrained) (c .if1 .taken) in
+    (not-asked (given s) _ e, λ f. absurd (true≢false f))
+
+place-before-requires : tie.Need-place-before-requires
+place-before-requires c κs = search needs
+
+mul-to : tie.Need-mul-to
+mul-to c = record { fits = omega (arith, few c) }
+
+shared-slice-read-to : tie.Need-shared-slice-read-to
+shared-slice-read-to c =
+    let s = start (entry (c .before)) in
+    omega (arith, few (c .before), s .pre .0 .runs-fit, s .pre .0 .ends-long)
+
+mul-is-feasible-with : tie.Need-mul-is-feasible-with
+mul-is-feasible-with c = record { fits = omega (arith, bound (c .before) .0, bound (c .before) .1, start (entry (c .before)) .pre .0 .calls-fit) }
+
+sub-is-feasible-with : tie.Need-sub-is-feasible-with
+sub-is-feasible-with c = bound (c .before) .0
+
+part-is-feasible-with-start : tie.Need-part-is-feasible-with-start
+part-is-feasible-with-start c = bound (c .before) .0
+
+part-is-feasible-with-end : tie.Need-part-is-feasible-with-end
+part-is-feasible-with-end c =
+    let s = start (entry (c .before)) in
+    let h : getD (now (s .args .ends)) (s .args .spot .run) 0 ≤ length (now (s .args .calls)) = omega (arith, bound (c .before) .1, s .pre .0 .calls-fit, s .pre .0 .calls-long) in
+    h
+
+is-feasible-with-requires : tie.Need-is-feasible-with-requires
+is-feasible-with-requires c κs =
+    let k = c .before .before in
+    let s = start (entry k) in
+    let many = ap length (run k) in
+    (s .pre .2, omega (arith, many, bound k .1, bound k .2, s .pre .0 .calls-fit), omega (arith, many, s .pre .1 .pos-inside))
+
+returns-2 : tie.Need-returns-2
+returns-2 c =
+    let k = c .before .before .before in
+    let s = start (entry k) in
+    let a = s .args in
+    let T = given s in
+    let e = not-false (a .given .search .constrained) (k .before .if1 .left) in
+    let same = ap (λ (r : List ℕ). feasibleF (T .tables) (T .search .limits) (insertAt (a .spot .pos) (a .c) r)) (run k) in
+    (c .is-feasible-with .ensures ∙ same ∙ allowed-asked T e (insertAt (a .spot .pos) (a .c) (runAt (runsIn (old s)) (a .spot .run))), λ f. e)
+
+pub is-allowed-spec : {M : Type 1} → statement M
+is-allowed-spec =
+    tie.close
+    (tie.spec
+    returns
+    place-before-requires
+    mul-to
+    shared-slice-read-to
+    mul-is-feasible-with
+    sub-is-feasible-with
+    part-is-feasible-with-start
+    part-is-feasible-with-end
+    is-feasible-with-requires
+    returns-2)
