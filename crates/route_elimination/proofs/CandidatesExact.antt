@@ -161,9 +161,11 @@ module _ (s : Sheet) (S : Sized s) (T : GivenF) (I : Image s T) (c : ℕ) (p : P
       pub at-most-exact : Ieee.le (x .cost) (y .cost) ≡ leb (key x) (key y)
       at-most-exact =
           let t = total (givenOf s) rs in
-          rw (X .cost-is, Y .cost-is) (diff-le (key x) t (key y) t (omega (arith, sizes .0)) (omega (arith, sizes .2)) (omega (arith, sizes .1)) (omega (arith, sizes .2)) ∙ shifted-leb (key x) (key y) t)
+          rw (X .cost-is, Y .cost-is)
+          (diff-le (key x) t (key y) t (omega (arith, sizes .0)) (omega (arith, sizes .2)) (omega (arith, sizes .1)) (omega (arith, sizes .2)) ∙ shifted-leb (key x) (key y) t)
 
       pub below-exact : Ieee.lt (x .cost) (y .cost) ≡ not (leb (key y) (key x))
       below-exact =
           let t = total (givenOf s) rs in
-          rw (X .cost-is, Y .cost-is) (diff-lt (key x) t (key y) t (omega (arith, sizes .0)) (omega (arith, sizes .2)) (omega (arith, sizes .1)) (omega (arith, sizes .2)) ∙ shifted-ltb (key x) (key y) t)
+          rw (X .cost-is, Y .cost-is)
+          (diff-lt (key x) t (key y) t (omega (arith, sizes .0)) (omega (arith, sizes .2)) (omega (arith, sizes .1)) (omega (arith, sizes .2)) ∙ shifted-ltb (key x) (key y) t)

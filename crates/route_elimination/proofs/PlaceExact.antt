@@ -230,7 +230,8 @@ module _ (s : Sheet) (S : Sized s) (T : GivenF) (I : Image s T) where
       unfolding bestF
       best-exact =
           ap₂ (λ (x y : Spot). cond (paysF m (x .cost)) (cond (allowedF T (insertAt (x .pos) c (runAt rs (x .run)))) (some x) (given (paysF m (y .cost)) y)) none) least-is tested-is
-          ∙ go (least by (any by) cands) (least by pass cands) (least-leads by pass cands) (least-holds by (any by) Is cands all-are) (least-holds by pass Is cands all-are) (least-passes by pass cands)
+          ∙ go (least by (any by) cands) (least by pass cands) (least-leads by pass cands) (least-holds by (any by) Is cands all-are) (least-holds by pass Is cands all-are)
+          (least-passes by pass cands)
         where
           paying : (z : Spot) → pass z ≡ true → paysF m (z .cost) ≡ true
           paying z e = by-test (paysF m (z .cost)) (λ t. t) (λ f. absurd (false≢true ((let d : false ≡ pass z = rw f in d) ∙ e)))

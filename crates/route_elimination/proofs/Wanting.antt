@@ -49,7 +49,12 @@ module _ (G : GivenF) (m : Mover) (bound : Float) (best : Spot) (run : List ℕ)
     pub wanted : pos ≤ length run → wantedF m bound found (addsF (legF G) run pos (m .call)) ≡ true
 
   skips : (found : Spot) (from r : ℕ) → Wants m bound found (legF G) run from r → InRun on best spot (length run) found from → InRun on best spot (length run) found r
-  skips found from r W I = in-skip on best spot (length run) found from r I (W .at-least) (W .at-most) (λ j u v. not-wanted (upTo bound (spot j)) (Ieee.lt (spot j .cost) (found .cost)) (paysF m (spot j .cost)) (allowedF G (insertAt j (m .call) run)) (spot j) found (W .passed j u v))
+  skips found from r W I =
+      let shut : (j : ℕ) → from ≤ j → j < r → found ≡ on found (spot j) =
+      λ j u v.
+      not-wanted (upTo bound (spot j)) (Ieee.lt (spot j .cost) (found .cost)) (paysF m (spot j .cost)) (allowedF G (insertAt j (m .call) run)) (spot j) found
+      (W .passed j u v) in
+      in-skip on best spot (length run) found from r I (W .at-least) (W .at-most) shut
 
   pub choosing-first : (b : PrefixF) (r : ℕ) → Leads (G .tables) (G .search .limits) (take 0 run) b → Wants m bound best (legF G) run 0 r → Choosing best b 0 r
   choosing-first b r L W =
@@ -60,7 +65,8 @@ module _ (G : GivenF) (m : Mover) (bound : Float) (best : Spot) (run : List ℕ)
       → (new : Spot) → new ≡ cond (feasibleF (G .tables) (G .search .limits) (insertAt pos (m .call) run)) (spot pos) found
       → (r : ℕ) → Wants m bound new (legF G) run (pos + 1) r → Choosing new next pos r
   choosing-more e found b gone pos C h next L new en r W =
-      let here = en ∙ ap (λ (t : Bool). cond t (spot pos) found) (allowed-asked G e (insertAt pos (m .call) run)) ∙ is-wanted (upTo bound (spot pos)) (Ieee.lt (spot pos .cost) (found .cost)) (paysF m (spot pos .cost)) (allowedF G (insertAt pos (m .call) run)) (spot pos) found (C .wanted h) in
+      let here = en ∙ ap (λ (t : Bool). cond t (spot pos) found) (allowed-asked G e (insertAt pos (m .call) run))
+      ∙ is-wanted (upTo bound (spot pos)) (Ieee.lt (spot pos .cost) (found .cost)) (paysF m (spot pos .cost)) (allowedF G (insertAt pos (m .call) run)) (spot pos) found (C .wanted h) in
       record {
         places = skips new (pos + 1) r W (in-more on best spot (length run) found pos (C .places) h new here);
         before = omega (arith, W .at-least);

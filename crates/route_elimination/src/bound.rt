@@ -34,7 +34,8 @@ pub fn bound_in(
     distances: &[f64],
     times: &[f64],
 ) -> Spot
-    requires { ⌜ Long (numbers (now codes) (now figures)) × (length (now route) ≤ room) × (given .search .constrained ≡ true) ⌝ }
+    requires { let lists = numbers (now codes) (now figures) in
+        ⌜ Long lists × (length (now route) ≤ room) × (given .search .constrained ≡ true) ⌝ }
     ensures { λ r.
         let lists = numbers (now (codes .entry)) (now (figures .entry)) in
         let G = givenIn given lists (now (distances .entry)) (now (times .entry)) in

@@ -48,8 +48,8 @@ pub fn is_wanted(bound: f64, best: Spot, cost: f64, mover: Mover) -> bool
     mover.pays(cost)
 }
 
-// The number of the first place in a run, from number `from` on, that is no dearer than the bound, cheaper than the best so
-// far and pays; one more than the last where there is none.
+// The number of the first place in a run, from number `from` on, that is no dearer than the bound, cheaper than the
+// best so far and pays; one more than the last where there is none.
 pub fn next_wanted(
     bound: f64,
     best: Spot,
@@ -74,7 +74,8 @@ pub fn next_wanted(
     pos
 }
 
-// The best place so far, or one in run k that is no dearer than the bound. The calls before a place are gone through once.
+// The best place so far, or one in run k that is no dearer than the bound. The calls before a place are gone through
+// once.
 pub fn best_in(
     bound: f64,
     best: Spot,
@@ -87,7 +88,8 @@ pub fn best_in(
     distances: &[f64],
     times: &[f64],
 ) -> Spot
-    requires { ⌜ Long (numbers (now codes) (now figures)) × (length (now route) ≤ room) × (given .search .constrained ≡ true) ⌝ }
+    requires { let lists = numbers (now codes) (now figures) in
+        ⌜ Long lists × (length (now route) ≤ room) × (given .search .constrained ≡ true) ⌝ }
     ensures { λ r.
         let lists = numbers (now (codes .entry)) (now (figures .entry)) in
         let G = givenIn given lists (now (distances .entry)) (now (times .entry)) in
@@ -146,7 +148,8 @@ pub fn best_offered(
     distances: &[f64],
     times: &[f64],
 ) -> Spot
-    requires { ⌜ Long (numbers (now codes) (now figures)) × (length (now route) ≤ room) × (given .search .constrained ≡ true) ⌝ }
+    requires { let lists = numbers (now codes) (now figures) in
+        ⌜ Long lists × (length (now route) ≤ room) × (given .search .constrained ≡ true) ⌝ }
     ensures { λ r.
         let lists = numbers (now (codes .entry)) (now (figures .entry)) in
         let G = givenIn given lists (now (distances .entry)) (now (times .entry)) in

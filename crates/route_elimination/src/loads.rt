@@ -72,7 +72,10 @@ pub fn add_load(loads: &mut Loads, k: usize, asked: Space)
     ensures { λ _.
         let more = plus (loadIn (now (loads .entry)) k) (spaceOf asked) in
         ⌜ Written (now (loads .entry)) k more (now (loads .exit)) ⌝ }
-    ensures { λ _. ⌜ ((n : ℕ) → UpTo n (loadIn (now (loads .entry)) k) → UpTo (n + 1) (loadIn (now (loads .exit)) k)) ⌝ }
+    ensures { λ _.
+        let old = now (loads .entry) in
+        let new = now (loads .exit) in
+        ⌜ ((n : ℕ) → UpTo n (loadIn old k) → UpTo (n + 1) (loadIn new k)) ⌝ }
 {
     let load = load_at(loads, k);
     put_load(&mut *loads, k, load.plus(asked));

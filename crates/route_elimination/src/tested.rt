@@ -179,7 +179,8 @@ pub fn better(
     distances: &[f64],
     times: &[f64],
 ) -> Spot
-    requires { ⌜ Long (numbers (now codes) (now figures)) × (length (now route) ≤ room) × (spot .pos ≤ length (now route)) ⌝ }
+    requires { let lists = numbers (now codes) (now figures) in
+        ⌜ Long lists × (length (now route) ≤ room) × (spot .pos ≤ length (now route)) ⌝ }
     requires { let G = givenIn given (numbers (now codes) (now figures)) (now distances) (now times) in
         ⌜ Leads (G .tables) (G .search .limits) (take (spot .pos) (now route)) (prefixOf prefix) ⌝ }
     ensures { λ r.

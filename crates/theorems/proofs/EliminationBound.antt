@@ -1,5 +1,5 @@
--- The Rust's test in elimination, `added + cost < saved`, by the totals that the definition compares. Assumes nothing.
--- What was added and what a customer costs may be below zero: each is told by two numbers, how far the distance goes up and how far it goes down.
+-- The Rust's test in elimination, `added + cost < saved`, by the totals that the definition compares. What was added
+-- and what a customer costs may be below zero: each is told by two numbers, how far the distance goes up and how far it goes down. Assumes nothing.
 use Prim.Native.Nat.{ℕ, _+_, _<_}
 use native.Mathlib.Omega.{arith}
 use mathlib.Core.Path.{_≡_}

@@ -62,4 +62,5 @@ module _ (leg : ℕ → ℕ → Float) where
       let before : getD (drop i route) (j - i - 1) 0 ≡ getD route (j - 1) 0 = getD-drop i route (j - i - 1) 0 ∙ ap (λ (k : ℕ). getD route k 0) (omega arith) in
       let e : suc j - i ≡ suc (j - i) = omega arith in
       rw (t, e)
-      (one-more symmetric (drop i route) (j - i) back there s (omega arith) (omega (arith, length-drop i route)) (b ∙ sym (ap₂ (λ (x y : ℕ). leg x y) last before)) (w ∙ sym (ap₂ (λ (x y : ℕ). leg x y) before last)))
+      (one-more symmetric (drop i route) (j - i) back there s (omega arith) (omega (arith, length-drop i route))
+      (b ∙ sym (ap₂ (λ (x y : ℕ). leg x y) last before)) (w ∙ sym (ap₂ (λ (x y : ℕ). leg x y) before last)))

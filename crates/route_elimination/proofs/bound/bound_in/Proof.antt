@@ -123,7 +123,8 @@ returns-4 c =
     let a = s .args in
     let pays = sym (paid .before .pays .ensures) ∙ not-false (paid .before .pays .result) (paid .if2 .left) in
     let allowed = sym (asked .is-feasible-with .ensures ∙ allowed-asked (given s) (s .pre .2) _) ∙ c .if4 .taken in
-    takes (given s) (a .mover) (now (a .route)) (a .k) (a .best) (a .fits) (room known) _ (is known) pays (not-false (Ieee.lt (known .cheapest-in .result .cost) (a .best .cost)) (cheap .if3 .left)) allowed
+    takes (given s) (a .mover) (now (a .route)) (a .k) (a .best) (a .fits) (room known) _ (is known) pays
+    (not-false (Ieee.lt (known .cheapest-in .result .cost) (a .best .cost)) (cheap .if3 .left)) allowed
 
 returns-5 : tie.Need-returns-5
 returns-5 c =

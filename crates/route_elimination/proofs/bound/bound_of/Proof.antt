@@ -32,8 +32,11 @@ abbrev μ-loop : tie.MeasureT-loop
 
 -- ---- the places on the way
 
+abbrev shares : tie.After-shared-slice-known5 Inv-loop μ-loop → tie.Start Inv-loop μ-loop
+shares c = c .before .before .before .before .before
+
 abbrev lent : tie.After-shared-slice-known6 Inv-loop μ-loop → tie.Start Inv-loop μ-loop
-lent c = c .before .before .before .before .before .before
+lent c = shares (c .before)
 
 abbrev begin : tie.At-loop Inv-loop μ-loop → tie.Start Inv-loop μ-loop
 begin c = lent (c .before .before .before .before)
@@ -123,7 +126,9 @@ loop-again c =
     let T = given s in
     let q = part t in
     let here = runAt (runsIn (old s)) (l .k) in
-    let fits = asked .has-room .ensures ∙ room-is (askedF (now (a .demands))) (runsIn (old s)) 256 (now (a .loads)) (s .pre .0 .1) (l .k) (q .run-inside) _ _ (spaceOf (a .given .capacity)) (a .mover .call) (asked .before .load-at .ensures) (t .before .before .before .before .demand-at .ensures) in
+    let fits = asked .has-room .ensures
+    ∙ room-is (askedF (now (a .demands))) (runsIn (old s)) 256 (now (a .loads)) (s .pre .0 .1) (l .k) (q .run-inside) _ _ (spaceOf (a .given .capacity)) (a .mover .call)
+    (asked .before .load-at .ensures) (t .before .before .before .before .demand-at .ensures) in
     let all = all-offered (Of (a .mover) (l .k)) (room s (a .mover .call) here) (leastIn (legF T) (l .k) (a .mover .call) here) (least-of (a .mover) (l .k) (legF T) (a .mover .call) here) in
     q .next _
     (c .bound-in .ensures

@@ -62,7 +62,8 @@ loop-holds c =
     let s = start (out .before .before .before) in
     let T = given s in
     let a = s .args in
-    choosing-first T (a .mover) (a .bound) (a .best) (now (a .route)) (a .k) _ _ (subst (Leads (T .tables) (T .search .limits) []) (sym (out .set-out .ensures)) (leads-start (T .tables) (T .search .limits))) (c .next-wanted .ensures)
+    choosing-first T (a .mover) (a .bound) (a .best) (now (a .route)) (a .k) _ _
+    (subst (Leads (T .tables) (T .search .limits) []) (sym (out .set-out .ensures)) (leads-start (T .tables) (T .search .limits))) (c .next-wanted .ensures)
 
 mul-go-through : tie.Need-mul-go-through Inv-loop μ-loop
 mul-go-through c = let l = c .before .loop in record { fits = omega (arith, l .inv .inside, begin (c .before) .pre .1) }
@@ -81,8 +82,19 @@ go-through-requires c κs =
     let at = c .before .before in
     let l = at .loop in
     let s = begin at in
-    let I = l .inv in
-    (s .pre .0, omega (arith, I .leads .index, length-take-le (l .gone) (now (s .args .route)) (I .inside), I .inside, span-short (now (s .args .route)) (l .gone) (l .pos), c .before .loop-test .taken, s .pre .1))
+    let I = l .inv in (
+      s .pre .0,
+      omega (
+        arith,
+        I .leads .index,
+        length-take-le (l .gone) (now (s .args .route)) (I .inside),
+        I .inside,
+        span-short (now (s .args .route)) (l .gone)
+            (l .pos),
+        c .before .loop-test .taken,
+        s .pre .1,
+      ),
+    )
 
 spot-at-requires : tie.Need-spot-at-requires Inv-loop μ-loop
 spot-at-requires c κs = search needs
@@ -129,7 +141,8 @@ loop-again c =
     let a = s .args in
     let run = now (a .route) in
     let is = tested .better .ensures ∙ ap (λ (x : Spot). cond (feasibleF (T .tables) (T .search .limits) (insertAt (x .pos) (a .mover .call) run)) x (l .found)) (spotted .spot-at .ensures) in
-    choosing-more T (a .mover) (a .bound) (a .best) run (a .k) (s .pre .2) (l .found) _ (l .gone) (l .pos) (l .inv) (in-loop .loop-test .taken) _ (led in-loop _ (went .go-through .ensures)) _ is _ (c .next-wanted2 .ensures)
+    choosing-more T (a .mover) (a .bound) (a .best) run (a .k) (s .pre .2) (l .found) _ (l .gone) (l .pos) (l .inv) (in-loop .loop-test .taken) _
+    (led in-loop _ (went .go-through .ensures)) _ is _ (c .next-wanted2 .ensures)
 
 returns : tie.Need-returns Inv-loop μ-loop
 returns c =

@@ -41,20 +41,28 @@ abbrev least : (c : tie.After-cheapest-place) → let s = start c in c .cheapest
 least c =
     let s = start c in
     let T = given s in
-    subst (λ (d : ℕ → Load). c .cheapest-place .result ≡ folded cheaperF nowhereF (eachFrom (placesOf (legF T) (roomF d (T .capacity)) (s .args .mover .call)) 0 (rest s))) (asks s) (c .cheapest-place .ensures)
+    subst (λ (d : ℕ → Load). c .cheapest-place .result ≡ folded cheaperF nowhereF (eachFrom (placesOf (legF T) (roomF d (T .capacity)) (s .args .mover .call)) 0 (rest s))) (asks s)
+    (c .cheapest-place .ensures)
 
 abbrev paid : (c : tie.Else1) → paysF (start (c .before .before) .args .mover) (c .before .before .cheapest-place .result .cost) ≡ true
 paid c = let pays = c .before .pays in sym (pays .ensures) ∙ not-false (pays .result) (c .if1 .left)
 
-abbrev tested : (c : tie.After-best-tested) → let s = start (c .before .before .before .before .before .before) in c .best-tested .result ≡ testedF (given s) (s .args .mover) (rest s)
+abbrev known : tie.After-bound-of → tie.After-cheapest-place
+known c = c .before .before .before .before .before
+
+abbrev tested : (c : tie.After-best-tested) → let s = start (known (c .before)) in c .best-tested .result ≡ testedF (given s) (s .args .mover) (rest s)
 tested c =
     let b = c .before in
-    let s = start (b .before .before .before .before .before) in
+    let s = start (known b) in
     let T = given s in
     let m = s .args .mover in
     let f = betterOf T m (rest s) in
-    subst (λ (d : ℕ → Load). c .best-tested .result ≡ folded f nowhereF (only (upTo (folded f nowhereF (eachFrom (leastOf (legF T) (roomF d (T .capacity)) (m .call)) 0 (rest s)) .cost)) (eachFrom (placesOf (legF T) (roomF d (T .capacity)) (m .call)) 0 (rest s)))) (asks s)
-    (c .best-tested .ensures ∙ ap (λ (x : Spot). folded f nowhereF (only (upTo (x .cost)) (eachFrom (placesOf (legF T) (roomF (askedF (now (s .args .demands))) (T .capacity)) (m .call)) 0 (rest s)))) (b .bound-of .ensures))
+    subst (λ (d : ℕ → Load). c .best-tested .result ≡ folded f nowhereF
+    (only (upTo (folded f nowhereF (eachFrom (leastOf (legF T) (roomF d (T .capacity)) (m .call)) 0 (rest s)) .cost))
+    (eachFrom (placesOf (legF T) (roomF d (T .capacity)) (m .call)) 0 (rest s)))) (asks s)
+    (c .best-tested .ensures
+    ∙ ap (λ (x : Spot). folded f nowhereF (only (upTo (x .cost)) (eachFrom (placesOf (legF T) (roomF (askedF (now (s .args .demands))) (T .capacity)) (m .call)) 0 (rest s))))
+    (b .bound-of .ensures))
 
 cheapest-place-requires : tie.Need-cheapest-place-requires
 cheapest-place-requires c κs = search needs

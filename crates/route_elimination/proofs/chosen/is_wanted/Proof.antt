@@ -40,7 +40,8 @@ returns-3 c =
     let second = c .before in
     let first = second .before .before in
     let a = first .before .args in
-    asked (a .mover) (a .bound) (a .best) (a .cost) (not-false (Ieee.le (a .cost) (a .bound)) (first .if1 .left)) (not-false (Ieee.lt (a .cost) (a .best .cost)) (second .if2 .left)) _ (c .pays .ensures)
+    asked (a .mover) (a .bound) (a .best) (a .cost) (not-false (Ieee.le (a .cost) (a .bound)) (first .if1 .left)) (not-false (Ieee.lt (a .cost) (a .best .cost)) (second .if2 .left)) _
+    (c .pays .ensures)
 
 pub is-wanted-spec : {M : Type 1} → statement M
 is-wanted-spec = tie.close (tie.spec returns returns-2 pays-requires returns-3)

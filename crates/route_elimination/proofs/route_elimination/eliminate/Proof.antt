@@ -41,8 +41,11 @@ abbrev μ-search : tie.MeasureT-search
 
 -- ---- the places on the way: from a search, from the loop over its runs, from the shortest of them, from the run tried, and from its going
 
+abbrev opened : tie.After-slice-known2 Inv-loop μ-loop Inv-search μ-search → tie.Start Inv-loop μ-loop Inv-search μ-search
+opened c = c .before .before
+
 abbrev entry : tie.After-shared-slice-known4 Inv-loop μ-loop Inv-search μ-search → tie.Start Inv-loop μ-loop Inv-search μ-search
-entry c = c .before .before .before .before .before .before
+entry c = opened (c .before .before .before .before)
 
 abbrev start : tie.At-search Inv-loop μ-loop Inv-search μ-search → tie.Start Inv-loop μ-loop Inv-search μ-search
 start c = entry (c .before)
@@ -64,6 +67,9 @@ loop c = c .before .before .before .before
 
 abbrev shortest : tie.After-emptied Inv-loop μ-loop Inv-search μ-search → tie.After-shortest Inv-loop μ-loop Inv-search μ-search
 shortest c = c .before .before .before .before .before
+
+abbrev stayed : tie.After-remove Inv-loop μ-loop Inv-search μ-search → tie.After-emptied Inv-loop μ-loop Inv-search μ-search
+stayed c = c .before .before .before .before .before
 
 abbrev taken : tie.After-slice-known5 Inv-loop μ-loop Inv-search μ-search → tie.After-take-over Inv-loop μ-loop Inv-search μ-search
 taken c = c .before .before .before .before
@@ -99,7 +105,8 @@ abbrev pick : (c : tie.After-shortest Inv-loop μ-loop Inv-search μ-search) →
 pick c =
     let at = loop c in
     let l = at .loop in
-    tried-pick (lent (start (searched (kept at)))) (new (kept at)) (measured at .lengths-of .result) (l .pending) (l .n) (l .inv .1) (c .before .before .before .loop-test .taken) (c .shortest .result) (c .shortest .ensures)
+    tried-pick (lent (start (searched (kept at)))) (new (kept at)) (measured at .lengths-of .result) (l .pending) (l .n) (l .inv .1) (c .before .before .before .loop-test .taken)
+    (c .shortest .result) (c .shortest .ensures)
 
 abbrev turn : (c : tie.After-emptied Inv-loop μ-loop Inv-search μ-search) →
     let at = loop (shortest c) in
@@ -112,7 +119,8 @@ turn c =
     let l = at .loop in
     let k = kept at in
     let X = searched k in
-    tried-turn (lent (start X)) (new k) (measured at .lengths-of .result) (l .pending) (l .n) (l .inv .1) (least .before .before .before .loop-test .taken) (least .shortest .result) (least .shortest .ensures)
+    tried-turn (lent (start X)) (new k) (measured at .lengths-of .result) (l .pending) (l .n) (l .inv .1) (least .before .before .before .loop-test .taken) (least .shortest .result)
+    (least .shortest .ensures)
     (now-left X) (runs (l .calls) (l .ends) (start X .args .many) (l .left)) (keeps k .is) (l .inv .0) (c .emptied .result) _ (c .emptied .ensures)
 
 goes-on : (c : tie.After-take-over Inv-loop μ-loop Inv-search μ-search) →
@@ -149,7 +157,8 @@ loop-holds c =
     let many = held (new k) S .count-is in
     let at = searched k in (
       refl,
-      trying-first (lent (start at)) (runsIn (new k)) _ (λ j h. lengths-are (new k) S _ (m .lengths-of .ensures) j (omega (arith, many))) (omega (arith, many, S .runs-fit)) _ (replicate 128 0) _ many refl (numbered .number .ensures),
+      trying-first (lent (start at)) (runsIn (new k)) _ (λ j h. lengths-are (new k) S _ (m .lengths-of .ensures) j (omega (arith, many))) (omega (arith, many, S .runs-fit)) _
+          (replicate 128 0) _ many refl (numbered .number .ensures),
       at .search .inv .1,
       at .search .inv .2,
     )
@@ -243,12 +252,12 @@ remove-requires c κs =
 
 sub-n : tie.Need-sub-n Inv-loop μ-loop Inv-search μ-search
 sub-n c =
-    let tried = c .before .before .before .before .before .before in
+    let tried = stayed (c .before) in
     omega (arith, shortest tried .before .before .before .loop-test .taken)
 
 loop-less : tie.Need-loop-less Inv-loop μ-loop Inv-search μ-search
 loop-less c =
-    let tried = c .before .before .before .before .before .before in
+    let tried = stayed (c .before) in
     omega (arith, shortest tried .before .before .before .loop-test .taken)
 
 loop-again : tie.Need-loop-again Inv-loop μ-loop Inv-search μ-search

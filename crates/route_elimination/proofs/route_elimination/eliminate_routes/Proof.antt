@@ -26,14 +26,20 @@ use Rattle.route_elimination.proofs.route_elimination.eliminate_routes.
 
 -- ---- the places on the way: from the lists that are worked out, from the lent run list, from the runs that are left, and from the calls written
 
+abbrev shares : tie.After-shared-slice-known4 → tie.Start
+shares c = c .before .before .before .before
+
 abbrev entry : tie.After-slice-known2 → tie.Start
-entry c = c .before .before .before .before .before .before
+entry c = shares (c .before .before)
 
 abbrev start : tie.After-work-out → tie.Start
 start c = entry (c .before .before .before .before)
 
+abbrev calls-in : tie.After-held-calls3 → tie.After-paste
+calls-in c = c .before .before .before .before .before
+
 abbrev worked : tie.After-held-calls3 → tie.After-work-out
-worked c = c .before .before .before .before .before .before .before
+worked c = calls-in c .before .before
 
 abbrev begin : tie.After-eliminate → tie.Start
 begin c = start (worked (c .before .before .before .before .before))
@@ -57,14 +63,14 @@ tables c =
 abbrev lists : tie.After-held-calls3 → Runs
 lists c =
     let a = start (worked c) .args in
-    runs (c .before .before .before .before .before .paste .last .0) (c .before .before .paste2 .last .0) (length (now (a .calls))) (length (now (a .ends)))
+    runs (calls-in c .paste .last .0) (c .before .before .paste2 .last .0) (length (now (a .calls))) (length (now (a .ends)))
 
 abbrev begun : (c : tie.After-held-calls3) →
     let a = start (worked c) .args in
     Sound (lists c) × (runsIn (lists c) ≡ runsOf (now (a .calls)) (now (a .ends)))
 begun c =
     let s = start (worked c) in
-    lent-runs (now (s .args .calls)) (now (s .args .ends)) _ _ (c .before .before .before .before .before .paste .ensures) (c .before .before .paste2 .ensures) (s .pre .0 .2)
+    lent-runs (now (s .args .calls)) (now (s .args .ends)) _ _ (calls-in c .paste .ensures) (c .before .before .paste2 .ensures) (s .pre .0 .2)
 
 abbrev lent-all : tie.Start → GivenF
 lent-all s = let a = s .args in lentGiven (a .customers) (now (a .distances)) (now (a .times)) (a .size) (a .capacity) (a .fixed) (a .search)
@@ -116,8 +122,14 @@ slice-aggregate-eliminate-4 c = search needs
 eliminate-requires : tie.Need-eliminate-requires
 eliminate-requires c κs =
     let out = worked (c .before .before .before .before) in
-    let known = c .before .before .before .before in
-    (begun known .0, (out .work-out .ensures .long, subst (λ (l : List (CustomerOf Float)). Asks l (out .before .before .before .demands-of .result)) (sym (ap (λ (t : Tables). t .customers) (tables out))) (out .before .before .before .demands-of .ensures .1)))
+    let known = c .before .before .before .before in (
+      begun known .0,
+      (
+        out .work-out .ensures .long,
+        subst (λ (l : List (CustomerOf Float)). Asks l (out .before .before .before .demands-of .result))
+            (sym (ap (λ (t : Tables). t .customers) (tables out))) (out .before .before .before .demands-of .ensures .1),
+      ),
+    )
 
 array-share-prefix-held-calls : tie.Need-array-share-prefix-held-calls
 array-share-prefix-held-calls c = search needs

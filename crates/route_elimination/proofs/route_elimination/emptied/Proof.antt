@@ -26,8 +26,11 @@ use Rattle.route_elimination.proofs.route_elimination.emptied.Tie as ti
 
 -- ---- the places on the way: from the run's first and last call, from the test of what is saved, and from the placing
 
+abbrev opened : tie.After-slice-known2 → tie.Start
+opened c = c .before .before .before .before
+
 abbrev entry : tie.After-shared-slice-known4 → tie.Start
-entry c = c .before .before .before .before .before .before
+entry c = opened (c .before .before)
 
 abbrev start : tie.After-place-before → tie.Start
 start c = entry (c .before .before .before)
@@ -38,8 +41,14 @@ cut c = c .before .before .before .before .before
 abbrev tested : tie.After-without-run → tie.After-is-finite
 tested c = c .before .before .before .before
 
+abbrev taken-out : tie.After-slice-known4 → tie.After-without-run
+taken-out c = c .before .before .before .before
+
 abbrev without : tie.After-place-all-arg2 → tie.After-without-run
-without c = c .before .before .before .before .before .before
+without c = taken-out (c .before .before)
+
+abbrev placing : tie.After-slice-known6 → tie.After-place-all
+placing c = c .before .before .before .before
 
 abbrev lent : tie.Start → GivenF
 lent s = let a = s .args in givenIn (a .given) (numbers (now (a .codes)) (now (a .figures))) (now (a .distances)) (now (a .times))
@@ -177,7 +186,7 @@ same-length-2 c = search needs
 
 returns-2 : tie.Need-returns-2
 returns-2 c =
-    let placed = c .before .before .before .before .before .before in
+    let placed = placing (c .before .before) in
     let e : placed .place-all .result ≡ NotAll = search needs in
     let t = tested (without (placed .before)) in
     let s = start (cut t) in
@@ -195,14 +204,15 @@ same-length-4 c = search needs
 returns-3 : tie.Need-returns-3
 returns-3 c =
     let known = c .before .before .before in
-    let placed = known .before .before .before .before .before .before in
+    let placed = placing (known .before .before) in
     let x = known .added .given .0 .0 in
     let e : placed .place-all .result ≡ All x = search needs in
     let t = tested (without (placed .before)) in
     let s = start (cut t) in
     let all = all-held placed in
     record {
-      is = ap (λ (r : Runs). given (pays (lent s) (amount t) x) (runsIn r)) (sym all) ∙ decided (lent s) (part s) (amount t) (saved t) (finite placed) _ x (sym (ap (λ (p : Placed). placedOf p (runsIn (left placed))) e) ∙ moved placed);
+      is = ap (λ (r : Runs). given (pays (lent s) (amount t) x) (runsIn r)) (sym all)
+          ∙ decided (lent s) (part s) (amount t) (saved t) (finite placed) _ x (sym (ap (λ (p : Placed). placedOf p (runsIn (left placed))) e) ∙ moved placed);
       sound = λ f. subst Sound all (subst (λ (p : Placed). Holds (λ (q : PlacedF). Sound (left placed)) (placedOf p (runsIn (left placed)))) e (placed .place-all .ensures .sound));
     }
 

@@ -18,8 +18,11 @@ use borrow.Author.Needs.{needs}
 use Rattle.route_elimination.proofs.tested.is_allowed.Statement.{statement}
 use Rattle.route_elimination.proofs.tested.is_allowed.Tie as tie
 
+abbrev lent : tie.After-shared-slice-known5 → tie.Start
+lent c = c .before .before .before .before .before
+
 abbrev start : tie.After-shared-slice-known6 → tie.Start
-start c = c .before .before .before .before .before .before
+start c = lent (c .before)
 
 abbrev entry : tie.After-place-before → tie.After-shared-slice-known6
 entry c = c .before .before .before .before

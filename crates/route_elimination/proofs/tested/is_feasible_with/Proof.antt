@@ -49,8 +49,11 @@ is-feasible-after-requires : tie.Need-is-feasible-after-requires
 is-feasible-after-requires c κs =
     let out = c .before .before in
     let s = start (out .before .before .before) in
-    let T = given s in
-    (s .pre, leads-through (T .tables) (T .search .limits) (now (s .args .route)) 0 (s .args .pos) _ _ (omega arith) (s .pre .2) (first out) (c .go-through .ensures ∙ ap (λ (n : ℕ). onAllF (T .tables) (prefixOf (out .set-out .result)) (take n (now (s .args .route)))) (sym (sub-zero (s .args .pos)))))
+    let T = given s in (
+      s .pre,
+      leads-through (T .tables) (T .search .limits) (now (s .args .route)) 0 (s .args .pos) _ _ (omega arith) (s .pre .2) (first out)
+          (c .go-through .ensures ∙ ap (λ (n : ℕ). onAllF (T .tables) (prefixOf (out .set-out .result)) (take n (now (s .args .route)))) (sym (sub-zero (s .args .pos)))),
+    )
 
 returns : tie.Need-returns
 returns c = search needs

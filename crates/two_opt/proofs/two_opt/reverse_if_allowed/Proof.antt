@@ -106,7 +106,8 @@ returns-2 c =
     let a = S .args in
     let t = listed (numbers (now (a .codes)) (now (a .figures))) (now (a .distances)) (now (a .times)) (a .size) in
     let s = searchOf (a .search) in
-    let no = allowed-from t s (a .i) (now (a .current)) _ (prefixOf (a .prefix)) (omega (arith, S .pre .0 .1, S .pre .0 .2)) (S .pre .1 .0) _ (asked .is-allowed .ensures) ∙ not-true _ (tested .if2 .taken) in
+    let no = allowed-from t s (a .i) (now (a .current)) _ (prefixOf (a .prefix)) (omega (arith, S .pre .0 .1, S .pre .0 .2)) (S .pre .1 .0) _ (asked .is-allowed .ensures)
+    ∙ not-true _ (tested .if2 .taken) in
     let near = guard asked-far ∙ reversed .before .before .if1 .left in
     let again = c .before .before .reverse2 .ensures in
     let back = put-back t s (a .i) (a .j) (now (a .current)) (a .tried .improved) _ (reversed .reverse .ensures) (S .pre .0 .1) (S .pre .0 .2) _ again in (
@@ -130,7 +131,8 @@ returns-3 c =
     let a = S .args in
     let t = listed (numbers (now (a .codes)) (now (a .figures))) (now (a .distances)) (now (a .times)) (a .size) in
     let s = searchOf (a .search) in
-    let yes = allowed-from t s (a .i) (now (a .current)) _ (prefixOf (a .prefix)) (omega (arith, S .pre .0 .1, S .pre .0 .2)) (S .pre .1 .0) _ (asked .is-allowed .ensures) ∙ not-false _ (tested .if2 .left) in
+    let yes = allowed-from t s (a .i) (now (a .current)) _ (prefixOf (a .prefix)) (omega (arith, S .pre .0 .1, S .pre .0 .2)) (S .pre .1 .0) _ (asked .is-allowed .ensures)
+    ∙ not-false _ (tested .if2 .left) in
     let near = guard asked-far ∙ reversed .before .before .if1 .left in
     (made t s (a .i) (a .j) (now (a .current)) (a .tried .improved) _ (reversed .reverse .ensures) near yes, c .limited-distance .ensures)
 

@@ -46,7 +46,7 @@ abbrev entry : tie.After-no-run Inv-loop μ-loop → tie.Start Inv-loop μ-loop
 entry c = opening (c .before)
 
 abbrev start : tie.At-loop Inv-loop μ-loop → tie.Start Inv-loop μ-loop
-start c = entry (c .before .before .before .before .before .before)
+start c = let turned = c .before .before .before in entry (turned .before .before .before)
 
 abbrev loop : tie.After-two-opt-delta Inv-loop μ-loop → tie.At-loop Inv-loop μ-loop
 loop c = c .before .before .before .before .before
@@ -159,7 +159,8 @@ loop-again-2 c =
     let l = at .loop in
     let y = made .reverse-if-allowed .ensures .0 in
     let yes = gain (tested .before) ∙ not-false _ (tested .if2 .left) in
-    let next = each-made t (searchOf (a .search)) (a .i) (length (now (a .current))) (l .next) (state (l .current) (l .known .improved)) (omega (arith, l .inv .0, l .inv .1, changed .before .before .before .before .loop-test .taken)) yes _ y in
+    let next = each-made t (searchOf (a .search)) (a .i) (length (now (a .current))) (l .next) (state (l .current) (l .known .improved))
+    (omega (arith, l .inv .0, l .inv .1, changed .before .before .before .before .loop-test .taken)) yes _ y in
     let stay = kept t (searchOf (a .search)) (a .i) (l .next) (l .current) (l .known .improved) (omega arith) _ _ y in
     (made .reverse-if-allowed .kept .0 ∙ l .inv .0, omega arith, sym next ∙ l .inv .2, stay ∙ l .inv .3, into .leg-into2 .ensures, c .turned-between2 .ensures, made .reverse-if-allowed .ensures .1)
 

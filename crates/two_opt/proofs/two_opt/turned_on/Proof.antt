@@ -44,7 +44,8 @@ returns-2 c =
     let s = start (tested .before) in
     let a = s .args in
     let p = s .pre in
-    one-more-at (lookupF (now (a .distances)) (a .size)) (a .symmetric) (now (a .route)) (a .i) (a .j) (a .turned) _ _ (tested .if1 .left) (p .0 .0) (p .0 .1) (p .1) (c .before .get .ensures) (c .get2 .ensures)
+    one-more-at (lookupF (now (a .distances)) (a .size)) (a .symmetric) (now (a .route)) (a .i) (a .j) (a .turned) _ _ (tested .if1 .left)
+    (p .0 .0) (p .0 .1) (p .1) (c .before .get .ensures) (c .get2 .ensures)
 
 pub turned-on-spec : {M : Type 1} → statement M
 turned-on-spec = tie.close (tie.spec returns sub-prev mul-prev shared-slice-read-prev mul-next shared-slice-read-next get-requires get-requires-2 returns-2)
