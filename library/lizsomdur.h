@@ -18,14 +18,14 @@
  *     9 ready and A due, the window (both may be left out)
  *     B penalty (to 1,000, may be left out)
  *   C distances, places times places                 D times, the same (may be left out: then a time is the distance)
- *   E calls: the customers to serve, in order (0 to 128 words, each from 1 to places - 1; a customer may come again)
+ *   E calls: the customers to serve, in order (0 to 63 words, each from 1 to places - 1; none of them twice)
  *   F the end; its value is the number of words before it
  *
  * A number for which no range is given here goes from 0 to 10,000,000.
  *
  * Distances and times are tables by rows: the row is the place that a leg starts from, the column the one that it goes to, so that the leg stands at
  * entry from * places + to. Place 0 is the depot. There and back may differ. The diagonal is read only where a run goes from a place to itself, with
- * two calls in a row at one customer.
+ * two calls in a row at one customer, as the runs given to a function may.
  *
  * ---- Runs
  *
@@ -51,7 +51,8 @@
  * Each function returns 0, or the number of a refusal. These are faults of the sheet:
  *
  *   11 a kind of word that may not stand here
- *    1 a number out of its range, or a 129th call
+ *    1 a number out of its range
+ *   21 a customer that an earlier E word has called already; the later of the two words is the bad one
  *    2 ready above due, or earliest above latest; the second of the two words is the bad one
  *    3 a wrong value in F, or something behind it, even one to three bytes, which make no whole word
  *   12 the words end before F; one to three bytes at the end are not looked at
@@ -59,7 +60,7 @@
  * The first bad word is told, and of its faults the first in this list. `word` gets its index, from 0; for something behind F that is the index after
  * F's, and for 12 the number of whole words. These are faults of the lists:
  *
- *   13 a list too short: each that lizsomdur_plan writes needs room for 128; each that the other functions write, as much as the given list of its
+ *   13 a list too short: each that lizsomdur_plan writes needs room for 63; each that the other functions write, as much as the given list of its
  *      kind; and lizsomdur_mark needs a break place for each run (what it is given beyond that is not read)
  *    1 more than 128 calls, or a call that is not from 1 to places - 1
  *    5 more than 128 run ends, one below the one before it, or a last one (without any: 0) that is not the number of calls; in lizsomdur_mark also a
@@ -86,7 +87,10 @@
 extern "C" {
 #endif
 
-/* The most calls that a sheet has, and so the most runs. */
+/* The most calls that a sheet has, and so the most runs of its plan: the room that each list of lizsomdur_plan needs. */
+#define LIZSOMDUR_TOUR 63
+
+/* The most calls, and the most runs, that a function is given. */
 #define LIZSOMDUR_CALLS 128
 
 /* Cuts the sheet's calls into legal runs, in their order, at least cost.

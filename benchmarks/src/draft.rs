@@ -52,22 +52,23 @@ impl Draft {
 
     fn tour(&self, source: &mut Source) -> Vec<u32> {
         let customers = self.recipe.places - 1;
-        let calls = 0..if customers == 0 { 0 } else { self.recipe.calls };
+        let calls = self.recipe.calls.min(customers);
         match self.recipe.order {
-            Order::AtRandom => calls.map(|_| 1 + source.below(customers)).collect(),
-            Order::InTurn => calls.map(|k| 1 + k % customers).collect(),
+            Order::AtRandom => {
+                let indexes = source.some(customers, calls);
+                indexes.iter().map(|&index| 1 + index).collect()
+            }
+            Order::InTurn => (1..=calls).collect(),
             Order::Nearest => {
-                let (mut here, mut left) = (0, Vec::new());
-                calls.map(|_| self.nearest(&mut here, &mut left)).collect()
+                let (mut here, mut left) = (0, (1..=customers).collect());
+                let next = |_| self.nearest(&mut here, &mut left);
+                (0..calls).map(next).collect()
             }
         }
     }
 
-    /// Goes on to the nearest place that is left; when none is, all are again.
+    /// Goes on to the nearest place that is left.
     fn nearest(&self, here: &mut u32, left: &mut Vec<u32>) -> u32 {
-        if left.is_empty() {
-            left.extend(1..self.recipe.places);
-        }
         let far = |place: u32| self.distances[self.leg(*here, place)];
         let at = (0..left.len()).min_by_key(|&k| far(left[k]));
         *here = left.swap_remove(at.expect("a place"));

@@ -29,16 +29,15 @@ pub fn recipe(seed: u32, number: u32) -> Recipe {
         distance: limit(source),
         duration: limit(source),
         shut,
-        run: source.one_of(&[1, 2, 4, 8, 16, 32, 48, 61, 64, 127]),
+        run: source.one_of(&[1, 2, 4, 8, 16, 32, 48, 61, 62]),
     }
 }
 
 fn calls(source: &mut Source) -> u32 {
     match source.below(4) {
-        0 => 1 + source.below(128),
+        0 => 1 + source.below(63),
         1 => source.one_of(&[1, 2, 4, 8, 16, 32]),
-        2 => 63,
-        _ => 128,
+        _ => 63,
     }
 }
 

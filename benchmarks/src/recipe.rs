@@ -13,13 +13,13 @@ pub enum Legs {
     Line,
 }
 
-/// Which customers the tour calls at.
+/// In which order the tour calls at its customers.
 #[derive(Clone, Copy, Debug)]
 pub enum Order {
     AtRandom,
-    /// All in the order of their numbers, over and over.
+    /// In the order of their numbers.
     InTurn,
-    /// All over and over, always the nearest that is left.
+    /// Always the nearest that is left.
     Nearest,
 }
 
@@ -61,6 +61,7 @@ pub struct Recipe {
     /// Gives the numbers that are drawn.
     pub seed: u64,
     pub places: u32,
+    /// As many calls, or as many as there are customers.
     pub calls: u32,
     pub order: Order,
     pub legs: Legs,
@@ -85,11 +86,11 @@ pub struct Recipe {
     pub run: u32,
 }
 
-/// 64 places, both leg tables, 128 calls, and no rule that binds.
+/// 64 places, both leg tables, 63 calls, and no rule that binds.
 pub const PLAIN: Recipe = Recipe {
     seed: 0,
     places: 64,
-    calls: 128,
+    calls: 63,
     order: Order::AtRandom,
     legs: Legs::Streets,
     times: true,

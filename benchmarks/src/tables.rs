@@ -97,21 +97,17 @@ fn by_calls(title: &str, work: Work, kinds: &[&[Kind]], calls: &[u32]) -> Table 
     Table::new(title, work, kinds, columns, fit)
 }
 
-fn by_runs(calls: u32) -> Table {
-    let title = format!("Elimination: `eliminate_routes`, {calls} calls");
+fn by_runs() -> Table {
+    let title = "Elimination: `eliminate_routes`, 63 calls";
     let columns = [1, 4, 16, 48].map(|n| (format!("runs of {n}"), n));
-    let fit = |recipe, run| Recipe {
-        calls,
-        run,
-        ..recipe
-    };
-    Table::new(&title, Work::Eliminate, &ALL, columns.into_iter(), fit)
+    let fit = |recipe, run| Recipe { run, ..recipe };
+    Table::new(title, Work::Eliminate, &ALL, columns.into_iter(), fit)
 }
 
 const ALL: [&[Kind]; 4] = [&ORDINARY, &LOADS, &RULES, &FULL_RUNS];
 const LOADED: [&[Kind]; 3] = [ORDINARY.split_at(2).0, &LOADS, &FULL_RUNS];
-const BOTH: [u32; 2] = [63, 128];
-const GROWING: [u32; 4] = [16, 32, 63, 128];
+const BOTH: [u32; 2] = [16, 63];
+const GROWING: [u32; 4] = [8, 16, 32, 63];
 
 pub fn all() -> Vec<Table> {
     let (tw, reverse, growing) = (Work::SplitTw, Work::Reverse, &GROWING);
@@ -131,9 +127,8 @@ pub fn all() -> Vec<Table> {
             &ALL[..3],
             &BOTH,
         ),
-        by_runs(63),
-        by_runs(128),
-        by_calls(falling, Work::Eliminate, &[&FALLING], &BOTH),
+        by_runs(),
+        by_calls(falling, Work::Eliminate, &[&FALLING], &BOTH[1..]),
         by_calls("Reader", Work::Read, &[&ORDINARY, &READ], &BOTH),
         by_calls("Growth of `split_tw`", tw, &[&ORDINARY], growing),
         Table {

@@ -60,10 +60,10 @@ static void print_doubles(const char *name, const double *list, size_t count) {
 }
 
 static void plan(void) {
-    size_t served[LIZSOMDUR_CALLS], ends[LIZSOMDUR_CALLS], places[LIZSOMDUR_CALLS], dropped[LIZSOMDUR_CALLS], counts[3], word = 99;
-    double starts[LIZSOMDUR_CALLS], totals[2];
-    uint32_t number = lizsomdur_plan(sheet, sheet_length, served, LIZSOMDUR_CALLS, ends, LIZSOMDUR_CALLS, places, LIZSOMDUR_CALLS,
-                                     starts, LIZSOMDUR_CALLS, dropped, LIZSOMDUR_CALLS, counts, totals, &word);
+    size_t served[LIZSOMDUR_TOUR], ends[LIZSOMDUR_TOUR], places[LIZSOMDUR_TOUR], dropped[LIZSOMDUR_TOUR], counts[3], word = 99;
+    double starts[LIZSOMDUR_TOUR], totals[2];
+    uint32_t number = lizsomdur_plan(sheet, sheet_length, served, LIZSOMDUR_TOUR, ends, LIZSOMDUR_TOUR, places, LIZSOMDUR_TOUR,
+                                     starts, LIZSOMDUR_TOUR, dropped, LIZSOMDUR_TOUR, counts, totals, &word);
     printf("plan: %u word %zu\n", (unsigned)number, word);
     if (number != 0)
         return;
@@ -100,7 +100,7 @@ struct cutting { size_t tour[CALLS], count, other, ends[CALLS], places[CALLS], r
 
 static const struct cutting CUTTINGS[] = {
     {{2, 1}, 2, 3, {2}, {0}, 1},
-    {{2, 4, 2}, 3, 0, {3}, {1}, 1},
+    {{2, 4, 5, 3}, 4, 0, {4}, {1}, 1},
     {{2, 4}, 2, 0, {2}, {2}, 1},
     {{2, 1}, 2, 0, {1, 2}, {0, 1}, 2},
     {{4}, 1, 0, {1}, {0}, 1},

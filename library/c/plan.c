@@ -6,7 +6,7 @@
 #include "lizsomdur.h"
 
 /* A byte more than the longest sheet that is accepted. */
-static uint8_t sheet[34577];
+static uint8_t sheet[34317];
 
 static void print_run(const size_t *served, size_t from, size_t to, size_t place, double start) {
     printf("run");
@@ -18,14 +18,14 @@ static void print_run(const size_t *served, size_t from, size_t to, size_t place
 }
 
 int main(void) {
-    size_t served[LIZSOMDUR_CALLS], ends[LIZSOMDUR_CALLS], places[LIZSOMDUR_CALLS], dropped[LIZSOMDUR_CALLS];
-    double starts[LIZSOMDUR_CALLS], totals[2], values[5];
+    size_t served[LIZSOMDUR_TOUR], ends[LIZSOMDUR_TOUR], places[LIZSOMDUR_TOUR], dropped[LIZSOMDUR_TOUR];
+    double starts[LIZSOMDUR_TOUR], totals[2], values[5];
     size_t counts[3], word = 0;
     uint32_t verdict;
 
     size_t length = fread(sheet, 1, sizeof sheet, stdin);
-    uint32_t number = lizsomdur_plan(sheet, length, served, LIZSOMDUR_CALLS, ends, LIZSOMDUR_CALLS, places, LIZSOMDUR_CALLS,
-                                     starts, LIZSOMDUR_CALLS, dropped, LIZSOMDUR_CALLS, counts, totals, &word);
+    uint32_t number = lizsomdur_plan(sheet, length, served, LIZSOMDUR_TOUR, ends, LIZSOMDUR_TOUR, places, LIZSOMDUR_TOUR,
+                                     starts, LIZSOMDUR_TOUR, dropped, LIZSOMDUR_TOUR, counts, totals, &word);
     if (number != 0) {
         fprintf(stderr, "refused %u at word %zu\n", (unsigned)number, word);
         return 1;

@@ -5,11 +5,10 @@ use crate::word::{bytes, ended, kind, most, value, word};
 /// The kinds of the numbers that a run is held against.
 const LIMITS: [u32; 6] = [2, 4, 5, 6, 9, 0xA];
 
-/// Moves one of the sheet's numbers onto an edge of a run of its first calls.
-pub fn on_edge(source: &mut Source, words: &mut [u32]) {
-    let tour = all(words, 0xE);
-    if let Some(last) = source.index(&tour) {
-        on_edge_of(source, words, &tour[..=last], &LIMITS);
+/// Moves one of the sheet's numbers onto an edge of a run of the first of these calls.
+pub fn on_edge(source: &mut Source, words: &mut [u32], calls: &[u32]) {
+    if let Some(last) = source.index(calls) {
+        on_edge_of(source, words, &calls[..=last], &LIMITS);
     }
 }
 
@@ -41,7 +40,7 @@ pub fn on_edges(source: &mut Source, words: &mut [u32], calls: &[u32]) {
 }
 
 /// The values of the words of this kind.
-fn all(words: &[u32], wanted: u32) -> Vec<u32> {
+pub fn all(words: &[u32], wanted: u32) -> Vec<u32> {
     let these = words.iter().filter(|&&w| kind(w) == wanted);
     these.map(|&w| value(w)).collect()
 }
@@ -87,7 +86,7 @@ pub fn damaged(source: &mut Source, words: &[u32]) -> Vec<u8> {
             break;
         }
         let at = place(source, words.len() as u32) as usize;
-        match source.below(9) {
+        match source.below(10) {
             0 => words[at] ^= 1 << source.below(32),
             1 => drop(words.remove(at)),
             2 => words.insert(at, word(source.below(16), source.below(20))),
@@ -96,6 +95,7 @@ pub fn damaged(source: &mut Source, words: &[u32]) -> Vec<u8> {
             5 => words[at] = word(kind(words[at]), beyond(source, kind(words[at]))),
             6 => words.push(word(source.below(16), source.below(3))),
             7 => words = with_more_calls(source, words),
+            8 => words = with_a_call_again(source, words),
             _ => words.swap(at, 0),
         }
     }
@@ -128,6 +128,21 @@ fn with_more_calls(source: &mut Source, mut words: Vec<u32>) -> Vec<u32> {
     };
     let wanted = 127 + source.below(4) as usize;
     words.extend((calls..wanted).map(|_| last));
+    ended(words)
+}
+
+/// The sheet with one of its calls a second time, anywhere behind the first of them; now and then with another one, too.
+fn with_a_call_again(source: &mut Source, mut words: Vec<u32>) -> Vec<u32> {
+    words.pop();
+    for _ in 0..1 + source.below(2) {
+        let calls: Vec<usize> = (0..words.len())
+            .filter(|&at| kind(words[at]) == 0xE)
+            .collect();
+        if let Some(&at) = source.any(&calls) {
+            let behind = source.below((words.len() - at) as u32) as usize;
+            words.insert(at + 1 + behind, words[at]);
+        }
+    }
     ended(words)
 }
 

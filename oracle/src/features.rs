@@ -3,8 +3,9 @@ use crate::reader;
 use crate::sheet::Sheet;
 use std::fmt;
 
-/// A run or a tour of so many calls counts as long.
+/// A run of so many calls counts as long, and a tour of so many.
 const LONG: usize = 100;
+const MANY: usize = 50;
 
 /// How the answers to cuttings begin, and what they are then.
 const MARKS: [(&str, &str); 13] = [
@@ -44,6 +45,7 @@ impl Features {
     pub fn listing(&mut self, file: &[u8], answer: &str) {
         self.questions += 1;
         self.count("refused", answer.starts_with("refused"));
+        self.count("for a call twice", answer.starts_with("refused 21 "));
         self.count("with drops", answer.contains("drop "));
         self.count("with a break taken", answer.contains(" rest "));
         if let Ok(words) = reader::words(file) {
@@ -53,7 +55,7 @@ impl Features {
 
     fn sheet(&mut self, sheet: &Sheet) {
         self.count("with a symmetric table", sheet.distances.symmetric());
-        self.count("of 100 calls or more", sheet.tour.len() >= LONG);
+        self.count("of 50 calls or more", sheet.tour.len() >= MANY);
     }
 
     /// An accepted sheet, its runs, and what is made of them.

@@ -1,5 +1,5 @@
 //! The sheets that a planner is asked about, as bytes: the bench cases, generated ones, and Solomon's instances.
-use crate::edges::{damaged, on_edge};
+use crate::edges::{all, damaged, on_edge};
 use crate::source::Source;
 use crate::word::{bytes, word};
 use crate::{cases, random, reader, solomon};
@@ -14,7 +14,7 @@ pub fn sheets(seed: u64, count: usize, files: &[String]) -> impl Iterator<Item =
     cases.chain(longest).chain(generated).chain(instances)
 }
 
-/// A sheet of 8,644 words, the same with a 129th call, and with a word behind its end.
+/// A sheet of 8,579 words, the same with a 64th call, and with a word behind its end.
 fn longest(source: &mut Source) -> [Vec<u8>; 3] {
     let words = random::full(source);
     let mut call_more = words.clone();
@@ -47,7 +47,8 @@ fn generated(source: &mut Source, number: usize) -> Vec<u8> {
 /// The sheet with a number moved onto an edge, if it is then accepted, and one time in eight if not.
 fn moved(source: &mut Source, words: Vec<u32>) -> Vec<u32> {
     let mut moved = words.clone();
-    on_edge(source, &mut moved);
+    let tour = all(&words, 0xE);
+    on_edge(source, &mut moved, &tour);
     if source.one_in(8) || reader::words(&bytes(&moved)).is_ok() {
         moved
     } else {

@@ -35,57 +35,70 @@ const MEDIUM: Scale = Scale {
     ..SMALL
 };
 
-/// Up to four places and five calls.
+/// Up to six places and five calls.
 pub fn small(source: &mut Source) -> Vec<u32> {
-    let places = 1 + source.below(4);
+    let places = 1 + source.below(6);
     let calls = source.below(6);
     sheet(source, &SMALL, places, calls)
 }
 
-/// Two to six places and one to nine calls.
+/// Two to ten places and one to nine calls.
 pub fn medium(source: &mut Source) -> Vec<u32> {
-    let places = 2 + source.below(5);
+    let places = 2 + source.below(9);
     let calls = 1 + source.below(9);
     sheet(source, &MEDIUM, places, calls)
 }
 
-/// Three to six places and three to nine calls, and every word that may stand in a sheet.
+/// Four to ten places, three calls or more, and every word that may stand in a sheet.
 pub fn ruled(source: &mut Source) -> Vec<u32> {
     let scale = Scale {
         day: source.one_of(&[12, 40]),
         full: true,
         ..MEDIUM
     };
-    let places = 3 + source.below(4);
+    let places = 4 + source.below(7);
     let calls = 3 + source.below(7);
     sheet(source, &scale, places, calls)
 }
 
-/// Two to twelve places and 100 to 128 calls; some such that a run of many calls, or of all, is legal.
-pub fn long(source: &mut Source) -> Vec<u32> {
-    let scale = Scale {
+/// Small numbers, such that now and then a run of many calls, or of all, is legal.
+fn roomy(source: &mut Source) -> Scale {
+    Scale {
         capacity: source.one_of(&[12, 60, 400]),
         day: source.one_of(&[12, 120, 800, 800]),
         windows: source.one_of(&[2, 40]),
         ..MEDIUM
-    };
+    }
+}
+
+/// Two to twelve places, all of them called at.
+pub fn short(source: &mut Source) -> Vec<u32> {
+    let scale = roomy(source);
     let places = 2 + source.below(11);
-    let calls = 100 + source.below(29);
+    sheet(source, &scale, places, places)
+}
+
+/// 24 to 64 places, nearly all of them called at.
+pub fn long(source: &mut Source) -> Vec<u32> {
+    let scale = roomy(source);
+    let most = source.one_of(&[32, 32, 32, 64]);
+    let places = 24 + source.below(most - 23);
+    let calls = places - 1 - source.below(4);
     sheet(source, &scale, places, calls)
 }
 
-/// Up to 64 places, 64 to 128 calls, and numbers of the whole range.
+/// Up to 64 places, up to 63 calls, and numbers of the whole range.
 pub fn large(source: &mut Source) -> Vec<u32> {
     let places = 1 + source.below(64);
-    let calls = 64 + source.below(65);
+    let calls = 32 + source.below(32);
     let scale = wide(source, false);
     sheet(source, &scale, places, calls)
 }
 
-/// The longest sheet: 64 places, 128 calls, and every word that may stand there.
+/// The longest sheet: 64 places, 63 calls, and every word that may stand there.
 pub fn full(source: &mut Source) -> Vec<u32> {
     let scale = wide(source, true);
-    sheet(source, &scale, 64, 128)
+    sheet(source, &scale, 64, 63)
 }
 
 /// Legs in tens, thousands, or of the whole range, a day of one leg or of many, and many windows or few.
@@ -125,9 +138,8 @@ fn sheet(source: &mut Source, scale: &Scale, places: u32, calls: u32) -> Vec<u32
     if scale.full || source.one_in(3) {
         table(source, scale, places, 0xD, &mut words);
     }
-    if places > 1 {
-        words.extend((0..calls).map(|_| word(0xE, 1 + source.below(places - 1))));
-    }
+    let tour = source.some(places - 1, calls);
+    words.extend(tour.iter().map(|&index| word(0xE, 1 + index)));
     ended(words)
 }
 

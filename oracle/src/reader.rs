@@ -1,4 +1,4 @@
-//! Whether bytes are an accepted sheet in words; if not, the refusal's number and word. Written from the scope document alone.
+//! Whether bytes are an accepted sheet in words; if not, the refusal's number and word. Written from the scope document and the requests alone.
 use crate::word::{kind, most, value};
 
 /// What the words so far say.
@@ -10,6 +10,8 @@ struct Seen {
     places: usize,
     /// Kind and value of the last word.
     last: Option<(u32, u32)>,
+    /// The customers called so far.
+    called: Vec<u32>,
 }
 
 /// A refusal: number and word index from 0.
@@ -43,6 +45,9 @@ impl Seen {
         if self.words == 0 {
             self.places = value as usize;
         }
+        if kind == 0xE {
+            self.called.push(value);
+        }
         self.counts[kind as usize] += 1;
         self.words += 1;
         self.last = Some((kind, value));
@@ -58,6 +63,8 @@ impl Seen {
             Some(11)
         } else if !self.in_range(kind, value) {
             Some(1)
+        } else if kind == 0xE && self.called.contains(&value) {
+            Some(21)
         } else if self.pair_falls(kind, value) {
             Some(2)
         } else if kind == 0xF && value as usize != self.words {
@@ -104,7 +111,7 @@ impl Seen {
     fn in_range(&self, kind: u32, value: u32) -> bool {
         match kind {
             1 => (1..=most(1)).contains(&value),
-            0xE => value >= 1 && (value as usize) < self.places && self.count(0xE) < 128,
+            0xE => value >= 1 && (value as usize) < self.places,
             0xF => true,
             _ => value <= most(kind),
         }

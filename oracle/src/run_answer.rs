@@ -1,4 +1,4 @@
-//! What the Rust makes of a run list, as text: the visits of each run, whether it may be made and what it costs, on sheets without lateness pay each run reversed and the runs left by elimination, and the cut of all calls by capacity.
+//! What the Rust makes of a run list, as text: the visits of each run, whether it may be made and what it costs, on sheets without lateness pay each run reversed and the runs left by elimination, and the cut of the tour by capacity.
 use crate::evaluation::{effective_cost, has_soft_windows, route_feasible, RouteEvaluator};
 use crate::ga::split;
 use crate::local_search::{eliminate_routes, two_opt_improve};

@@ -1,12 +1,12 @@
 //! Generated run lists with what the Rust makes of them, as records.
 //!
-//! A question is a byte for the number of runs, one for each run end, and a sheet with its tour as the calls of all runs.
-use crate::edges::on_edge;
+//! A question is a byte for the number of runs, one for each run end, one for the number of calls, one for each call, and a sheet.
+use crate::edges::{all, on_edge};
 use crate::features::Features;
 use crate::record::Out;
 use crate::sheet::Sheet;
 use crate::source::Source;
-use crate::word::{bytes, ended, kind};
+use crate::word::{bytes, ended, kind, value};
 use crate::{random, reader, run_answer};
 
 /// A question of this kind is a run list.
@@ -17,16 +17,14 @@ pub fn write(out: &mut Out, seed: u64, count: usize) {
     let mut source = Source::new(seed);
     let mut features = Features::default();
     for number in 0..count {
-        let words = sheet(&mut source, number);
+        let (words, calls) = sheet(&mut source, number);
         let sheet = Sheet::from_words(&words);
-        let ends = ends(&mut source, sheet.tour.len());
+        let ends = ends(&mut source, calls.len());
         let starts = [&[0], &ends[..]].concat();
         let routes: Vec<Vec<usize>> = std::iter::zip(starts, &ends)
-            .map(|(start, &end)| sheet.tour[start..end].to_vec())
+            .map(|(start, &end)| calls[start..end].to_vec())
             .collect();
-        let mut question = vec![u8::try_from(ends.len()).expect("few runs")];
-        question.extend(ends.iter().map(|&e| u8::try_from(e).expect("few calls")));
-        question.extend(bytes(&words));
+        let question = [counted(&ends), counted(&calls), bytes(&words)].concat();
         let answer = run_answer::of(&sheet, &routes);
         features.runs(&sheet, &routes, &answer);
         out.put(RUNS, &question, &answer);
@@ -34,25 +32,43 @@ pub fn write(out: &mut Out, seed: u64, count: usize) {
     eprintln!("{features}");
 }
 
-/// An accepted sheet. Of two hundred 170 are medium, 25 long, four large and one full. Of four at most one has lateness pay, and one has nothing that makes a run infeasible.
-fn sheet(source: &mut Source, number: usize) -> Vec<u32> {
-    let mut words = match number % 40 {
-        0..34 => random::medium(source),
-        34..39 => random::long(source),
-        _ if number % 200 == 199 => random::full(source),
-        _ => random::large(source),
+/// How many numbers there are and then each, a byte for each.
+fn counted(numbers: &[usize]) -> Vec<u8> {
+    let all = [&[numbers.len()], numbers].concat();
+    all.iter()
+        .map(|&n| u8::try_from(n).expect("a small number"))
+        .collect()
+}
+
+/// An accepted sheet and the calls of its runs. Of two hundred sheets 170 are medium, 25 short with many calls, four large and one full. Of four at most one has lateness pay, and one has nothing that makes a run infeasible.
+fn sheet(source: &mut Source, number: usize) -> (Vec<u32>, Vec<usize>) {
+    let (mut words, many) = match number % 40 {
+        0..34 => (random::medium(source), 1 + source.below(9)),
+        34..39 => (random::short(source), 100 + source.below(29)),
+        _ if number % 200 == 199 => (random::full(source), 128),
+        _ => (random::large(source), 64 + source.below(65)),
     };
     words = match source.below(4) {
         0 => words,
         1 => unconstrained(&words),
         _ => without_pay(&words),
     };
+    let calls = calls(source, &words, many);
     let mut moved = words.clone();
-    on_edge(source, &mut moved);
+    on_edge(source, &mut moved, &calls);
     if reader::words(&bytes(&moved)).is_ok() {
         words = moved;
     }
-    words
+    (words, calls.iter().map(|&c| c as usize).collect())
+}
+
+/// The tour, every other time where runs are short; else any customers, so many of them, and one may come again.
+fn calls(source: &mut Source, words: &[u32], many: u32) -> Vec<u32> {
+    let customers = value(words[0]) - 1;
+    if customers == 0 || many < 10 && source.one_in(2) {
+        return all(words, 0xE);
+    }
+    (0..many).map(|_| 1 + source.below(customers)).collect()
 }
 
 /// The same sheet without limits, break and windows.
@@ -77,7 +93,7 @@ fn without_pay(words: &[u32]) -> Vec<u32> {
     ended(kept)
 }
 
-/// At most 128 run ends that don't fall, up to the number of calls; empty runs among them. Runs are short, longer, or as long as the tour is.
+/// At most 128 run ends that don't fall, up to the number of calls; empty runs among them. Runs are short, longer, or all calls are one.
 fn ends(source: &mut Source, calls: usize) -> Vec<usize> {
     let whole = calls as u32;
     let step = source.one_of(&[4, 12, whole / 2 + 2, 4 * whole + 1, 4 * whole + 1]);

@@ -35,6 +35,17 @@ impl Source {
         numbers[self.below(numbers.len() as u32) as usize]
     }
 
+    /// So many different numbers below `bound`, or all of them, in any order.
+    pub fn some(&mut self, bound: u32, count: u32) -> Vec<u32> {
+        let mut numbers: Vec<u32> = (0..bound).collect();
+        for at in 0..numbers.len() {
+            let other = at + self.below(bound - at as u32) as usize;
+            numbers.swap(at, other);
+        }
+        numbers.truncate(count as usize);
+        numbers
+    }
+
     /// One less, the number itself, or one more.
     pub fn near(&mut self, number: u32) -> u32 {
         (number + self.below(3)).saturating_sub(1)

@@ -11,7 +11,7 @@ use Rattle.whole.proofs.Bits.{fl-zero}
 use Rattle.definitions.specs.Load.{Load}
 use Rattle.definitions.specs.Sheet.{Sheet, CustomerOf}
 use Rattle.definitions.specs.Reader.{sheet, refusedAt, read}
-use Rattle.bounds.proofs.Inside.{few-calls}
+use Rattle.bounds.proofs.Inside.{few-tour}
 use Rattle.evaluation.specs.Records.{LimitsF}
 use Rattle.cut_rows.specs.Runs.{Instance}
 use Rattle.cut_exact.proofs.Exact.{below-64}
@@ -36,7 +36,7 @@ module _ {s : Sheet} {calls : List ℕ} {l : Loaded} {old new : Arrays} (H : Hol
   callable =
       let M = H .in-memory in
       let visited = take (l .calls) (new .tour) in
-      record { few = few-calls s visited (M .calls); below = below-64 s (M .within) visited (M .calls) }
+      record { few = few-tour s (M .within) visited (M .calls) (M .once); below = below-64 s (M .within) visited (M .calls) }
 
 -- ---- rounds
 

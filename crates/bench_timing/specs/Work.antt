@@ -4,6 +4,7 @@ use mathlib.Core.List.{List, map}
 use lib.Ieee.{Float}
 use lib.ListN.{length}
 use Rattle.whole.specs.Whole.{fl}
+use Rattle.cut_theory.specs.Tab.{mostCut}
 use Rattle.definitions.specs.Sheet.{Sheet}
 use Rattle.definitions.specs.Reader.{Reading, sheet, refusedAt}
 use Rattle.definitions.specs.Room.{written}
@@ -27,7 +28,7 @@ use Rattle.bench_timing.specs.Every.{everyEnds}
 
 -- a tour as the works take it: not too long, and each call is among the records
 pub record Callable (tour : List ℕ) : Type 0 where
-  pub few : length tour ≤ 128
+  pub few : length tour ≤ mostCut
   pub below : Below64 tour
 
 -- what is held of a sheet, with its tables

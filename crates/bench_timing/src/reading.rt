@@ -5,6 +5,7 @@ ghost use Rattle.whole.specs.Whole.{fl};
 ghost use Rattle.definitions.specs.Reader as Reader;
 ghost use Rattle.sheet_loaded.specs.Held.{Found};
 ghost use Rattle.bench_timing.specs.Work.{lastOf, onSheet};
+use cut_table::cells::MOST_CUT;
 use sheet_loaded::load::load;
 use sheet_read::read::Contents;
 use sheet_read::read::Reading;
@@ -16,7 +17,7 @@ fn loaded_calls(
     found: Contents,
     distances: &mut [f64; 4096],
     times: &mut [f64; 4096],
-    tour: &mut [usize; 128],
+    tour: &mut [usize; MOST_CUT],
 ) -> f64
     requires { ⌜ Found (now bytes) found ⌝ }
     ensures { λ r. ⌜ r ≡ onSheet (λ s calls. fl (length calls)) (Reader.read (now (bytes .entry))) ⌝ }
@@ -30,7 +31,7 @@ fn read_calls(
     bytes: &[u8],
     distances: &mut [f64; 4096],
     times: &mut [f64; 4096],
-    tour: &mut [usize; 128],
+    tour: &mut [usize; MOST_CUT],
 ) -> f64
     ensures { λ r. ⌜ r ≡ onSheet (λ s calls. fl (length calls)) (Reader.read (now (bytes .entry))) ⌝ }
 {
@@ -49,7 +50,7 @@ pub extern "C" fn timing_read(sheet: &[u8], rounds: u32) -> f64
 {
     let mut distances = [0.0; 4096];
     let mut times = [0.0; 4096];
-    let mut tour = [0usize; 128];
+    let mut tour = [0usize; MOST_CUT];
     let mut calls = 0.0;
     let mut k: u32 = 0;
     while k < rounds {

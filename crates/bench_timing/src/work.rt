@@ -6,6 +6,7 @@ ghost use Rattle.definitions.specs.Reader as Reader;
 ghost use Rattle.sheet_loaded.specs.Held.{Found};
 ghost use Rattle.bench_timing.specs.Work.{Callable, instanceIn, splitTwCost, reversedDistance, runsLeft, workF, lastOf, timed};
 use crate::every::write_every;
+use cut_table::cells::MOST_CUT;
 use improve_base::search::search_of;
 use route_elimination::route_elimination::eliminate_routes;
 use sheet_loaded::load::Loaded;
@@ -243,7 +244,7 @@ fn on_sheet(bytes: &[u8], found: Contents, work: Work, n: u32) -> f64
 {
     let mut distances = [0.0; 4096];
     let mut times = [0.0; 4096];
-    let mut tour = [0usize; 128];
+    let mut tour = [0usize; MOST_CUT];
     let held = load(bytes, found, &mut distances, &mut times, &mut tour);
     repeated(
         n,

@@ -20,8 +20,9 @@ use Rattle.definitions.specs.Sheet.{Window, Break, Customer, Sheet, records, de
 use Rattle.definitions.specs.Run.{lastOf, breakAt}
 use Rattle.definitions.specs.Drop.{callsAt}
 use Rattle.definitions.proofs.LoadLaws.{tested-most}
-use Rattle.definitions.specs.Refusals.{unfit, badOptional, badBreak, badWindow, badCustomer, Within, WithinCalls}
+use Rattle.definitions.specs.Refusals.{unfit, badOptional, badBreak, badWindow, badCustomer, Within, WithinCalls, repeats}
 use Rattle.theorems.proofs.Ranges.{in-range, tables-even, break-in-range, window-in-range, customer-in-range}
+use Rattle.theorems.proofs.Repeats.{tour-few}
 use Rattle.bounds.specs.Sized.{Small, SmallWindow, SmallBreak, SmallCustomer, timesOf, Sized, Place}
 
 -- ---- the facts of `Sized` follow from the tests
@@ -117,6 +118,11 @@ module _ (s : Sheet) where
   are-calls calls e =
       fails-not (isCall (s .head .places)) calls
       (any-fails (λ (c : ℕ). not (isCall (s .head .places) c)) calls (or-right (ltb mostCalls (length calls)) _ e))
+
+  -- those of a tour are fewer, since it has each customer at most once
+  pub few-tour : Within s → (tour : List ℕ) → WithinCalls s tour → repeats tour ≡ false → length tour ≤ 63
+  few-tour W tour e o =
+      tour-few (s .head .places) tour (not-false (isPlaces (s .head .places)) (in-range some s (W .ranged) .places)) (are-calls tour e) o
 
   pub calls-inside : (calls : List ℕ) → WithinCalls s calls → All (Place s) calls
   calls-inside calls e =

@@ -5,6 +5,7 @@ use call_improvers::eliminating::Elimination;
 use call_improvers::eliminating::eliminate_routes;
 use call_improvers::reversing::Reversed;
 use call_improvers::reversing::two_opt_improve;
+use cut_table::cells::MOST_CUT;
 use sheet_loaded::load::load;
 use sheet_read::read::Contents;
 
@@ -23,7 +24,7 @@ pub fn reverse_sheet(
 {
     let mut distances = [0.0; 4096];
     let mut times = [0.0; 4096];
-    let mut tour = [0usize; 128];
+    let mut tour = [0usize; MOST_CUT];
     let l = load(bytes, found, &mut distances, &mut times, &mut tour);
     let customers = l.customers;
     two_opt_improve(
@@ -55,7 +56,7 @@ pub fn eliminate_sheet(
 {
     let mut distances = [0.0; 4096];
     let mut times = [0.0; 4096];
-    let mut tour = [0usize; 128];
+    let mut tour = [0usize; MOST_CUT];
     let l = load(bytes, found, &mut distances, &mut times, &mut tour);
     let customers = l.customers;
     eliminate_routes(

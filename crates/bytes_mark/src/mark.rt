@@ -3,6 +3,7 @@
 ghost use Rattle.sheet_loaded.specs.Held.{Found};
 ghost use Rattle.bytes_mark.specs.Mark.{givenRuns, SheetMarked};
 use call_cuts::marking::Marking;
+use cut_table::cells::MOST_CUT;
 use sheet_loaded::load::load;
 use sheet_read::read::Contents;
 
@@ -21,7 +22,7 @@ pub fn mark_sheet(
 {
     let mut distances = [0.0; 4096];
     let mut times = [0.0; 4096];
-    let mut tour = [0usize; 128];
+    let mut tour = [0usize; MOST_CUT];
     let l = load(bytes, found, &mut distances, &mut times, &mut tour);
     let customers = l.customers;
     call_cuts::marking::mark(

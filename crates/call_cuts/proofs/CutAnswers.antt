@@ -4,16 +4,15 @@ use mathlib.Core.Path.{_≡_, ap, _∙_}
 use mathlib.Core.List.{List, [], _∷_}
 use lib.ListN.{length}
 use lib.Ieee.{Float}
-use Rattle.bounds.proofs.Inside.{few-calls}
 use Rattle.cut_stops.specs.Stops.{Below64}
 use Rattle.cut_exact.proofs.Exact.{below-64}
-use Rattle.definitions.specs.Domain.{mostCalls}
+use Rattle.cut_theory.specs.Tab.{mostCut}
 use Rattle.definitions.specs.Sheet.{Sheet, own}
 use Rattle.definitions.specs.Drop.{Result}
 use Rattle.definitions.specs.Lent.{Lent, cutting}
 use Rattle.definitions.specs.Room.{written}
 use Rattle.definitions.specs.Answers.{Answer, refused, gives, front, answer}
-use Rattle.theorems.proofs.Accepted.{Accepted}
+use Rattle.theorems.proofs.Accepted.{Accepted, accepted-few}
 use Rattle.whole.specs.Value.{value}
 use Rattle.models.specs.Image.{flSheet}
 use Rattle.models.specs.declared.customer.Customer.{Customer}
@@ -76,7 +75,7 @@ CutsTo Q L answered r L' =
 
 module _ (Q : Asked) (L : Lists) (number : ℕ) (refuses : Refuses cutting (lentWith Q L) (Q .count) (Q .array) number) where
   -- an accepted tour is not too long, its calls are places, and the lists are long enough for it
-  pub cut-room : number ≡ 0 → length (Q .array) ≡ 64 → ((length (Q .tour) ≤ mostCalls) × Below64 (Q .tour))
+  pub cut-room : number ≡ 0 → length (Q .array) ≡ 64 → ((length (Q .tour) ≤ mostCut) × Below64 (Q .tour))
       × ((length (Q .tour) ≤ length (L .served)) × (length (Q .tour) ≤ length (L .ends)) × (length (Q .tour) ≤ length (L .dropped)))
   cut-room z full =
       let cs = padded (Q .count) (Q .array) in
@@ -84,7 +83,7 @@ module _ (Q : Asked) (L : Lists) (number : ℕ) (refuses : Refuses cutting (lent
       let a =
       accepted cutting (Q .head) (Q .array) (Q .count) (Q .distances) (Q .times) (Q .tour) [] [] [] (rooms Q L) number refuses z cs
       (gathered-from (Q .array) full (Q .count)) in
-      ((few-calls s (Q .tour) (a .tour), below-64 s (a .within) (Q .tour) (a .tour)), (a .results .0, a .results .1 .0, a .results .1 .1 .0))
+      ((accepted-few value cutting (lentWith Q L cs) a, below-64 s (a .within) (Q .tour) (a .tour)), (a .results .0, a .results .1 .0, a .results .1 .1 .0))
 
   module _ (cut : Sheet → Result) where
     abbrev answered : List Customer → Answer Result

@@ -5,11 +5,12 @@ use mathlib.Core.Bool.{false}
 use mathlib.Core.List.{List, []}
 use lib.ListN.{length}
 use lib.Ieee.{Float}
+use Rattle.cut_theory.specs.Tab.{mostCut}
 use Rattle.definitions.specs.Domain.{mostCalls}
 use Rattle.definitions.specs.Lent.{marking}
 use Rattle.definitions.specs.Refusals.{endsFall}
 use Rattle.definitions.specs.Answers.{markOf}
-use Rattle.theorems.proofs.Accepted.{Accepted}
+use Rattle.theorems.proofs.Accepted.{Accepted, accepted-few}
 use Rattle.cut_stops.specs.Stops.{Below64}
 use Rattle.cut_exact.proofs.Exact.{below-64}
 use Rattle.bounds.proofs.Inside.{few-calls}
@@ -46,8 +47,8 @@ module _ (Q : Asked) (R : Given) (number : ℕ) (refuses : Refuses marking (lent
         accepted marking (Q .head) (Q .array) (Q .count) (Q .distances) (Q .times) (Q .tour) (R .calls) (R .ends) (R .places) [] number refuses z cs
         (gathered-from (Q .array) full (Q .count))
 
-    pub tour-few : length (Q .array) ≡ 64 → length (Q .tour) ≤ mostCalls
-    tour-few full = few-calls (meantWith Q cs) (Q .tour) (lists-accepted full .tour)
+    pub tour-few : length (Q .array) ≡ 64 → length (Q .tour) ≤ mostCut
+    tour-few full = accepted-few value marking (lentWith Q R cs) (lists-accepted full)
 
     pub tour-below : length (Q .array) ≡ 64 → Below64 (Q .tour)
     tour-below full = let a = lists-accepted full in below-64 (meantWith Q cs) (a .within) (Q .tour) (a .tour)

@@ -2,6 +2,7 @@
 // in arrays of the call's own, and the cutting is marked against it.
 ghost use Rattle.call_shared.specs.Answers.{Answers};
 ghost use Rattle.call_cuts.specs.Marking.{markFor};
+use cut_table::cells::MOST_CUT;
 use marker::verdict::Verdict;
 use models::customer::Customer;
 use models::head::Head;
@@ -34,9 +35,9 @@ pub fn mark(
     if number != 0 {
         return Marking::Refused(number);
     }
-    let mut served = [0usize; 128];
-    let mut run_ends = [0usize; 128];
-    let mut dropped = [0usize; 128];
+    let mut served = [0usize; MOST_CUT];
+    let mut run_ends = [0usize; MOST_CUT];
+    let mut dropped = [0usize; MOST_CUT];
     let cut = split_tw(
         tour,
         all,

@@ -150,7 +150,7 @@ module _ (bytes : List ℕ) (room : ℕ) (distances times : List Float) (tour : 
         let is = sym (S .2) in
         let d' = distances-whole bytes (S .0) (S .1) (S .2) distances (long .1 .0) ∙ ap (λ (o : Reader.Reading). map fl (readDistances o)) is in
         let t' = times-whole bytes (S .0) (S .1) (S .2) times (long .1 .1 .0) ∙ ap (λ (o : Reader.Reading). map fl (readTimes o)) is in
-        let l' = tour-whole bytes (S .0) (S .1) (S .2) tour (long .1 .1 .1 .0) ∙ ap readTour is in
+        let l' = tour-whole bytes (S .0) (S .1) (S .2) tour (omega (arith, long .1 .1 .1 .0)) ∙ ap readTour is in
         rw h
         (record {
           answer = S .3;

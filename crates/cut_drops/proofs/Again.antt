@@ -9,7 +9,7 @@ use lib.Seq.{getD-set-other}
 use lib.Dec.{eqb}
 use borrow.Author.Tests.{eqb-true, eqb-false}
 use Rattle.basics.proofs.TestLaws.{by-test}
-use Rattle.cut_theory.specs.Tab.{cells}
+use Rattle.cut_theory.specs.Tab.{mostCut, cells}
 use Rattle.cut_table.specs.Table.{Table}
 use Rattle.evaluation.specs.Records.{Tables}
 use Rattle.cut_stops.specs.Stops.{WorkedOut, LegsAre}
@@ -71,7 +71,7 @@ module _ (I : Tables → Instance) (x : RowLists) (q : ℕ) where
     unfolding Again
     none-again t W L k = k
 
-    module _ (s : ℕ) (b : s < q) (inside : q ≤ length (x .held)) (few : length (x .held) ≤ 128) (old : Rows) (A : Again s from old) where
+    module _ (s : ℕ) (b : s < q) (inside : q ≤ length (x .held)) (few : length (x .held) ≤ mostCut) (old : Rows) (A : Again s from old) where
       -- row s is filled
       pub row-again : (new : Rows) → Noted I x s old new → Again (s + 1) from new
       unfolding Again Noted

@@ -15,7 +15,7 @@ use Rattle.basics.proofs.TestLaws.{by-test}
 use Rattle.basics.specs.Lists.{without, count}
 use Rattle.basics.proofs.ListLaws.{length-count, length-without}
 use Rattle.basics.proofs.Parts.{without-alike}
-use Rattle.cut_theory.specs.Tab.{cells}
+use Rattle.cut_theory.specs.Tab.{mostCut, cells}
 use Rattle.cut_theory.proofs.TabLaws.{length-tab}
 use Rattle.cut_theory.specs.First.{FirstOf}
 use Rattle.cut_theory.proofs.FirstLaws.{first-none, first-some}
@@ -93,7 +93,7 @@ filled-long I held i legs x F =
       reach-long = F .reach-long;
     }
 
-module _ (I : Instance) (held : List ℕ) (n i : ℕ) (legs : LegLists) (old new : Rows) (few : n ≤ 128) (long : n ≤ length held)
+module _ (I : Instance) (held : List ℕ) (n i : ℕ) (legs : LegLists) (old new : Rows) (few : n ≤ mostCut) (long : n ≤ length held)
     (F : Filled I (take n held) i legs old) (b : i < n) (N : NotedRow (tariff I) (take n held) i old new) where
   -- the runs of the calls held
   abbrev runs : List ℕ → Legs
@@ -157,7 +157,7 @@ pub record Settling (I : Instance) (tour dropped₀ : List ℕ) (n i : ℕ) (x :
 
 -- the lists are long enough, whatever the tables
 pub record Roomy (tour held₀ dropped₀ : List ℕ) (n i : ℕ) (x : Calls) : Type 0 where
-  pub short : length tour ≤ 128
+  pub short : length tour ≤ mostCut
   pub few : n ≤ length tour
   pub low : i ≤ n
   pub held-room : length tour ≤ length (x .held)
@@ -165,7 +165,7 @@ pub record Roomy (tour held₀ dropped₀ : List ℕ) (n i : ℕ) (x : Calls) : 
   pub below : Below64 (take n (x .held))
   pub held-long : length (x .held) ≡ length held₀
   pub dropped-long : length (x .dropped) ≡ length dropped₀
-  pub positions-long : length (x .positions) ≡ 128
+  pub positions-long : length (x .positions) ≡ mostCut
 
 module _ (I : Instance) (tour : List ℕ) where
   -- one turn, by the place that is stuck

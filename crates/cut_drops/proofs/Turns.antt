@@ -10,7 +10,7 @@ use lib.Seq.{length-take-le}
 use lib.IntN.{pos}
 use lib.Ieee.{Float, nan, inf, fin, lt, ofInt}
 use Rattle.cut_theory.proofs.CarriedLaws.{none-done}
-use Rattle.cut_theory.specs.Tab.{cells}
+use Rattle.cut_theory.specs.Tab.{mostCut, cells}
 use Rattle.whole.specs.Whole.{fl}
 use Rattle.evaluation.specs.Records.{Tables}
 use Rattle.models.specs.declared.customer.Customer.{Customer}
@@ -45,7 +45,7 @@ module _ (E : Given) where
 
   -- ---- row i of the n calls held, over the lists
 
-  module _ (n i gone : ℕ) (x : Work) (few : n ≤ 128) (long : n ≤ length (x .calls .held)) (b : i < n)
+  module _ (n i gone : ℕ) (x : Work) (few : n ≤ mostCut) (long : n ≤ length (x .calls .held)) (b : i < n)
       (new : Rows) (N : Noted byTables (rowsOf (take n (x .calls .held)) (x .legs)) i (x .rows) new) where
     abbrev held : List ℕ
     held = x .calls .held

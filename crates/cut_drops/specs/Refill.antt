@@ -9,7 +9,7 @@ use lib.Ieee.{Float, nan, inf}
 use Rattle.basics.specs.Lists.{count}
 use Rattle.cut_theory.specs.Cut.{best}
 use Rattle.cut_theory.specs.Cut as Cut
-use Rattle.cut_theory.specs.Tab.{cells}
+use Rattle.cut_theory.specs.Tab.{mostCut, cells}
 use Rattle.cut_theory.specs.Rows.{Legs, rule64}
 use Rattle.cut_theory.specs.Carried.{Carry, carriedTo}
 use Rattle.definitions.specs.Drop.{callsAt}
@@ -167,7 +167,7 @@ pub record Turned (I : Instance) (n i gone : ℕ) (r : Bool) (old new : Work) : 
 
 -- a turn can be made at row i of the n calls held, `gone` of which were dropped before
 pub record TurnReady (E : Given) (n i gone : ℕ) (x : Work) : Type 0 where
-  pub few : n ≤ 128
+  pub few : n ≤ mostCut
   pub may-drop : MayDrop n i gone (x .calls)
   pub below : Below64 (take n (x .calls .held))
   pub rows-long : RowsLong (x .rows)
@@ -191,7 +191,7 @@ Unfilled t =
 
 -- n calls stand at the front of `held`, and all of them may be dropped
 pub record Front (n : ℕ) (held dropped : List ℕ) : Type 0 where
-  pub few : n ≤ 128
+  pub few : n ≤ mostCut
   pub held-long : n ≤ length held
   pub dropped-long : n ≤ length dropped
   pub below : Below64 (take n held)
@@ -199,7 +199,7 @@ pub record Front (n : ℕ) (held dropped : List ℕ) : Type 0 where
 -- the drops can begin: all n calls are held, their legs are written, and no row is filled
 pub record StuckReady (E : Given) (n : ℕ) (x : Work) : Type 0 where
   pub front : Front n (x .calls .held) (x .calls .dropped)
-  pub positions-long : length (x .calls .positions) ≡ 128
+  pub positions-long : length (x .calls .positions) ≡ mostCut
   pub positions-are : take n (x .calls .positions) ≡ count 1 n
   pub reach-long : length (x .rows .reach) ≡ cells
   pub legs-long : LegsLong (x .legs)

@@ -10,6 +10,8 @@ use crate::refill::noted_row;
 use crate::refill::refill;
 use cut_rows::terms::Terms;
 use cut_stops::stops::write_legs;
+use cut_table::cells::CELLS;
+use cut_table::cells::MOST_CUT;
 use cut_table::held::drop_call;
 use cut_table::held::number;
 use whole::infinity;
@@ -17,13 +19,13 @@ use whole::infinity;
 // After the call at q was dropped: the legs from there on are worked out, and the rows below q filled
 // again.
 pub fn close_gap(
-    cost: &mut [f64; 129],
-    dist: &mut [f64; 129],
-    pred: &mut [usize; 129],
-    reach: &mut [usize; 129],
+    cost: &mut [f64; CELLS],
+    dist: &mut [f64; CELLS],
+    pred: &mut [usize; CELLS],
+    reach: &mut [usize; CELLS],
     held: &[usize],
-    legs: &mut [f64; 128],
-    time_legs: &mut [f64; 128],
+    legs: &mut [f64; MOST_CUT],
+    time_legs: &mut [f64; MOST_CUT],
     distances: &[f64],
     times: &[f64],
     size: usize,
@@ -76,18 +78,18 @@ pub fn row_or_drop(
     i: usize,
     dropped: &mut [usize],
     gone: usize,
-    legs: &mut [f64; 128],
-    time_legs: &mut [f64; 128],
+    legs: &mut [f64; MOST_CUT],
+    time_legs: &mut [f64; MOST_CUT],
     distances: &[f64],
     times: &[f64],
     size: usize,
     codes: &[u32],
     figures: &[f64],
     terms: Terms,
-    cost: &mut [f64; 129],
-    dist: &mut [f64; 129],
-    pred: &mut [usize; 129],
-    reach: &mut [usize; 129],
+    cost: &mut [f64; CELLS],
+    dist: &mut [f64; CELLS],
+    pred: &mut [usize; CELLS],
+    reach: &mut [usize; CELLS],
 ) -> bool
     requires { let E = given (now distances) (now times) size (now codes) (now figures) terms in
         let x = work (calls (now held) (now positions) (now dropped)) (legLists (now legs) (now «time_legs»))
@@ -150,18 +152,18 @@ pub fn drop_stuck(
     positions: &mut [usize],
     n: usize,
     dropped: &mut [usize],
-    legs: &mut [f64; 128],
-    time_legs: &mut [f64; 128],
+    legs: &mut [f64; MOST_CUT],
+    time_legs: &mut [f64; MOST_CUT],
     distances: &[f64],
     times: &[f64],
     size: usize,
     codes: &[u32],
     figures: &[f64],
     terms: Terms,
-    cost: &mut [f64; 129],
-    dist: &mut [f64; 129],
-    pred: &mut [usize; 129],
-    reach: &mut [usize; 129],
+    cost: &mut [f64; CELLS],
+    dist: &mut [f64; CELLS],
+    pred: &mut [usize; CELLS],
+    reach: &mut [usize; CELLS],
 ) -> usize
     requires { let E = given (now distances) (now times) size (now codes) (now figures) terms in
         let x = work (calls (now held) (now positions) (now dropped)) (legLists (now legs) (now «time_legs»))
@@ -217,9 +219,9 @@ pub fn hold(
     codes: &[u32],
     figures: &[f64],
     terms: Terms,
-    cost: &mut [f64; 129],
-    dist: &mut [f64; 129],
-    pred: &mut [usize; 129],
+    cost: &mut [f64; CELLS],
+    dist: &mut [f64; CELLS],
+    pred: &mut [usize; CELLS],
 ) -> usize
     requires { ⌜ Front n (now held) (now dropped) ⌝ }
     requires { ⌜ Unfilled (table (now cost) (now dist) (now pred)) ⌝ }
@@ -231,10 +233,10 @@ pub fn hold(
         ⌜ Holds E (take n (now (held .entry))) (now (dropped .entry)) r (now (held .exit)) (now (dropped .exit)) t ⌝ }
     ensures { λ r. ⌜ r ≤ n ⌝ }
 {
-    let mut positions = [0usize; 128];
+    let mut positions = [0usize; MOST_CUT];
     number(&mut positions, 1, n);
-    let mut legs = [0.0; 128];
-    let mut time_legs = [0.0; 128];
+    let mut legs = [0.0; MOST_CUT];
+    let mut time_legs = [0.0; MOST_CUT];
     write_legs(
         distances,
         times,
@@ -244,7 +246,7 @@ pub fn hold(
         &mut legs,
         &mut time_legs,
     );
-    let mut reach = [0usize; 129];
+    let mut reach = [0usize; CELLS];
     drop_stuck(
         &mut *held,
         &mut positions,

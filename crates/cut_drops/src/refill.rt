@@ -4,15 +4,16 @@ ghost use Rattle.cut_rows.specs.Runs.{over, rowLists};
 ghost use Rattle.cut_drops.specs.Refill.{rows, NoteReady, TableCleared, Listed, Noted, Refilled};
 use cut_rows::rows::row;
 use cut_rows::terms::Terms;
+use cut_table::cells::CELLS;
 use whole::infinity;
 
 // Row i of the calls held, and in `reach` how far it went: the place of the call that ended it, or the
 // number of calls.
 pub fn noted_row(
-    cost: &mut [f64; 129],
-    dist: &mut [f64; 129],
-    pred: &mut [usize; 129],
-    reach: &mut [usize; 129],
+    cost: &mut [f64; CELLS],
+    dist: &mut [f64; CELLS],
+    pred: &mut [usize; CELLS],
+    reach: &mut [usize; CELLS],
     held: &[usize],
     legs: &[f64],
     time_legs: &[f64],
@@ -46,7 +47,12 @@ pub fn noted_row(
 }
 
 // Clears the cells from `from` on.
-pub fn clear(cost: &mut [f64; 129], dist: &mut [f64; 129], pred: &mut [usize; 129], from: usize)
+pub fn clear(
+    cost: &mut [f64; CELLS],
+    dist: &mut [f64; CELLS],
+    pred: &mut [usize; CELLS],
+    from: usize,
+)
     requires { ⌜ Sized (table (now cost) (now dist) (now pred)) ⌝ }
     ensures { λ _.
         let old = table (now (cost .entry)) (now (dist .entry)) (now (pred .entry)) in
@@ -55,7 +61,7 @@ pub fn clear(cost: &mut [f64; 129], dist: &mut [f64; 129], pred: &mut [usize; 12
 {
     let top = infinity();
     let mut k = from;
-    while k < 129 {
+    while k < CELLS {
         cost[k] = top;
         dist[k] = 0.0;
         pred[k] = 0;
@@ -66,10 +72,10 @@ pub fn clear(cost: &mut [f64; 129], dist: &mut [f64; 129], pred: &mut [usize; 12
 // The table of the rows below q, after the call at q was dropped: the cells up to q stay, and of the
 // rows only those that had gone as far as that call are filled again.
 pub fn refill(
-    cost: &mut [f64; 129],
-    dist: &mut [f64; 129],
-    pred: &mut [usize; 129],
-    reach: &mut [usize; 129],
+    cost: &mut [f64; CELLS],
+    dist: &mut [f64; CELLS],
+    pred: &mut [usize; CELLS],
+    reach: &mut [usize; CELLS],
     held: &[usize],
     legs: &[f64],
     time_legs: &[f64],

@@ -10,6 +10,7 @@ use lib.ListN.{length, getD}
 use lib.Dec.{eqb}
 use lib.Ieee.{Float, nan, inf, fin, binary64, add, eq, lt}
 use Rattle.basics.proofs.TestLaws.{and-true}
+use Rattle.cut_theory.specs.Tab.{mostCut}
 use Rattle.cut_theory.specs.Priced.{added}
 use Rattle.cut_theory.proofs.PricedBest.{strict}
 use Rattle.cut_theory.specs.Carried.{Filling}
@@ -122,7 +123,7 @@ module _ {T : Tariff} {R : Row} {new : Table} {load : Load} {gone : Float} {prev
 -- call number m, with its leg: the load and the way with it
 pub record OneMore (T : Tariff) (R : Row) (load : Load) (gone : Float) (prev m : ℕ) (load' : Load) (gone' : Float) : Type 0 where
   pub inside : m < length (R .st)
-  pub short : R .i + length (R .st) ≤ 128
+  pub short : R .i + length (R .st) ≤ mostCut
   pub demand : Load
   pub leg : Float
   pub is-demand : demand ≡ T .demand (getD (R .st) m 0)

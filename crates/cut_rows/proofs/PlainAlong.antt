@@ -7,6 +7,7 @@ use mathlib.Core.Option.{none, some}
 use lib.ListN.{length, getD}
 use lib.Dec.{eqb}
 use lib.Ieee.{Float, binary64, add}
+use Rattle.cut_theory.specs.Tab.{mostCut}
 use Rattle.models.specs.Limits.{allowF}
 use Rattle.whole.specs.Whole.{fl}
 use Rattle.cut_table.specs.Table.{Table, Offered}
@@ -35,7 +36,7 @@ plain-setout A et el = record { along = in-place A; timed = rw (et, el) refl }
 module _ (I : Instance) (unbroken : I .limits .rest ≡ none) {R : Row} {new : Table} {load : Load} {gone time late : Float} {m : ℕ}
     {load' : Load} {gone' : Float} (s : StopF) (leg travel arrival : Float)
     (A : PlainAlong I R new load gone time late m) (C : CallIs (I .tables) (R .st) m s leg travel)
-    (b : m < length (R .st)) (short : R .i + length (R .st) ≤ 128)
+    (b : m < length (R .st)) (short : R .i + length (R .st) ≤ mostCut)
     (es : load' ≡ plus load (s .customer .demand))
     (ef : carried load' (I .capacity) ≡ true)
     (eg : gone' ≡ joinedF gone leg (eqb m 0))

@@ -7,6 +7,7 @@ use mathlib.Core.Option.{Option, none, some}
 use lib.ListN.{length, getD}
 use lib.Dec.{eqb}
 use lib.Ieee.{Float, binary64, add}
+use Rattle.cut_theory.specs.Tab.{mostCut}
 use Rattle.definitions.specs.Sheet.{BreakOf, CustomerOf}
 use Rattle.models.specs.Limits.{allowF}
 use Rattle.clock.specs.Records.{ClockF}
@@ -51,7 +52,7 @@ next-index clock clock' cid c travel m e h = ap (λ (x : ClockF). x .index) e �
 module _ (I : Instance) (rest : BreakOf Float) (broken : I .limits .rest ≡ some rest) {R : Row} {new : Table} {load : Load} {gone : Float}
     {clock : ClockF} {m : ℕ} {load' : Load} {gone' : Float} {clock' : ClockF} (s : StopF) (leg travel : Float)
     (A : RestAlong I rest R new load gone clock m) (C : CallIs (I .tables) (R .st) m s leg travel)
-    (b : m < length (R .st)) (short : R .i + length (R .st) ≤ 128)
+    (b : m < length (R .st)) (short : R .i + length (R .st) ≤ mostCut)
     (es : load' ≡ plus load (s .customer .demand))
     (ef : carried load' (I .capacity) ≡ true)
     (eg : gone' ≡ joinedF gone leg (eqb m 0))

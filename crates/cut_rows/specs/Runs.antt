@@ -9,6 +9,7 @@ use lib.Dec.{eqb}
 use lib.Ieee as Ieee
 use lib.Ieee.{Float, binary64}
 use Rattle.basics.specs.Options.{_>>=_, holds}
+use Rattle.cut_theory.specs.Tab.{mostCut}
 use Rattle.definitions.specs.Load.{Load}
 use Rattle.definitions.specs.Sheet.{WindowOf, BreakOf, CustomerOf}
 use Rattle.models.specs.declared.customer.Customer.{Customer}
@@ -162,10 +163,10 @@ pub record RowLists : Type 0 where
 abbrev pub rowLists : List ℕ → List Float → List Float → List ℕ → List Float → RowLists
 rowLists held legs times codes figures = record { held = held; legs = legLists legs times; stops = numbers codes figures }
 
--- row i of at most 128 calls, each of one of the 64 places, can be filled
+-- row i of calls that are few enough to be cut, each of one of the 64 places, can be filled
 pub record RowReady (x : RowLists) (i : ℕ) (old : Table) : Type 0 where
   pub inside : i ≤ length (x .held)
-  pub few : length (x .held) ≤ 128
+  pub few : length (x .held) ≤ mostCut
   pub below : Below64 (x .held)
   pub legs-long : LegsLong (x .legs)
   pub stops-long : Long (x .stops)

@@ -17,6 +17,7 @@ use crate::way::way_to;
 use clock::schedule::BreakClock;
 use clock::schedule::Finished;
 use cut_stops::stops::stop_at;
+use cut_table::cells::CELLS;
 use cut_table::cells::offer;
 use models::customer::Customer;
 use models::customer::Opening;
@@ -79,9 +80,9 @@ pub fn visit(customer: Customer, time: f64, late_cost: f64) -> Visited
 // Row i without a break: each run that starts at call i, after the best of the calls before it. Gives
 // how many calls the row goes over; no run that goes on from there is legal.
 pub fn plain_row(
-    cost: &mut [f64; 129],
-    dist: &mut [f64; 129],
-    pred: &mut [usize; 129],
+    cost: &mut [f64; CELLS],
+    dist: &mut [f64; CELLS],
+    pred: &mut [usize; CELLS],
     held: &[usize],
     legs: &[f64],
     time_legs: &[f64],
@@ -155,9 +156,9 @@ fn pushed(clock: BreakClock, run: &[usize], customer: Customer, travel: f64) -> 
 
 // Row i with a break: the clock is handed each run, which is a call longer than the one before it.
 pub fn rest_row(
-    cost: &mut [f64; 129],
-    dist: &mut [f64; 129],
-    pred: &mut [usize; 129],
+    cost: &mut [f64; CELLS],
+    dist: &mut [f64; CELLS],
+    pred: &mut [usize; CELLS],
     held: &[usize],
     legs: &[f64],
     time_legs: &[f64],
@@ -216,9 +217,9 @@ pub fn rest_row(
 
 // Row i, with the break of the limits or without one.
 pub fn row(
-    cost: &mut [f64; 129],
-    dist: &mut [f64; 129],
-    pred: &mut [usize; 129],
+    cost: &mut [f64; CELLS],
+    dist: &mut [f64; CELLS],
+    pred: &mut [usize; CELLS],
     held: &[usize],
     legs: &[f64],
     time_legs: &[f64],

@@ -10,6 +10,7 @@ use lib.Dec.{eqb}
 use lib.Ieee.{Float, nan}
 use borrow.Author.Tests.{eqb-true, eqb-false}
 use Rattle.basics.proofs.TestLaws.{by-test}
+use Rattle.cut_theory.specs.Tab.{mostCut}
 use Rattle.evaluation.specs.Tables.{placeBefore}
 use Rattle.cut_stops.specs.Stops.{Lookups, LegLists, legLists, LegsLong, LegIs, LegsWritten}
 
@@ -27,7 +28,7 @@ module _ (by : Lookups) (held : List ℕ) (from : ℕ) (old : LegLists) where
 
   module _ (new : LegLists) (n : ℕ) (W : Written by held from old new n) where
     -- one more is written
-    pub written-more : (prev cid : ℕ) (leg travel : Float) → n < 128 → prev ≡ placeBefore held n → cid ≡ getD held n 0
+    pub written-more : (prev cid : ℕ) (leg travel : Float) → n < mostCut → prev ≡ placeBefore held n → cid ≡ getD held n 0
         → leg ≡ by .distance prev cid → travel ≡ by .time prev cid
         → Written by held from old (legLists (set (new .distances) n leg) (set (new .times) n travel)) (n + 1)
     written-more prev cid leg travel h ep ec el et =

@@ -8,6 +8,7 @@ use lib.ListN.{length, getD}
 use lib.Dec.{eqb}
 use lib.Ieee.{Float, nan}
 use Rattle.basics.specs.Lists.{count}
+use Rattle.cut_theory.specs.Tab.{mostCut}
 use Rattle.definitions.specs.Load.{ofSeats}
 use Rattle.definitions.specs.Sheet.{WindowOf, CustomerOf, timeTable}
 use Rattle.distance.specs.Lookup.{lookupF}
@@ -144,10 +145,10 @@ pub record LegLists : Type 0 where
 abbrev pub legLists : List Float → List Float → LegLists
 legLists distances times = record { distances = distances; times = times }
 
--- there is a leg for each of at most 128 calls
+-- there is a leg for each of the calls that are cut
 pub record LegsLong (legs : LegLists) : Type 0 where
-  pub distances-long : length (legs .distances) ≡ 128
-  pub times-long : length (legs .times) ≡ 128
+  pub distances-long : length (legs .distances) ≡ mostCut
+  pub times-long : length (legs .times) ≡ mostCut
 
 -- leg number k of the calls held
 pub record LegIs (by : Lookups) (held : List ℕ) (legs : LegLists) (k : ℕ) : Type 0 where

@@ -4,9 +4,11 @@ ghost use mathlib.Core.Path.{_≡_};
 ghost use Prim.Native.Nat.{_+_, _*_, _<_, _≤_};
 ghost use lib.ListN.{length};
 ghost use lib.Seq.{sets};
+ghost use Rattle.cut_theory.specs.Tab.{mostCut};
 ghost use Rattle.models.specs.Records.{windowOf, openingOf, penaltyOf, customerOf};
 ghost use Rattle.evaluation.specs.Records.{lent};
 ghost use Rattle.cut_stops.specs.Stops.{openingAt, penaltyAt, code, timesIn, priceIn, stopOf, codesOf, recordFigures, figuresOf, codesEach, figuresEach, numbers, Long, stopAt, WorkedOut, lookups, legLists, LegsLong, LegsWritten};
+use cut_table::cells::MOST_CUT;
 use distance::leg::leg_between;
 use evaluation::route::place_before;
 use models::customer::Customer;
@@ -214,10 +216,10 @@ pub fn write_legs(
     size: usize,
     held: &[usize],
     from: usize,
-    legs: &mut [f64; 128],
-    time_legs: &mut [f64; 128],
+    legs: &mut [f64; MOST_CUT],
+    time_legs: &mut [f64; MOST_CUT],
 )
-    requires { ⌜ (length (now held) ≤ 128) × LegsLong (legLists (now legs) (now «time_legs»)) ⌝ }
+    requires { ⌜ (length (now held) ≤ mostCut) × LegsLong (legLists (now legs) (now «time_legs»)) ⌝ }
     ensures { λ _.
         let by = lookups (now (distances .entry)) (now (times .entry)) size in
         let old = legLists (now (legs .entry)) (now («time_legs» .entry)) in

@@ -7,6 +7,7 @@ use mathlib.Core.List.{List}
 use lib.ListN.{length, getD, set, take}
 use lib.Ieee.{Float, nan, lt}
 use Rattle.basics.specs.Lists.{without}
+use Rattle.cut_theory.specs.Tab.{cells}
 
 -- ---- the table
 
@@ -19,11 +20,11 @@ pub record Table : Type 0 where
 abbrev pub table : List Float → List Float → List ℕ → Table
 table cost far pred = record { cost = cost; far = far; pred = pred }
 
--- its cells: the beginnings of at most 128 calls, the empty one included
+-- it has all its cells
 pub record Sized (t : Table) : Type 0 where
-  pub cost-long : length (t .cost) ≡ 129
-  pub far-long : length (t .far) ≡ 129
-  pub pred-long : length (t .pred) ≡ 129
+  pub cost-long : length (t .cost) ≡ cells
+  pub far-long : length (t .far) ≡ cells
+  pub pred-long : length (t .pred) ≡ cells
 
 -- a cost at j, with the distance beside it and the start i of its last run: a lower cost replaces, and an equal one does not
 pub record Offered (j i : ℕ) (cost far : Float) (old new : Table) : Type 0 where

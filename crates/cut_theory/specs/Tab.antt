@@ -2,9 +2,13 @@
 use Prim.Native.Nat.{ℕ, zero, suc}
 use mathlib.Core.List.{List, [], _∷_}
 
--- the cells of a table: one for each beginning of a tour, the empty one included, and a tour has at most 128 calls
+-- the most calls that are cut: a tour has each of at most 63 customers once
+abbrev pub mostCut : ℕ
+mostCut = 63
+
+-- the cells of a table: one for each beginning of so many calls, the empty one included
 abbrev pub cells : ℕ
-cells = 129
+cells = suc mostCut
 
 module _ {A : Type 0} where
   unfoldable pub tabFrom : (ℕ → A) → ℕ → ℕ → List A

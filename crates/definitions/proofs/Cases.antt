@@ -1,15 +1,21 @@
--- The starred bench cases, each with its full answer; case n besides, and three more. Each holds by computation. Assumes nothing.
+-- The starred bench cases, each with its full answer; case n besides, case r with a repeat, and three more. Each holds by computation. Assumes nothing.
+use Prim.Native.Nat.{ℕ}
 use mathlib.Core.Path.{_≡_, refl}
-use mathlib.Core.Bool.{true}
+use mathlib.Core.Bool.{true, false}
 use mathlib.Core.List.{List, [], _∷_}
 use mathlib.Core.Option.{none, some}
 use Rattle.definitions.specs.Load.{ofSeats}
-use Rattle.definitions.specs.Sheet.{Sheet, depot}
+use Rattle.definitions.specs.Sheet.{Sheet, depot, anySoft}
 use Rattle.definitions.specs.Run.{Run, legal}
 use Rattle.definitions.specs.Evaluation.{routeEval}
 use Rattle.definitions.specs.Cutting.{legalCutting, cuttingCost}
 use Rattle.definitions.specs.Drop.{splitTw}
 use Rattle.definitions.specs.Marker.{cheaper, mark}
+use Rattle.definitions.specs.Encoding.{encode, bodyWords}
+use Rattle.definitions.specs.Reader.{readWords, walk, faultAt, mayStand, inRange, pairFalls, refusedAt}
+use Rattle.definitions.specs.Lent.{Lent}
+use Rattle.definitions.specs.Refusals.{badSheet, outOfRange, pairsFall, refusals, refusalOf}
+use Rattle.definitions.specs.Answers.{refused, answer, splitTwOf}
 use Rattle.definitions.proofs.Bench.{opened, anyone, sheet, base, carrying, until, limited, rested, late, full, tour, together, apart, single, nothingServed, totals, evaluated, run}
 
 pub case-a : splitTw base tour ≡ together 27 27 0
@@ -102,6 +108,17 @@ case-p = (refl, refl)
 pub case-q : (splitTw (late 12 13 5) tour ≡ together 32 27 1) × (mark (late 12 13 5) tour (run tour 2 ∷ []) ≡ cheaper 5)
 unfolding opened
 case-q = (refl, refl)
+
+-- base with customer 1 listed twice: the cut refuses it, and the reader at the second of its E words
+abbrev listedTwice : List ℕ
+listedTwice = 1 ∷ 2 ∷ 1 ∷ []
+
+abbrev toCutTwice : Lent ℕ
+toCutTwice = record { sheet = base; tour = listedTwice; calls = []; ends = []; breaks = []; rooms = 3 ∷ 3 ∷ 3 ∷ [] }
+
+pub case-r : (splitTwOf some toCutTwice ≡ refused 21) × (readWords (encode base listedTwice) false ≡ refusedAt 21 18)
+unfolding answer refusalOf refusals badSheet outOfRange pairsFall anySoft readWords walk faultAt mayStand inRange pairFalls encode bodyWords
+case-r = (refl, refl)
 
 -- ---- beside the bench cases
 

@@ -172,7 +172,7 @@ crooked-break-late : markOf some (lend crookedMark (1 ∷ 2 ∷ []) (1 ∷ 2 ∷
 unfolding answering
 crooked-break-late = refl
 
-crooked-dearer : markOf some (lend crooked (1 ∷ 1 ∷ 2 ∷ []) (1 ∷ 1 ∷ 2 ∷ []) (1 ∷ 3 ∷ []) (0 ∷ 0 ∷ []) []) ≡ gives (dearer 20)
+crooked-dearer : markOf some (lend crooked (1 ∷ 2 ∷ []) (1 ∷ 2 ∷ []) (1 ∷ 2 ∷ []) (0 ∷ 0 ∷ []) []) ≡ gives (dearer 29)
 unfolding answering
 crooked-dearer = refl
 
@@ -247,19 +247,19 @@ short-times : readInto (64 ∷ 4096 ∷ 4095 ∷ 128 ∷ []) [] ≡ refusedAt 13
 unfolding reading
 short-times = refl
 
-front-customers : readCustomers (readWords (encode crooked (1 ∷ 1 ∷ 2 ∷ [])) false) ≡ (depot ∷ asking (ofSeats 1) 1 (window 0 3) (some 2) ∷ asking (ofSeats 2) 2 (window 0 6) (some 5) ∷ [])
+front-customers : readCustomers (readWords (encode crooked (2 ∷ 1 ∷ [])) false) ≡ (depot ∷ asking (ofSeats 1) 1 (window 0 3) (some 2) ∷ asking (ofSeats 2) 2 (window 0 6) (some 5) ∷ [])
 unfolding reading
 front-customers = refl
 
-front-distances : readDistances (readWords (encode crooked (1 ∷ 1 ∷ 2 ∷ [])) false) ≡ (1 ∷ 10 ∷ 12 ∷ 20 ∷ 3 ∷ 5 ∷ 13 ∷ 6 ∷ 4 ∷ [])
+front-distances : readDistances (readWords (encode crooked (2 ∷ 1 ∷ [])) false) ≡ (1 ∷ 10 ∷ 12 ∷ 20 ∷ 3 ∷ 5 ∷ 13 ∷ 6 ∷ 4 ∷ [])
 unfolding reading
 front-distances = refl
 
-front-times : readTimes (readWords (encode crooked (1 ∷ 1 ∷ 2 ∷ [])) false) ≡ (2 ∷ 4 ∷ 7 ∷ 9 ∷ 1 ∷ 3 ∷ 5 ∷ 8 ∷ 2 ∷ [])
+front-times : readTimes (readWords (encode crooked (2 ∷ 1 ∷ [])) false) ≡ (2 ∷ 4 ∷ 7 ∷ 9 ∷ 1 ∷ 3 ∷ 5 ∷ 8 ∷ 2 ∷ [])
 unfolding reading
 front-times = refl
 
-front-tour : readTour (readWords (encode crooked (1 ∷ 1 ∷ 2 ∷ [])) false) ≡ (1 ∷ 1 ∷ 2 ∷ [])
+front-tour : readTour (readWords (encode crooked (2 ∷ 1 ∷ [])) false) ≡ (2 ∷ 1 ∷ [])
 unfolding reading
 front-tour = refl
 

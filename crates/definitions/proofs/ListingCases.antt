@@ -1,4 +1,4 @@
--- The listing of case m's words is the scope document's, byte for byte; beside it those of sheets with drops and of no bytes. Each holds by computation. Assumes nothing.
+-- The listing of case m's words is the scope document's, byte for byte; beside it those of sheets with drops, with a repeat and of no bytes. Each holds by computation. Assumes nothing.
 use Prim.Native.Nat.{ℕ}
 use mathlib.Core.Path.{_≡_, refl}
 use mathlib.Core.List.{List, [], _∷_, map}
@@ -54,6 +54,17 @@ caseG =
 pub listing-g : listing (file caseG) ≡ text "run 2\ndrop 1\ntotal 24 cost 24 served 1 dropped 1\n"
 unfolding opened
 listing-g = refl
+
+-- case r: customer 1 is listed twice
+abbrev caseR : List ℕ
+caseR =
+    0x10000003 ∷ 0x20000004 ∷ 0x30000000 ∷ 0x70000002 ∷ 0x80000000 ∷ 0x70000002 ∷ 0x80000000
+    ∷ 0xC0000000 ∷ 0xC000000A ∷ 0xC000000C ∷ 0xC000000A ∷ 0xC0000000 ∷ 0xC0000005 ∷ 0xC000000C ∷ 0xC0000005 ∷ 0xC0000000
+    ∷ 0xE0000001 ∷ 0xE0000002 ∷ 0xE0000001 ∷ 0xF0000013 ∷ []
+
+pub listing-r : listing (file caseR) ≡ text "refused 21 at 18\n"
+unfolding opened
+listing-r = refl
 
 -- no bytes: the words end before F
 pub listing-nothing : listing [] ≡ text "refused 12 at 0\n"

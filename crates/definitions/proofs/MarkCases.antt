@@ -90,7 +90,7 @@ unfolding opened
 full-break-not-needed = (refl, refl)
 
 -- load 5
-pub full-load : alone (2 ∷ 4 ∷ 2 ∷ []) 1 ≡ overload 1 5 4
+pub full-load : alone (2 ∷ 4 ∷ 5 ∷ 3 ∷ []) 1 ≡ overload 1 5 4
 unfolding opened
 full-load = refl
 
@@ -120,13 +120,13 @@ full-long = refl
 
 -- ---- which of two comes first
 
--- load 6 in the run given
-pub calls-before-load : mark full (2 ∷ 1 ∷ 2 ∷ []) (run (2 ∷ 2 ∷ 2 ∷ []) 0 ∷ []) ≡ otherCalls 2
+-- load 8 in the run given
+pub calls-before-load : mark full (2 ∷ 1 ∷ 3 ∷ 4 ∷ []) (run (2 ∷ 2 ∷ 2 ∷ 2 ∷ []) 0 ∷ []) ≡ otherCalls 2
 unfolding opened
 calls-before-load = refl
 
 -- customer 1 is reached at 17, after 14
-pub load-before-walk : alone (2 ∷ 1 ∷ 2 ∷ []) 0 ≡ overload 1 5 4
+pub load-before-walk : alone (2 ∷ 1 ∷ 3 ∷ 4 ∷ []) 0 ≡ overload 1 5 4
 unfolding opened
 load-before-walk = refl
 
@@ -155,8 +155,8 @@ pub distance-before-duration : alone (2 ∷ 4 ∷ []) 1 ≡ tooFar 1 62 60
 unfolding opened
 distance-before-duration = refl
 
--- the second run's load is 5
-pub first-run-first : mark full (3 ∷ 2 ∷ 2 ∷ 4 ∷ 2 ∷ []) (run (3 ∷ 2 ∷ []) 1 ∷ run (2 ∷ 4 ∷ 2 ∷ []) 1 ∷ []) ≡ tooLong 1 81 80
+-- the second run misses a window
+pub first-run-first : mark full (3 ∷ 2 ∷ 1 ∷ []) (run (3 ∷ 2 ∷ []) 1 ∷ run (1 ∷ []) 1 ∷ []) ≡ tooLong 1 81 80
 unfolding opened
 first-run-first = refl
 

@@ -9,7 +9,7 @@ use Rattle.definitions.specs.Load.{noLoad, ofSeats}
 use Rattle.definitions.specs.Sheet.{asking, Sheet, Customer, depot}
 use Rattle.definitions.specs.Words.{Word, word, wordOf, bytesOf}
 use Rattle.definitions.specs.Encoding.{encode, bodyWords}
-use Rattle.definitions.specs.Reader.{readInto, read, readWords, walk, faultAt, mayStand, inRange, pairFalls, sheetOf, tourOf, sheet, refusedAt}
+use Rattle.definitions.specs.Reader.{State, readInto, read, readWords, walk, faultAt, mayStand, inRange, pairFalls, sheetOf, tourOf, sheet, refusedAt}
 
 -- case m as words
 abbrev m : List ℕ
@@ -67,14 +67,14 @@ abbrev one : List Word → List Word → ℕ → List Word
 one inner tail n =
     word 1 2 ∷ word 2 5 ∷ word 3 0 ∷ word 7 1 ∷ word 8 0 ∷ (inner ++ (replicate 4 (word 0xC 3) ++ (tail ++ (word 0xF n ∷ []))))
 
--- both limits, a window that is a moment, a penalty, times and a tour with a repeat
+-- both limits, a window that is a moment, a penalty, times and a tour
 reads-all : readWords (word 1 2 ∷ word 2 5 ∷ word 3 7 ∷ word 4 10000000 ∷ word 5 9 ∷ word 6 8 ∷ word 6 8 ∷ word 6 0
-    ∷ word 7 32767 ∷ word 8 1 ∷ word 9 4 ∷ word 0xA 4 ∷ word 0xB 1000 ∷ (replicate 4 (word 0xC 3) ++ (replicate 4 (word 0xD 2) ++ (word 0xE 1 ∷ word 0xE 1 ∷ word 0xF 23 ∷ [])))) false
+    ∷ word 7 32767 ∷ word 8 1 ∷ word 9 4 ∷ word 0xA 4 ∷ word 0xB 1000 ∷ (replicate 4 (word 0xC 3) ++ (replicate 4 (word 0xD 2) ++ (word 0xE 1 ∷ word 0xF 22 ∷ [])))) false
     ≡ sheet (record {
       head = record { places = 2; capacity = ofSeats 5; fixed = 7; maxDistance = some 10000000; maxDuration = some 9; rest = some (record { earliest = 8; latest = 8; duration = 0 }) };
       customers = depot ∷ asking (ofSeats 32767) 1 (some (record { ready = 4; due = 4 })) (some 1000) ∷ [];
       legs = record { distances = replicate 4 3; times = replicate 4 2 };
-    }) (1 ∷ 1 ∷ [])
+    }) (1 ∷ [])
 unfolding opened
 reads-all = refl
 
@@ -133,15 +133,36 @@ depot-call : readWords (one [] (word 0xE 0 ∷ []) 10) false ≡ refusedAt 1 9
 unfolding opened
 depot-call = refl
 
--- the 129th E
-long-tour : readWords (one [] (replicate 129 (word 0xE 1)) 138) false ≡ refusedAt 1 137
-unfolding opened
-long-tour = refl
+-- ---- 21: a repeated customer
 
--- with 128 the reading goes on to F, which is wrong here
-full-tour : readWords (one [] (replicate 128 (word 0xE 1)) 0) false ≡ refusedAt 3 137
+-- a sheet with three customers and this tour: the tour begins at word 25
+abbrev three : List ℕ → List Word
+three tour =
+    word 1 4 ∷ word 2 0 ∷ word 3 0 ∷ word 7 0 ∷ word 8 0 ∷ word 7 0 ∷ word 8 0 ∷ word 7 0 ∷ word 8 0
+    ∷ (replicate 16 (word 0xC 0) ++ (map (word 0xE) tour ++ (word 0xF 0 ∷ [])))
+
+-- the second of two E words, next to the first or not
+second-named : (readWords (three (2 ∷ 2 ∷ [])) false ≡ refusedAt 21 26) × (readWords (three (3 ∷ 1 ∷ 2 ∷ 3 ∷ [])) false ≡ refusedAt 21 28)
 unfolding opened
-full-tour = refl
+second-named = (refl, refl)
+
+-- of two repeats the one whose second word stands further left
+leftmost-repeat : readWords (three (1 ∷ 2 ∷ 3 ∷ 2 ∷ 1 ∷ [])) false ≡ refusedAt 21 28
+unfolding opened
+leftmost-repeat = refl
+
+-- without a repeat the reading goes on to F, which is wrong here
+no-repeat : readWords (three (3 ∷ 1 ∷ 2 ∷ [])) false ≡ refusedAt 3 28
+unfolding opened
+no-repeat = refl
+
+-- at one word 11 and 1 come before
+abbrev behindCalls : ℕ → State
+behindCalls kind = record { last = word kind 0; row = 2; places = 2; coming = 0; called = 9 ∷ 1 ∷ [] }
+
+repeat-in-order : (faultAt (behindCalls 8) 5 (word 0xE 1) ≡ some 11) × (faultAt (behindCalls 0xE) 5 (word 0xE 9) ≡ some 1) × (faultAt (behindCalls 0xE) 5 (word 0xE 1) ≡ some 21)
+unfolding opened
+repeat-in-order = (refl, refl, refl)
 
 -- ---- 2: ready above due, earliest above latest
 

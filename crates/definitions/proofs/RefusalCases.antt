@@ -201,9 +201,32 @@ many-calls : (refusalOf value marking (toMark base (replicate 129 1) [] [] []) �
 unfolding opened
 many-calls = (refl, refl)
 
-full-calls : (refusalOf value marking (toMark base (replicate 128 1) [] [] []) ≡ none) × (refusalOf value evaluating (toRun base (replicate 128 1) []) ≡ none)
+-- 128 calls of one customer: a run may be so, a tour repeats
+full-calls : (refusalOf value marking (toMark base (replicate 128 1) [] [] []) ≡ some 21) × (refusalOf value evaluating (toRun base (replicate 128 1) []) ≡ none)
 unfolding opened
 full-calls = (refl, refl)
+
+-- ---- 21: a repeated customer
+
+-- next to each other, and with another call between
+repeated : (refusalOf value cutting (toCut base (1 ∷ 1 ∷ []) rooms) ≡ some 21) × (refusalOf value marking (toMark base (2 ∷ 1 ∷ 2 ∷ []) both (2 ∷ []) (0 ∷ [])) ≡ some 21)
+unfolding opened
+repeated = (refl, refl)
+
+-- a run, and a run list, may repeat
+repeated-run : (refusalOf value evaluating (toRun base (1 ∷ 1 ∷ []) []) ≡ none) × (refusalOf value visiting (toRun base (1 ∷ 1 ∷ []) (2 ∷ 5 ∷ [])) ≡ none)
+    × (refusalOf value reversing (toRun base (1 ∷ 1 ∷ []) (2 ∷ [])) ≡ none) × (refusalOf value eliminating (toEliminate base (1 ∷ 1 ∷ []) both (2 ∷ 2 ∷ [])) ≡ none)
+    × (refusalOf value marking (toMark base both (1 ∷ 1 ∷ []) (2 ∷ []) (0 ∷ [])) ≡ none)
+unfolding opened
+repeated-run = (refl, refl, refl, refl, refl)
+
+-- the repeat of a call that is no customer is 1, and so is one behind a number out of range; a falling pair beside a repeat is 21
+repeated-in-order : (refusalOf value cutting (toCut base (3 ∷ 3 ∷ []) rooms) ≡ some 1)
+    × (refusalOf value marking (toMark (sheetOf 3 4 odd none two legs []) (1 ∷ 1 ∷ []) both (2 ∷ []) (0 ∷ [])) ≡ some 1)
+    × (refusalOf value cutting (toCut (with (timed 5 4 none)) (1 ∷ 1 ∷ []) rooms) ≡ some 21)
+    × (refusalOf value marking (toMark (with (timed 5 4 none)) (1 ∷ 1 ∷ []) both (1 ∷ []) (0 ∷ [])) ≡ some 21)
+unfolding opened
+repeated-in-order = (refl, refl, refl, refl)
 
 -- ---- 2: ready above due, earliest above latest
 

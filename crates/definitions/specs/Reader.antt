@@ -3,7 +3,7 @@ use Prim.Native.Nat.{ℕ, suc, _*_, pred}
 use mathlib.Core.Bool.{Bool, true, false, cond, _&&_, _||_, not}
 use mathlib.Core.List.{List, [], _∷_}
 use mathlib.Core.Option.{Option, none, some}
-use lib.Dec.{ltb, leb, eqb}
+use lib.Dec.{ltb, eqb}
 use Rattle.basics.specs.Options.{valueOr}
 use Rattle.basics.specs.Lists.{any}
 use Rattle.definitions.specs.Domain.{mostPlaces, mostCalls, isPlaces, isDemand, isCapacity, isPenalty, isNumber, isCall}
@@ -24,10 +24,12 @@ pub record State : Type 0 where
   pub places : ℕ
   -- how many customers have yet to come
   pub coming : ℕ
+  -- the customers of the tour so far, the last first
+  pub called : List ℕ
 
 -- no word yet: a kind that no word has
 abbrev pub start : State
-start = record { last = word 16 0; row = 0; places = 0; coming = 0 }
+start = record { last = word 16 0; row = 0; places = 0; coming = 0; called = [] }
 
 abbrev pub next : State → Word → State
 next s w =
@@ -36,6 +38,7 @@ next s w =
       row = cond (eqb (w .kind) (s .last .kind)) (suc (s .row)) 1;
       places = cond (eqb (w .kind) 1) (w .value) (s .places);
       coming = cond (eqb (w .kind) 1) (pred (w .value)) (cond (eqb (w .kind) 7) (pred (s .coming)) (s .coming));
+      called = cond (eqb (w .kind) 0xE) (w .value ∷ s .called) (s .called);
     }
 
 -- a line of the table below: after this kind may stand these
@@ -101,7 +104,7 @@ inRange s w =
     ∷ range 2 (isCapacity v)
     ∷ range 7 (isDemand v)
     ∷ range 0xB (isPenalty v)
-    ∷ range 0xE (isCall (s .places) v && not (eqb (s .last .kind) 0xE && leb mostCalls (s .row)))
+    ∷ range 0xE (isCall (s .places) v)
     ∷ range 0xF true
     ∷ [])
 
@@ -109,15 +112,20 @@ inRange s w =
 unfoldable pub pairFalls : State → Word → Bool
 pairFalls s w = (eqb (w .kind) 0xA || (eqb (w .kind) 6 && eqb (s .last .kind) 6 && eqb (s .row) 1)) && ltb (w .value) (s .last .value)
 
--- whether kind k is among ks
+-- whether k is among ks
 abbrev pub among : ℕ → List ℕ → Bool
 among k ks = any (λ (j : ℕ). eqb k j) ks
+
+-- a repeated customer: bad at the E word that repeats an earlier one, the second of the two
+abbrev pub repeated : State → Word → Bool
+repeated s w = eqb (w .kind) 0xE && among (w .value) (s .called)
 
 -- what may be wrong with the word of index i, in order
 abbrev pub faults : State → ℕ → Word → List Refusal
 faults s i w =
     refusal 11 (not (among (w .kind) (mayStand s)))
     ∷ refusal 1 (not (inRange s w))
+    ∷ refusal 21 (repeated s w)
     ∷ refusal 2 (pairFalls s w)
     ∷ refusal 3 (eqb (w .kind) 0xF && not (eqb (w .value) i))
     ∷ []

@@ -37,12 +37,19 @@ tablesOdd s =
 abbrev pub badCalls : ℕ → List ℕ → Bool
 badCalls places calls = ltb mostCalls (length calls) || any (λ (c : ℕ). not (isCall places c)) calls
 
--- the test of a tour, and that of a run list: a call may be repeated in each
+-- the test of a tour, and that of a run list
 abbrev pub badTour : ℕ → List ℕ → Bool
 badTour places tour = badCalls places tour
 
 abbrev pub badRunList : ℕ → List ℕ → Bool
 badRunList places calls = badCalls places calls
+
+-- ---- 21: a repeated customer
+
+-- the same customer twice in a tour; a run list is not asked
+abbrev pub repeats : List ℕ → Bool
+repeats [] = false
+repeats (c ∷ tour) = any (λ (d : ℕ). eqb c d) tour || repeats tour
 
 module _ {F : Type 0} (value : F → Option ℕ) where
   -- ---- 1: a number out of range, not whole or negative zero
@@ -151,6 +158,7 @@ refusals value k l =
     refusal 13 (tooShort k l)
     ∷ refusal 14 (tablesOdd (l .sheet))
     ∷ refusal 1 (outOfRange value l)
+    ∷ refusal 21 (repeats (l .tour))
     ∷ refusal 2 (pairsFall value (l .sheet))
     ∷ refusal 5 (runsOdd k l)
     ∷ refusal 4 (k .improves && anySoft (records (l .sheet)))

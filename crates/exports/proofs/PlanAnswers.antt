@@ -8,6 +8,7 @@ use lib.Ieee.{Float}
 use borrow.Author.Tests.{ltb-false}
 use Rattle.basics.specs.Tests.{Falses}
 use Rattle.basics.proofs.TestLaws.{falses}
+use Rattle.cut_theory.specs.Tab.{mostCut}
 use Rattle.definitions.specs.Sheet.{Sheet}
 use Rattle.definitions.specs.Reader.{sheet, read}
 use Rattle.definitions.specs.Room.{short}
@@ -21,11 +22,11 @@ use Rattle.exports.specs.Plan.{PlanRoom, planNeeds, roomsOf, PlanWritten
 use Rattle.exports.proofs.Answering.{kept-short, kept-roomy, kept-unread, kept-given}
 
 -- lists that are not too short have the room
-pub roomy : (a b c d e : ℕ) (t : Bool) → t ≡ short planNeeds (a ∷ b ∷ c ∷ d ∷ e ∷ []) → t ≡ false → (128 ≤ a) × (128 ≤ b) × (128 ≤ c) × (128 ≤ d) × (128 ≤ e)
+pub roomy : (a b c d e : ℕ) (t : Bool) → t ≡ short planNeeds (a ∷ b ∷ c ∷ d ∷ e ∷ []) → t ≡ false → (mostCut ≤ a) × (mostCut ≤ b) × (mostCut ≤ c) × (mostCut ≤ d) × (mostCut ≤ e)
 roomy a b c d e t told h =
-    let tests = ltb a 128 ∷ ltb b 128 ∷ ltb c 128 ∷ ltb d 128 ∷ ltb e 128 ∷ [] in
+    let tests = ltb a mostCut ∷ ltb b mostCut ∷ ltb c mostCut ∷ ltb d mostCut ∷ ltb e mostCut ∷ [] in
     let f : Falses tests = falses tests (sym told ∙ h) in
-    (ltb-false a 128 (f .0), ltb-false b 128 (f .1 .0), ltb-false c 128 (f .1 .1 .0), ltb-false d 128 (f .1 .1 .1 .0), ltb-false e 128 (f .1 .1 .1 .1 .0))
+    (ltb-false a mostCut (f .0), ltb-false b mostCut (f .1 .0), ltb-false c mostCut (f .1 .1 .0), ltb-false d mostCut (f .1 .1 .1 .0), ltb-false e mostCut (f .1 .1 .1 .1 .0))
 
 abbrev planOf : Sheet → List ℕ → Call.Answer Plan
 planOf s tour = Call.gives (plan s tour)

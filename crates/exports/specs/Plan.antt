@@ -5,6 +5,7 @@ use mathlib.Core.List.{List, [], _∷_, map}
 use lib.Ieee.{Float}
 use lib.ListN.{length}
 use Rattle.whole.specs.Whole.{fl}
+use Rattle.cut_theory.specs.Tab.{mostCut}
 use Rattle.definitions.specs.Reader.{read}
 use Rattle.definitions.specs.Room.{short, written}
 use Rattle.definitions.specs.Answers as Call
@@ -26,7 +27,7 @@ planOutputs word served ends breaks starts dropped counts totals =
 
 -- each list has room for the longest tour
 abbrev pub planNeeds : List ℕ
-planNeeds = 128 ∷ 128 ∷ 128 ∷ 128 ∷ 128 ∷ []
+planNeeds = mostCut ∷ mostCut ∷ mostCut ∷ mostCut ∷ mostCut ∷ []
 
 abbrev pub roomsOf : PlanLists → List ℕ
 roomsOf l = length (l .cut .served) ∷ length (l .cut .ends) ∷ length (l .places) ∷ length (l .starts) ∷ length (l .cut .dropped) ∷ []

@@ -3,6 +3,7 @@ ghost use mathlib.Core.Path.{_≡_};
 ghost use mathlib.Core.List.{[], _∷_};
 ghost use Rattle.definitions.specs.Room.{short};
 ghost use Rattle.exports.specs.Plan.{planNeeds, planOutputs, PlanKept};
+use cut_table::cells::MOST_CUT;
 use refuse_lists::lengths;
 use sheet_plan::plan::plan_sheet;
 use sheet_read::read::Reading;
@@ -12,12 +13,12 @@ use sheet_read::read::read;
 fn too_short(served: usize, ends: usize, breaks: usize, starts: usize, dropped: usize) -> bool
     ensures { λ r. ⌜ r ≡ short planNeeds (served ∷ ends ∷ breaks ∷ starts ∷ dropped ∷ []) ⌝ }
 {
-    let needs = [128, 128, 128, 128, 128];
+    let needs = [MOST_CUT, MOST_CUT, MOST_CUT, MOST_CUT, MOST_CUT];
     let rooms = [served, ends, breaks, starts, dropped];
     lengths::short(&needs, &rooms)
 }
 
-// The plan of the sheet that the bytes are. At the front of the lists, each of which needs room for 128, stand the
+// The plan of the sheet that the bytes are. At the front of the lists, each of which needs room for 63, stand the
 // customers served, the run ends, the number of the call, from 1, at which each run takes its break, or 0, when that
 // break starts, or 0.0, and the positions of the dropped calls. `counts` has how many calls are served, runs made and
 // calls dropped, `totals` cost and distance. The answer is 0, or the number of a refusal: then its word alone is

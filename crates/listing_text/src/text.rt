@@ -6,6 +6,7 @@ ghost use Rattle.definitions.specs.Drop.{splitTw};
 ghost use Rattle.definitions.specs.Listing.{planText, listing};
 ghost use Rattle.listing_lines.specs.Put.{Put};
 ghost use Rattle.sheet_loaded.specs.Held.{InMemory, Held, Found};
+use cut_table::cells::MOST_CUT;
 use listing_lines::lines::refusal_line;
 use listing_lines::plan::plan_text;
 use models::customer::Customer;
@@ -33,11 +34,11 @@ fn held_text(
         → Put 0 (planText s visited (splitTw s visited)) (now (out .entry)) (now (out .exit)) r) ⌝ }
     ensures short { λ r. ⌜ r ≤ length (now (out .entry)) ⌝ }
 {
-    let mut served = [0usize; 128];
-    let mut ends = [0usize; 128];
-    let mut places = [0usize; 128];
-    let mut starts = [0.0; 128];
-    let mut dropped = [0usize; 128];
+    let mut served = [0usize; MOST_CUT];
+    let mut ends = [0usize; MOST_CUT];
+    let mut places = [0usize; MOST_CUT];
+    let mut starts = [0.0; MOST_CUT];
+    let mut dropped = [0usize; MOST_CUT];
     let cut = plan_held(
         tour,
         head,
@@ -73,7 +74,7 @@ fn sheet_text(out: &mut [u8], bytes: &[u8], found: Contents) -> usize
 {
     let mut distances = [0.0; 4096];
     let mut times = [0.0; 4096];
-    let mut tour = [0usize; 128];
+    let mut tour = [0usize; MOST_CUT];
     let l = load(bytes, found, &mut distances, &mut times, &mut tour);
     let customers = l.customers;
     held_text(

@@ -16,7 +16,7 @@ use Rattle.definitions.specs.Domain.{isPlaces, isNumber}
 use Rattle.definitions.specs.Sheet.{SheetOf, records, own, mapSheet, anySoft}
 use Rattle.definitions.specs.Lent.{Lent, whole, wholeSheet, Call}
 use Rattle.definitions.specs.Refusal.{Refusal, refusal, firstFit}
-use Rattle.definitions.specs.Refusals.{tooShort, tablesOdd, unfit, badSheet, outOfRange, pairsFall, refusals, refusalOf}
+use Rattle.definitions.specs.Refusals.{tooShort, tablesOdd, unfit, badSheet, outOfRange, repeats, pairsFall, refusals, refusalOf}
 use Rattle.theorems.proofs.InOrder.{testOf, none-fits, zero-none, Agree, agree, _also_}
 use Rattle.theorems.proofs.Ranges.{LentInRange, lent-in-range, in-range}
 use Rattle.models.specs.declared.customer.Customer.{Customer}
@@ -28,10 +28,12 @@ use Rattle.refuse_lists.specs.declared.kind.Kind.{Kind}
 use Rattle.refuse_order.specs.Lent.{sheetOf, lentOf, Gathered}
 use Rattle.refuse_numbers.specs.Falling.{pairsFallF}
 use Rattle.refuse_lists.specs.Needs.{resultsShort, tooShortOf, runsOddOf}
+use Rattle.refuse_lists.specs.Called.{noneCalled, calledTwice}
 use Rattle.refuse_order.specs.Order.{callOf, badHead, byRows, Refuses, Images}
 use Rattle.refuse_numbers.proofs.Rows.{all-rows}
 use Rattle.refuse_numbers.proofs.Falling.{pairs-exact}
 use Rattle.refuse_order.proofs.Ranging.{places-high}
+use Rattle.refuse_order.proofs.Repeating.{repeats-noted}
 use Rattle.refuse_order.proofs.Image.{Fit, FitCustomer, FitSheet, sheet-image}
 use Rattle.refuse_order.proofs.Fitting.{FitHead}
 
@@ -95,6 +97,9 @@ oddOn g = tablesOdd (sheetOf (g .head) [] (g .distances) (g .times))
 abbrev rangeOn : Given → Bool
 rangeOn g = byRows (lentOf (sheetOn g (g .array)) (g .tour) (g .calls) [] [] [])
 
+abbrev twiceOn : Given → Bool
+twiceOn g = calledTwice noneCalled (g .tour)
+
 abbrev pairsOn : Given → Bool
 pairsOn g = pairsFallF (sheetOf (g .head) (g .array) [] [])
 
@@ -135,8 +140,14 @@ module _ (g : Given) (customers : List Customer) (G : Gathered customers (g .cou
         R : LentInRange value (lentOn g (g .array))
         R = lent-in-range value (lentOn g (g .array)) (sym range-same ∙ range ∙ fit)
 
+        places-fit : isPlaces (g .head .places) ≡ true
+        places-fit = not-false (isPlaces (g .head .places)) (in-range value (sheetOn g (g .array)) (R .sheet) .places)
+
         first-same : take (g .head .places) (map customerOf customers) ≡ take (g .head .places) (map customerOf (g .array))
-        first-same = same (not-false (isPlaces (g .head .places)) (in-range value (sheetOn g (g .array)) (R .sheet) .places))
+        first-same = same places-fit
+
+        twice : repeats (g .tour) ≡ twiceOn g
+        twice = repeats-noted (g .head .places) (g .tour) (places-high (g .head .places) places-fit) (R .tour)
 
         pairs : pairsFall value (sheetOn g customers) ≡ pairsOn g
         unfolding pairsFall pairsFallF
@@ -153,6 +164,7 @@ testsOn g =
     refusal 13 (shortOn g)
     ∷ refusal 14 (oddOn g)
     ∷ refusal 1 (rangeOn g)
+    ∷ refusal 21 (twiceOn g)
     ∷ refusal 2 (pairsOn g)
     ∷ refusal 5 (runsOn g)
     ∷ refusal 4 (payOn g)
@@ -165,6 +177,7 @@ tests-agree g customers G =
     (refl, λ m. sym (short-same g customers G))
     also (refl, λ m. refl)
     also (refl, λ m. sym (range g customers G (m 13) (m 14)))
+    also (refl, λ m. sym (twice g customers G (m 13) (m 14) (m 1)))
     also (refl, λ m. sym (pairs g customers G (m 13) (m 14) (m 1)))
     also (refl, λ m. refl)
     also (refl, λ m. sym (pay g customers G (m 13) (m 14) (m 1)))

@@ -9,6 +9,7 @@ use crate::sheet::runs_uneven;
 use crate::sheet::tables_odd;
 use models::customer::Customer;
 use models::head::Head;
+use refuse_lists::called::repeats;
 use refuse_lists::first::first_fit;
 use refuse_lists::kind::Kind;
 use refuse_lists::lengths::too_short;
@@ -34,11 +35,12 @@ pub fn refusal(
         ⌜ Refuses (callOf kind) lent count customers r ⌝ }
     ensures image { λ r. ⌜ Images (sheetFor head (now (distances .entry)) (now (times .entry))) count customers r ⌝ }
 {
-    let numbers = [13, 14, 1, 2, 5, 4];
+    let numbers = [13, 14, 1, 21, 2, 5, 4];
     let fits = [
         too_short(head.places, count, kind, tour, calls, ends, breaks, rooms),
         tables_odd(head, distances, times),
         out_of_range(head, customers, distances, times, tour, calls),
+        repeats(tour),
         pairs_fall(head, customers),
         runs_uneven(kind, head, calls, ends, breaks),
         lateness_pay(kind.improves, customers, head.places),

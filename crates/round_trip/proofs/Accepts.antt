@@ -9,8 +9,8 @@ use mathlib.Core.Option.{Option, none, some}
 use mathlib.Core.Logic.{inl, inr}
 use lib.ListN.{length, drop, length-append}
 use lib.Dec.{eqb, ltb, leb, eqb·suc-zero}
-use borrow.Author.Tests.{leb-true, eq-eqb, lt-ltb, le-ltb, lt-leb}
-use Rattle.basics.proofs.TestLaws.{by-test, and-left}
+use borrow.Author.Tests.{leb-true, eq-eqb, lt-ltb, le-ltb}
+use Rattle.basics.proofs.TestLaws.{by-test, and-left, or-left, or-right}
 use Rattle.basics.specs.Options.{Holds, IfAny}
 use Rattle.basics.specs.Lists.{All, Passes}
 use Rattle.definitions.specs.Domain.{isPenalty, isNumber, isCall}
@@ -19,12 +19,17 @@ use Rattle.definitions.specs.Words.{Word, word}
 use Rattle.definitions.specs.Encoding.{optional, breakWords, windowWords, customerWords}
 use Rattle.definitions.specs.Refusal.{firstFit}
 use Rattle.definitions.specs.Reader.{State, start, next, onward, mayStand, inRange, pairFalls, among, faults, faultAt, accepted, behind, walk}
+use Rattle.theorems.proofs.Again.{again, again-repeats}
 use Rattle.round_trip.proofs.Says.{callWords, timeWords, tableWords, limitWords, allWords, others}
-use Rattle.round_trip.proofs.Good.{GoodWindow, GoodBreak, GoodCustomer, AsMany, GoodSheet, GoodCalls}
+use Rattle.round_trip.proofs.Good.{GoodWindow, GoodBreak, GoodCustomer, AsMany, GoodSheet, GoodTour}
 
--- the state behind the word of kind k and value v, the r-th of its kind in a row
+-- the state behind the word of kind k and value v, the r-th of its kind in a row, where the tour has these calls
+abbrev pub behindCalls : List ℕ → ℕ → ℕ → ℕ → ℕ → ℕ → State
+behindCalls cs k v r n d = record { last = word k v; row = r; places = n; coming = d; called = cs }
+
+-- before the tour
 abbrev pub behindWord : ℕ → ℕ → ℕ → ℕ → ℕ → State
-behindWord k v r n d = record { last = word k v; row = r; places = n; coming = d }
+behindWord k v r n d = behindCalls [] k v r n d
 
 -- a good word
 pub record Fine (s : State) (i k v : ℕ) : Type 0 where
@@ -50,45 +55,45 @@ last-step s i v m e = rw (no-fault s i 0xF v (record { stands = m; ranged = refl
 abbrev Accepted : State → ℕ → List Word → Type 0
 Accepted s i ws = walk s i ws false ≡ accepted
 
-tour-ok : (v r n d i : ℕ) (tour : List ℕ) (f : ℕ) → Passes (isCall n) tour → r + length tour ≤ 128 → f ≡ i + length tour
-    → Accepted (behindWord 0xE v r n d) i (callWords tour f)
+tour-ok : (cs : List ℕ) (v r n d i : ℕ) (tour : List ℕ) (f : ℕ) → Passes (isCall n) tour → again cs tour ≡ false → f ≡ i + length tour
+    → Accepted (behindCalls cs 0xE v r n d) i (callWords tour f)
 unfolding mayStand inRange pairFalls
-tour-ok v r n d i [] f a h e = last-step (behindWord 0xE v r n d) i f refl (omega arith)
-tour-ok v r n d i (c ∷ tour) f a h e =
-    step (behindWord 0xE v r n d) i 0xE c (callWords tour f) false refl
-    (record { stands = refl; ranged = rw (a .0, lt-leb 128 r (omega arith)) refl; others = refl })
-    ∙ tour-ok c (suc r) n d (suc i) tour f (a .1) (omega arith) (omega arith)
+tour-ok cs v r n d i [] f a h e = last-step (behindCalls cs 0xE v r n d) i f refl (omega arith)
+tour-ok cs v r n d i (c ∷ tour) f a h e =
+    step (behindCalls cs 0xE v r n d) i 0xE c (callWords tour f) false refl
+    (record { stands = refl; ranged = a .0; others = rw (or-left (among c cs) (again (c ∷ cs) tour) h) refl })
+    ∙ tour-ok (c ∷ cs) c (suc r) n d (suc i) tour f (a .1) (or-right (among c cs) (again (c ∷ cs) tour) h) (omega arith)
 
 -- from a state that a tour may follow
-tour-from : (k v r n d i : ℕ) (tour : List ℕ) (f : ℕ) → eqb 0xE k ≡ false → eqb k 0xE ≡ false
+tour-from : (k v r n d i : ℕ) (tour : List ℕ) (f : ℕ) → eqb 0xE k ≡ false
     → among 0xE (mayStand (behindWord k v r n d)) ≡ true → among 0xF (mayStand (behindWord k v r n d)) ≡ true
-    → GoodCalls n tour → f ≡ i + length tour → Accepted (behindWord k v r n d) i (callWords tour f)
+    → GoodTour n tour → f ≡ i + length tour → Accepted (behindWord k v r n d) i (callWords tour f)
 unfolding inRange pairFalls
-tour-from k v r n d i [] f p q mE mF C e = last-step (behindWord k v r n d) i f mF (omega arith)
-tour-from k v r n d i (c ∷ tour) f p q mE mF C e =
+tour-from k v r n d i [] f p mE mF C e = last-step (behindWord k v r n d) i f mF (omega arith)
+tour-from k v r n d i (c ∷ tour) f p mE mF C e =
     step (behindWord k v r n d) i 0xE c (callWords tour f) false refl
-    (record { stands = mE; ranged = rw (C .each .0, q) refl; others = refl })
-    ∙ rw p (tour-ok c 1 n d (suc i) tour f (C .each .1) (omega (arith, C .few)) (omega arith))
+    (record { stands = mE; ranged = C .each .0; others = refl })
+    ∙ rw p (tour-ok (c ∷ []) c 1 n d (suc i) tour f (C .each .1) (again-repeats (c ∷ tour) ∙ C .once) (omega arith))
 
 -- ---- the tables
 
-times-ok : (v r n d i : ℕ) (ts tour : List ℕ) (f : ℕ) → Passes isNumber ts → r + length ts ≡ n * n → GoodCalls n tour
+times-ok : (v r n d i : ℕ) (ts tour : List ℕ) (f : ℕ) → Passes isNumber ts → r + length ts ≡ n * n → GoodTour n tour
     → f ≡ i + length ts + length tour → Accepted (behindWord 0xD v r n d) i (timeWords ts tour f)
 unfolding mayStand inRange pairFalls
 times-ok v r n d i [] tour f a h C e =
     let full : ltb r (n * n) ≡ false = le-ltb r (n * n) (omega arith) in
-    tour-from 0xD v r n d i tour f refl refl (rw full refl) (rw full refl) C (omega arith)
+    tour-from 0xD v r n d i tour f refl (rw full refl) (rw full refl) C (omega arith)
 times-ok v r n d i (t ∷ ts) tour f a h C e =
     step (behindWord 0xD v r n d) i 0xD t (timeWords ts tour f) false refl
     (record { stands = rw (lt-ltb r (n * n) (omega arith)) refl; ranged = a .0; others = refl })
     ∙ times-ok t (suc r) n d (suc i) ts tour f (a .1) (omega arith) C (omega arith)
 
 distances-ok : (v r n d i : ℕ) (ds ts tour : List ℕ) (f : ℕ) → 0 < n * n → Passes isNumber ds → r + length ds ≡ n * n → Passes isNumber ts → AsMany (n * n) ts
-    → GoodCalls n tour → f ≡ i + length ds + length ts + length tour → Accepted (behindWord 0xC v r n d) i (tableWords ds ts tour f)
+    → GoodTour n tour → f ≡ i + length ds + length ts + length tour → Accepted (behindWord 0xC v r n d) i (tableWords ds ts tour f)
 unfolding mayStand inRange pairFalls
 distances-ok v r n d i [] [] tour f z a h at m C e =
     let full : ltb r (n * n) ≡ false = le-ltb r (n * n) (omega arith) in
-    tour-from 0xC v r n d i tour f refl refl (rw full refl) (rw full refl) C (omega arith)
+    tour-from 0xC v r n d i tour f refl (rw full refl) (rw full refl) C (omega arith)
 distances-ok v r n d i [] (t ∷ ts) tour f z a h at m C e =
     step (behindWord 0xC v r n d) i 0xD t (timeWords ts tour f) false refl
     (record { stands = rw (le-ltb r (n * n) (omega arith)) refl; ranged = at .0; others = refl })
@@ -203,7 +208,7 @@ customers-ok (c ∷ cs) k v r n i rest g E on =
 -- ---- all but the three first words
 
 tables-ok : (k v r n i : ℕ) (ds ts tour : List ℕ) (f : ℕ) → Ends k r → 0 < n * n → Passes isNumber ds → length ds ≡ n * n → Passes isNumber ts → AsMany (n * n) ts
-    → GoodCalls n tour → f ≡ i + length ds + length ts + length tour → Accepted (behindWord k v r n 0) i (tableWords ds ts tour f)
+    → GoodTour n tour → f ≡ i + length ds + length ts + length tour → Accepted (behindWord k v r n 0) i (tableWords ds ts tour f)
 unfolding inRange pairFalls
 tables-ok k v r n i [] ts tour f E z a h at m C e = absurd (none-due z h)
   where
@@ -248,7 +253,7 @@ limitsEnd s = 3 + length (optional 4 (s .head .maxDistance)) + length (optional 
 abbrev pub wordCount : Sheet → List ℕ → ℕ
 wordCount s tour = limitsEnd s + length (customerWords (others s)) + length (s .legs .distances) + length (s .legs .times) + length tour
 
-pub all-ok : (s : Sheet) (tour : List ℕ) → GoodSheet s → GoodCalls (s .head .places) tour → walk start 0 (allWords s tour (wordCount s tour)) false ≡ accepted
+pub all-ok : (s : Sheet) (tour : List ℕ) → GoodSheet s → GoodTour (s .head .places) tour → walk start 0 (allWords s tour (wordCount s tour)) false ≡ accepted
 unfolding mayStand inRange pairFalls
 all-ok s tour G C =
     step start 0 1 n (word 2 (s .head .capacity .seats) ∷ word 3 (s .head .fixed) ∷ rest) false refl (record { stands = refl; ranged = G .places; others = refl })

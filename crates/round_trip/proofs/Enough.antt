@@ -1,26 +1,28 @@
--- The longest sheet has 8,644 words, and of a longer file no more than one byte behind them is needed to answer.
+-- The longest sheet has 8,579 words, and of a longer file no more than one byte behind them is needed to answer.
 use Prim.Native.Nat.{ℕ, zero, suc, _+_, _-_, _*_, pred, _≤_, _<_}
 use native.Mathlib.Omega.{arith}
 use native.Mathlib.Nat.{mul-le-mul}
 use mathlib.Core.Path.{_≡_, refl, sym, ap, subst}
-use mathlib.Core.Bool.{Bool, true, false, cond, _&&_, not, true≢false}
+use mathlib.Core.Bool.{Bool, true, false, cond, true≢false}
 use mathlib.Core.List.{List, [], _∷_, _++_}
 use mathlib.Core.Option.{Option, none, some}
 use mathlib.Core.Logic.{_⊎_, inl, inr}
 use lib.ListN.{length}
 use lib.Dec.{eqb, ltb, leb}
-use borrow.Author.Tests.{eqb-true, eqb-false, ltb-true, leb-true, leb-false, not-true}
-use Rattle.basics.proofs.TestLaws.{by-test, and-left, and-right, not-false}
+use borrow.Author.Tests.{eqb-true, eqb-false, ltb-true, leb-true}
+use Rattle.basics.proofs.TestLaws.{by-test, and-left, and-right, or-false, not-false}
 use Rattle.definitions.specs.Domain.{isCall}
 use Rattle.definitions.specs.Words.{Word, word, wordOf, littleEndian, wordsOf, leftOver}
-use Rattle.definitions.specs.Reader.{State, start, next, After, lookup, onward, table, mayStand, inRange, among, faults, faultAt, Outcome, refused, behind, unless, walk, read, readWords}
+use Rattle.definitions.specs.Reader.{State, start, next, After, lookup, onward, table, mayStand, inRange, among, repeated, faults, faultAt, Outcome, refused, behind, unless, walk, read, readWords}
+use Rattle.definitions.specs.Refusals.{repeats}
 use Rattle.theorems.proofs.InOrder.{none-fits}
-use Rattle.round_trip.proofs.Accepts.{behindWord}
+use Rattle.theorems.proofs.Repeats.{UpTo, up-to-few, call-up-to}
+use Rattle.round_trip.proofs.Accepts.{behindCalls}
 use Rattle.round_trip.proofs.ByKind.{ByKind, no-other, _or_, by-kind}
 
 -- how many words may come before F, from the next customer on
 abbrev rest : ℕ → ℕ → ℕ
-rest n d = 5 * d + (n * n + n * n) + 128
+rest n d = 5 * d + (n * n + n * n) + 63
 
 -- a line of the table below: behind a word of this kind so many words may come before F
 record Most : Type 0 where
@@ -34,11 +36,11 @@ abbrev wordsOr : ℕ → ℕ → List Most → ℕ
 wordsOr n k [] = n
 wordsOr n k (m ∷ more) = cond (eqb k (m .kind)) (m .words) (wordsOr n k more)
 
--- how many words may come before F, behind a word of kind k, the r-th in a row
-abbrev most : ℕ → ℕ → ℕ → ℕ → ℕ
-most k r n d =
-    wordsOr (128 - r) k
-    (most-of 16 8643
+-- how many words may come before F, behind a word of kind k, the r-th in a row, where the tour has m calls
+abbrev most : ℕ → ℕ → ℕ → ℕ → ℕ → ℕ
+most k r n d m =
+    wordsOr (63 - m) k
+    (most-of 16 8578
     ∷ most-of 1 (7 + rest n d)
     ∷ most-of 2 (6 + rest n d)
     ∷ most-of 3 (5 + rest n d)
@@ -50,12 +52,12 @@ most k r n d =
     ∷ most-of 9 (2 + rest n d)
     ∷ most-of 0xA (1 + rest n d)
     ∷ most-of 0xB (0 + rest n d)
-    ∷ most-of 0xC ((n * n - r) + n * n + 128)
-    ∷ most-of 0xD ((n * n - r) + 128)
+    ∷ most-of 0xC ((n * n - r) + n * n + 63)
+    ∷ most-of 0xD ((n * n - r) + 63)
     ∷ [])
 
 abbrev mostFrom : State → ℕ
-mostFrom s = most (s .last .kind) (s .row) (s .places) (s .coming)
+mostFrom s = most (s .last .kind) (s .row) (s .places) (s .coming) (length (s .called))
 
 -- each line of the table of kinds
 infixr 5 _then_
@@ -77,38 +79,49 @@ by-cond P false x y p q = q refl
 square : (n : ℕ) → 1 ≤ n → 1 ≤ n * n
 square n h = mul-le-mul h h
 
-module _ (v r n d u : ℕ) where
-  -- behind a word of kind k, the next of kind j and value u: where it is in range and not F, it lowers the number
+-- at most 64 places, and a tour so far of calls, none repeated
+record Called (n : ℕ) (cs : List ℕ) : Type 0 where
+  places : n ≤ 64
+  each : UpTo 63 cs
+  once : repeats cs ≡ false
+
+one-more : {n : ℕ} {cs : List ℕ} (u : ℕ) → Called n cs → isCall n u ≡ true → among u cs ≡ false → Called n (u ∷ cs)
+one-more {n} {cs} u C h o = record { places = C .places; each = (call-up-to n u (C .places) h, C .each); once = or-false (among u cs) (repeats cs) o (C .once) }
+
+module _ (cs : List ℕ) (v r n d u : ℕ) where
+  -- behind a word of kind k, the next of kind j and value u: where it is in range, repeats no call and is not F, it lowers the number
   abbrev Lower : ℕ → ℕ → Type 0
-  Lower k j = inRange (behindWord k v r n d) (word j u) ≡ true → eqb j 0xF ≡ false → mostFrom (next (behindWord k v r n d) (word j u)) < most k r n d
+  Lower k j =
+      let s = behindCalls cs k v r n d in
+      inRange s (word j u) ≡ true → repeated s (word j u) ≡ false → eqb j 0xF ≡ false → mostFrom (next s (word j u)) < most k r n d (length cs)
 
   abbrev on : ℕ
-  on = onward (behindWord 0 0 r n d)
+  on = onward (behindCalls cs 0 0 r n d)
 
   -- the first word says how many places there are
   places-line : ByKind (Lower 16) (1 ∷ [])
   unfolding inRange
-  places-line = (λ g f. few u (leb-true u 64 (and-right (leb 1 u) (leb u 64) g))) or no-other
+  places-line = (λ g o f. few u (leb-true u 64 (and-right (leb 1 u) (leb u 64) g))) or no-other
     where
-      few : (u : ℕ) → u ≤ 64 → 7 + rest u (pred u) < 8643
+      few : (u : ℕ) → u ≤ 64 → 7 + rest u (pred u) < 8578
       few u h = omega (arith, mul-le-mul h h)
 
   -- words before the next customer
-  fewer : {A B : Type 0} (a b : ℕ) → a < b → A → B → a + rest n d < b + rest n d
-  fewer a b h g f = omega arith
+  fewer : {A B C : Type 0} (a b : ℕ) → a < b → A → B → C → a + rest n d < b + rest n d
+  fewer a b h g o f = omega arith
 
   -- the next customer's first word, or the first distance
-  onwards : 1 ≤ n → (k : ℕ) → eqb 0xC k ≡ false → rest n d ≤ most k r n d → ByKind (Lower k) (on ∷ [])
+  onwards : 1 ≤ n → (k : ℕ) → eqb 0xC k ≡ false → rest n d ≤ most k r n d (length cs) → ByKind (Lower k) (on ∷ [])
   onwards z k c m =
       by-cond (Lower k) (eqb d 0) 0xC 7
-      (λ t g f. rw c (omega (arith, square n z, eqb-true d 0 t)))
-      (λ t g f. next-customer (eqb-false d 0 t))
+      (λ t g o f. rw c (omega (arith, square n z, eqb-true d 0 t)))
+      (λ t g o f. next-customer (eqb-false d 0 t))
       or no-other
     where
       some-coming : (d ≡ 0 → ⊥) → 1 ≤ d
       some-coming h = omega arith
 
-      next-customer : (d ≡ 0 → ⊥) → 4 + rest n (pred d) < most k r n d
+      next-customer : (d ≡ 0 → ⊥) → 4 + rest n (pred d) < most k r n d (length cs)
       next-customer h = omega (arith, some-coming h)
 
   at-least : (a : ℕ) → rest n d ≤ a + rest n d
@@ -123,24 +136,24 @@ module _ (v r n d u : ℕ) where
   distance-line : 1 ≤ n → ByKind (Lower 0xC) (cond (ltb r (n * n)) (0xC ∷ []) (0xD ∷ 0xE ∷ 0xF ∷ []))
   distance-line z =
       by-cond (ByKind (Lower 0xC)) (ltb r (n * n)) (0xC ∷ []) (0xD ∷ 0xE ∷ 0xF ∷ [])
-      (λ t. (λ g f. omega (arith, ltb-true r (n * n) t)) or no-other)
-      (λ t. (λ g f. omega (arith, square n z)) or (λ g f. omega arith) or (λ g f. absurd (true≢false f)) or no-other)
+      (λ t. (λ g o f. omega (arith, ltb-true r (n * n) t)) or no-other)
+      (λ t. (λ g o f. omega (arith, square n z)) or (λ g o f. omega arith) or (λ g o f. absurd (true≢false f)) or no-other)
 
   time-line : ByKind (Lower 0xD) (cond (ltb r (n * n)) (0xD ∷ []) (0xE ∷ 0xF ∷ []))
   time-line =
       by-cond (ByKind (Lower 0xD)) (ltb r (n * n)) (0xD ∷ []) (0xE ∷ 0xF ∷ [])
-      (λ t. (λ g f. omega (arith, ltb-true r (n * n) t)) or no-other)
-      (λ t. (λ g f. omega arith) or (λ g f. absurd (true≢false f)) or no-other)
+      (λ t. (λ g o f. omega (arith, ltb-true r (n * n) t)) or no-other)
+      (λ t. (λ g o f. omega arith) or (λ g o f. absurd (true≢false f)) or no-other)
 
-  call-line : ByKind (Lower 0xE) (0xE ∷ 0xF ∷ [])
+  call-line : Called n cs → ByKind (Lower 0xE) (0xE ∷ 0xF ∷ [])
   unfolding inRange
-  call-line = (λ g f. next-call g) or (λ g f. absurd (true≢false f)) or no-other
+  call-line C = (λ g o f. next-call (one-more u C g o)) or (λ g o f. absurd (true≢false f)) or no-other
     where
-      next-call : isCall n u && not (leb 128 r) ≡ true → 128 - suc r < 128 - r
-      next-call h = omega (arith, leb-false 128 r (not-true (leb 128 r) (and-right (isCall n u) (not (leb 128 r)) h)))
+      next-call : Called n (u ∷ cs) → 63 - suc (length cs) < 63 - length cs
+      next-call M = omega (arith, up-to-few 63 (u ∷ cs) (M .each) (M .once))
 
-  lines : 1 ≤ n → ByLine (λ k ks. ByKind (Lower k) ks) (table (behindWord 0 0 r n d))
-  lines z =
+  lines : 1 ≤ n → Called n cs → ByLine (λ k ks. ByKind (Lower k) ks) (table (behindCalls cs 0 0 r n d))
+  lines z C =
       places-line
       then (fewer 6 7 (omega arith) or no-other)
       then (fewer 5 6 (omega arith) or no-other)
@@ -155,7 +168,7 @@ module _ (v r n d u : ℕ) where
       then onwards z 0xB refl (at-least 0)
       then distance-line z
       then time-line
-      then call-line
+      then call-line C
       then no-line
 
 -- no word yet, or some place
@@ -163,9 +176,10 @@ abbrev Begun : State → Type 0
 Begun s = (s .last .kind ≡ 16) ⊎ (1 ≤ s .places)
 
 -- a good word that is not F lowers it
-lowers : (s : State) (w : Word) → Begun s → among (w .kind) (mayStand s) ≡ true → inRange s w ≡ true → eqb (w .kind) 0xF ≡ false → mostFrom (next s w) < mostFrom s
+lowers : (s : State) (w : Word) → Begun s → Called (s .places) (s .called) → among (w .kind) (mayStand s) ≡ true → inRange s w ≡ true → repeated s w ≡ false
+    → eqb (w .kind) 0xF ≡ false → mostFrom (next s w) < mostFrom s
 unfolding mayStand
-lowers s w b m g f = by-kind (Lower v r n d u k) (mayStand s) (w .kind) (go b) m g f
+lowers s w b C m g o f = by-kind (Lower cs v r n d u k) (mayStand s) (w .kind) (go b) m g o f
   where
     k : ℕ
     k = s .last .kind
@@ -185,18 +199,21 @@ lowers s w b m g f = by-kind (Lower v r n d u k) (mayStand s) (w .kind) (go b) m
     u : ℕ
     u = w .value
 
-    go : Begun s → ByKind (Lower v r n d u k) (mayStand s)
-    go (inl e) = subst (λ (q : ℕ). ByKind (Lower v r n d u q) (lookup q (table s))) (sym e) (places-line v r n d u)
-    go (inr z) = by-line (λ q ks. ByKind (Lower v r n d u q) ks) (table s) k no-other (lines v r n d u z)
+    cs : List ℕ
+    cs = s .called
+
+    go : Begun s → ByKind (Lower cs v r n d u k) (mayStand s)
+    go (inl e) = subst (λ (q : ℕ). ByKind (Lower cs v r n d u q) (lookup q (table s))) (sym e) (places-line cs v r n d u)
+    go (inr z) = by-line (λ q ks. ByKind (Lower cs v r n d u q) ks) (table s) k no-other (lines cs v r n d u z C)
 
 -- ---- the answer
 
 -- what a word without fault passed
-fine : (s : State) (i : ℕ) (w : Word) → faultAt s i w ≡ none → (among (w .kind) (mayStand s) ≡ true) × (inRange s w ≡ true)
+fine : (s : State) (i : ℕ) (w : Word) → faultAt s i w ≡ none → (among (w .kind) (mayStand s) ≡ true) × (inRange s w ≡ true) × (repeated s w ≡ false)
 unfolding faultAt
 fine s i w h =
     let N = none-fits (faults s i w) h in
-    (not-false (among (w .kind) (mayStand s)) (N 11), not-false (inRange s w) (N 1))
+    (not-false (among (w .kind) (mayStand s)) (N 11), not-false (inRange s w) (N 1), N 21)
 
 begun-next : (s : State) (w : Word) → Begun s → among (w .kind) (mayStand s) ≡ true → inRange s w ≡ true → 1 ≤ next s w .places
 unfolding mayStand inRange
@@ -211,6 +228,21 @@ begun-next s w b m g =
     go (inl e) f =
         by-kind (λ (j : ℕ). eqb j 1 ≡ false → 1 ≤ s .places) (1 ∷ []) (w .kind) ((λ x. absurd (true≢false x)) or no-other)
         (subst (λ (k : ℕ). among (w .kind) (lookup k (table s)) ≡ true) e m) f
+
+called-next : (s : State) (w : Word) → Called (s .places) (s .called) → inRange s w ≡ true → repeated s w ≡ false → Called (next s w .places) (next s w .called)
+unfolding inRange
+called-next s w C g o =
+    by-test (eqb (w .kind) 0xE)
+    (λ t. subst Goal (sym (eqb-true (w .kind) 0xE t)) (one-more (w .value) C (subst Ranged (eqb-true (w .kind) 0xE t) g) (rw t at o)))
+    (λ f. by-test (eqb (w .kind) 1)
+    (λ t. rw (t, f) (record { places = leb-true (w .value) 64 (and-right (leb 1 (w .value)) (leb (w .value) 64) (subst Ranged (eqb-true (w .kind) 1 t) g)); each = C .each; once = C .once }))
+    (λ h. rw (h, f) C))
+  where
+    Ranged : ℕ → Type 0
+    Ranged k = inRange s (word k (w .value)) ≡ true
+
+    Goal : ℕ → Type 0
+    Goal k = Called (next s (word k (w .value)) .places) (next s (word k (w .value)) .called)
 
 -- there is more: a word, or bytes left over
 abbrev pub Further : List Word → Bool → Type 0
@@ -229,28 +261,29 @@ further-append (x ∷ xs) ys left h = tt
 abbrev pub SameRefusal : Outcome → Outcome → Type 0
 SameRefusal a b = (n : ℕ) × (j : ℕ) × (a ≡ refused n j) × (b ≡ refused n j)
 
-decided : (s : State) (i : ℕ) (xs ys zs : List Word) (left left' : Bool) → Begun s → mostFrom s < length xs → Further ys left → Further zs left'
+decided : (s : State) (i : ℕ) (xs ys zs : List Word) (left left' : Bool) → Begun s → Called (s .places) (s .called) → mostFrom s < length xs → Further ys left → Further zs left'
     → SameRefusal (walk s i (xs ++ ys) left) (walk s i (xs ++ zs) left')
 unfolding walk
-decided s i [] ys zs left left' b h p q = absurd (none-left h)
+decided s i [] ys zs left left' b C h p q = absurd (none-left h)
   where
     none-left : mostFrom s < 0 → ⊥
     none-left l = omega arith
-decided s i (w ∷ xs) ys zs left left' b h p q =
-    go (λ c l. decided (next s w) (suc i) xs ys zs left left' c l p q) (faultAt s i w) refl
+decided s i (w ∷ xs) ys zs left left' b C h p q =
+    go (λ c k l. decided (next s w) (suc i) xs ys zs left left' c k l p q) (faultAt s i w) refl
   where
     on : List Word → Bool → Outcome
     on ws l = cond (eqb (w .kind) 0xF) (behind (suc i) (xs ++ ws) l) (walk (next s w) (suc i) (xs ++ ws) l)
 
-    go : (Begun (next s w) → mostFrom (next s w) < length xs → SameRefusal (walk (next s w) (suc i) (xs ++ ys) left) (walk (next s w) (suc i) (xs ++ zs) left'))
+    go : (Begun (next s w) → Called (next s w .places) (next s w .called) → mostFrom (next s w) < length xs
+        → SameRefusal (walk (next s w) (suc i) (xs ++ ys) left) (walk (next s w) (suc i) (xs ++ zs) left'))
         → (o : Option ℕ) → faultAt s i w ≡ o → SameRefusal (unless o i (on ys left)) (unless o i (on zs left'))
     go ih (some n) e = (n, i, refl, refl)
     go ih none e =
         by-test (eqb (w .kind) 0xF)
         (λ t. rw t (3, suc i, behind-further (suc i) (xs ++ ys) left (further-append xs ys left p), behind-further (suc i) (xs ++ zs) left' (further-append xs zs left' q)))
         (λ t. let m = fine s i w e in
-        let less : mostFrom (next s w) < mostFrom s = lowers s w b (m .0) (m .1) t in
-        rw t (ih (inr (begun-next s w b (m .0) (m .1))) (omega (arith, less, h))))
+        let less : mostFrom (next s w) < mostFrom s = lowers s w b C (m .0) (m .1) (m .2) t in
+        rw t (ih (inr (begun-next s w b (m .0) (m .1))) (called-next s w C (m .1) (m .2)) (omega (arith, less, h))))
 
 -- ---- files
 
@@ -292,11 +325,12 @@ further-bytes (a ∷ b ∷ []) h = refl
 further-bytes (a ∷ b ∷ c ∷ []) h = refl
 further-bytes (a ∷ b ∷ c ∷ d ∷ bs) h = tt
 
--- behind the first 34,576 bytes, which are 8,644 words, one byte is as good as any others
-pub enough : (xs bs cs : List ℕ) → length xs ≡ 34576 → SomeByte bs → SomeByte cs → read (xs ++ bs) ≡ read (xs ++ cs)
+-- behind the first 34,316 bytes, which are 8,579 words, one byte is as good as any others
+pub enough : (xs bs cs : List ℕ) → length xs ≡ 34316 → SomeByte bs → SomeByte cs → read (xs ++ bs) ≡ read (xs ++ cs)
 unfolding read readWords
 enough xs bs cs e p q =
-    let B = split 8644 xs bs e in
-    let C = split 8644 xs cs e in
-    let D = decided start 0 (wordsOf xs) (wordsOf bs) (wordsOf cs) (leftOver bs) (leftOver cs) (inl refl) (omega (arith, B .many)) (further-bytes bs p) (further-bytes cs q) in
+    let B = split 8579 xs bs e in
+    let C = split 8579 xs cs e in
+    let none-called : Called 0 [] = record { places = omega arith; each = tt; once = refl } in
+    let D = decided start 0 (wordsOf xs) (wordsOf bs) (wordsOf cs) (leftOver bs) (leftOver cs) (inl refl) none-called (omega (arith, B .many)) (further-bytes bs p) (further-bytes cs q) in
     rw (B .words, B .left, C .words, C .left, D .2, D .3)

@@ -3,7 +3,7 @@ use Prim.Native.Nat.{ℕ, _*_, _≤_, _<_}
 use native.Mathlib.Omega.{arith}
 use native.Mathlib.Nat.{mul-le-mul}
 use mathlib.Core.Path.{_≡_, sym, ap, _∙_}
-use mathlib.Core.Bool.{Bool, true}
+use mathlib.Core.Bool.{Bool, true, false}
 use mathlib.Core.List.{List, [], _∷_, _++_, map}
 use mathlib.Core.Option.{Option, none, some}
 use mathlib.Core.Logic.{inl, inr}
@@ -19,9 +19,10 @@ use Rattle.definitions.specs.Sheet.{Window, Break, Customer, Sheet}
 use Rattle.definitions.specs.Words.{Word, word, wordsOf, leftOver, bytesOf}
 use Rattle.definitions.specs.Encoding.{optional, breakWords, windowWords, customerWords, bodyWords, encode}
 use Rattle.definitions.specs.Reader.{read, sheet}
-use Rattle.definitions.specs.Refusals.{Within, WithinCalls}
+use Rattle.definitions.specs.Refusals.{Within, WithinCalls, repeats}
+use Rattle.theorems.proofs.Repeats.{tour-few}
 use Rattle.round_trip.proofs.Says.{callWords, timeWords, tableWords, limitWords, allWords, others}
-use Rattle.round_trip.proofs.Good.{GoodWindow, GoodBreak, GoodCustomer, AsMany, GoodSheet, GoodCalls, good-sheet, good-calls}
+use Rattle.round_trip.proofs.Good.{GoodWindow, GoodBreak, GoodCustomer, AsMany, GoodSheet, GoodTour, good-sheet, good-tour}
 use Rattle.round_trip.proofs.Accepts.{wordCount}
 use Rattle.round_trip.proofs.ReadsBack.{body-length, encode-counted, reads-back}
 use Rattle.round_trip.proofs.OnlySheets.{only-sheets}
@@ -104,7 +105,7 @@ few-customers (c ∷ cs) =
       few-optional 0xB (c .penalty),
     )
 
-module _ (s : Sheet) (tour : List ℕ) (G : GoodSheet s) (C : GoodCalls (s .head .places) tour) where
+module _ (s : Sheet) (tour : List ℕ) (G : GoodSheet s) (C : GoodTour (s .head .places) tour) where
   few-places : s .head .places ≤ 64
   few-places = leb-true (s .head .places) 64 (and-right (leb 1 (s .head .places)) (leb (s .head .places) 64) (G .places))
 
@@ -115,8 +116,8 @@ module _ (s : Sheet) (tour : List ℕ) (G : GoodSheet s) (C : GoodCalls (s .head
   few-times (inl e) = omega (arith, ap length e)
   few-times (inr e) = omega (arith, e, few-legs)
 
-  -- with F at most 8,644
-  pub few-words : length (bodyWords s tour) ≤ 8643
+  -- with F at most 8,579
+  pub few-words : length (bodyWords s tour) ≤ 8578
   few-words =
       omega (
         arith,
@@ -131,7 +132,7 @@ module _ (s : Sheet) (tour : List ℕ) (G : GoodSheet s) (C : GoodCalls (s .head
         G .square,
         few-legs,
         few-times (G .as-many),
-        C .few,
+        tour-few (s .head .places) tour (G .places) (C .each) (C .once),
       )
 
   fit-all : AllFit (allWords s tour (wordCount s tour))
@@ -172,24 +173,25 @@ module _ (s : Sheet) (tour : List ℕ) (G : GoodSheet s) (C : GoodCalls (s .head
           (fit-optional 4 isNumber (s .head .maxDistance) (omega arith) numbers (G .maxDistance))
           (all-append Fits (optional 5 (s .head .maxDuration)) (breakWords (s .head .rest) ++ rest) (fit-optional 5 isNumber (s .head .maxDuration) (omega arith) numbers (G .maxDuration)) from-break)
 
-pub encode-fits : (s : Sheet) (tour : List ℕ) → Within s → WithinCalls s tour → AllFit (encode s tour)
-encode-fits s tour W C = rw (encode-counted s tour) (fit-all s tour (good-sheet s W) (good-calls (s .head .places) tour C))
+pub encode-fits : (s : Sheet) (tour : List ℕ) → Within s → WithinCalls s tour → repeats tour ≡ false → AllFit (encode s tour)
+encode-fits s tour W C o = rw (encode-counted s tour) (fit-all s tour (good-sheet s W) (good-tour (s .head .places) tour C o))
 
 -- ---- files
 
--- for every sheet within the limits and tour of it, reading their file gives them back
-pub file-reads-back : (s : Sheet) (tour : List ℕ) → Within s → WithinCalls s tour → read (bytesOf (encode s tour)) ≡ sheet s tour
+-- for every sheet within the limits and tour of it without a repeat, reading their file gives them back
+pub file-reads-back : (s : Sheet) (tour : List ℕ) → Within s → WithinCalls s tour → repeats tour ≡ false → read (bytesOf (encode s tour)) ≡ sheet s tour
 unfolding read
-file-reads-back s tour W C = rw (words-of-bytes (encode s tour) (encode-fits s tour W C), nothing-left (encode s tour)) (reads-back s tour W C)
+file-reads-back s tour W C o = rw (words-of-bytes (encode s tour) (encode-fits s tour W C o), nothing-left (encode s tour)) (reads-back s tour W C o)
 
 pub record IsFile (bs : List ℕ) (s : Sheet) (tour : List ℕ) : Type 0 where
   pub bytes : bs ≡ bytesOf (encode s tour)
   pub within : Within s
   pub calls : WithinCalls s tour
+  pub once : repeats tour ≡ false
 
 -- a file that is accepted is the file of the sheet and tour returned, which are within the limits
 pub only-files : (bs : List ℕ) (s : Sheet) (tour : List ℕ) → AllBytes bs → read bs ≡ sheet s tour → IsFile bs s tour
 unfolding read
 only-files bs s tour a e =
     let I = only-sheets (wordsOf bs) (leftOver bs) s tour e in
-    record { bytes = sym (bytes-of-words bs a (I .nothing-left)) ∙ ap bytesOf (I .words); within = I .within; calls = I .calls }
+    record { bytes = sym (bytes-of-words bs a (I .nothing-left)) ∙ ap bytesOf (I .words); within = I .within; calls = I .calls; once = I .once }

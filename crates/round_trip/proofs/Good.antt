@@ -9,7 +9,7 @@ use mathlib.Core.Logic.{_⊎_, inl, inr}
 use lib.ListN.{length}
 use lib.Seq.{take-all}
 use lib.Dec.{eqb, ltb, leb}
-use borrow.Author.Tests.{eqb-true, eq-eqb, leb-true, le-ltb, ltb-false}
+use borrow.Author.Tests.{eqb-true, eq-eqb, leb-true, le-ltb}
 use Rattle.basics.proofs.TestLaws.{and-left, not-false, not-of-true}
 use Rattle.basics.specs.Options.{present, Holds, IfAny}
 use Rattle.basics.specs.Lists.{All, Passes, Fails, isEmpty}
@@ -17,8 +17,9 @@ use Rattle.basics.proofs.ListLaws.{all-imp, any-fails, fails-any, fails-not, no
 use Rattle.definitions.specs.Domain.{isPlaces, isCapacity, isDemand, isPenalty, isNumber, isCall, mostCalls}
 use Rattle.definitions.specs.Load.{Load, noLoad, eachOf}
 use Rattle.definitions.specs.Sheet.{Window, Break, Customer, Sheet, records, depot}
-use Rattle.definitions.specs.Refusals.{Within, badCalls, badBreak, badCustomer, badDepot, badOptional, badWindow, breakFalls, unfit, windowFalls}
+use Rattle.definitions.specs.Refusals.{Within, badCalls, repeats, badBreak, badCustomer, badDepot, badOptional, badWindow, breakFalls, unfit, windowFalls}
 use Rattle.theorems.proofs.Ranges.{TablesEven, tables-even, even-tables, calls-in-range, range-calls, break-in-range, range-break, window-in-range, range-window, customer-in-range, range-customer, depot-in-range, InRange, in-range, range-in, PairsRise, pairs-rise, rise-pairs}
+use Rattle.theorems.proofs.Repeats.{tour-few}
 use Rattle.round_trip.proofs.Says.{others}
 
 pub record GoodWindow (w : Window) : Type 0 where
@@ -57,10 +58,10 @@ pub record GoodSheet (s : Sheet) : Type 0 where
   pub times : Passes isNumber (s .legs .times)
   pub as-many : AsMany (s .head .places * s .head .places) (s .legs .times)
 
--- calls of a tour or a run list, on a sheet with n places
-pub record GoodCalls (n : ℕ) (calls : List ℕ) : Type 0 where
-  pub each : Passes (isCall n) calls
-  pub few : length calls ≤ mostCalls
+-- a tour on a sheet with n places
+pub record GoodTour (n : ℕ) (tour : List ℕ) : Type 0 where
+  pub each : Passes (isCall n) tour
+  pub once : repeats tour ≡ false
 
 -- ---- within the limits, so good
 
@@ -169,13 +170,10 @@ good-sheet s W =
         customers-good (s .customers) (any-fails (badCustomer some) (s .customers) (rw all-records at (R .customers)))
         (any-fails (λ (c : Customer). windowFalls some (c .window)) (s .customers) (rw all-records at (P .windows)))
 
-pub good-calls : (n : ℕ) (calls : List ℕ) → badCalls n calls ≡ false → GoodCalls n calls
-good-calls n calls h =
-    let C = calls-in-range n calls h in
-    record {
-      each = fails-not (isCall n) calls (any-fails (λ (c : ℕ). not (isCall n c)) calls (C .each));
-      few = ltb-false mostCalls (length calls) (C .few);
-    }
+pub good-tour : (n : ℕ) (tour : List ℕ) → badCalls n tour ≡ false → repeats tour ≡ false → GoodTour n tour
+good-tour n tour h o =
+    let C = calls-in-range n tour h in
+    record { each = fails-not (isCall n) tour (any-fails (λ (c : ℕ). not (isCall n c)) tour (C .each)); once = o }
 
 -- ---- good, so within the limits
 
@@ -253,10 +251,10 @@ good-within s G =
     all-records : records s ≡ depot ∷ others s
     all-records = take-all (s .head .places) (s .customers) (omega (arith, G .counted)) ∙ G .first
 
-pub good-within-calls : (n : ℕ) (calls : List ℕ) → GoodCalls n calls → badCalls n calls ≡ false
-good-within-calls n calls G =
-    range-calls n calls
+pub good-within-tour : (n : ℕ) (tour : List ℕ) → isPlaces n ≡ true → GoodTour n tour → badCalls n tour ≡ false
+good-within-tour n tour p G =
+    range-calls n tour
     (record {
-      few = le-ltb mostCalls (length calls) (G .few);
-      each = fails-any (λ (c : ℕ). not (isCall n c)) calls (not-fails (isCall n) calls (G .each));
+      few = le-ltb mostCalls (length tour) (omega (arith, tour-few n tour p (G .each) (G .once)));
+      each = fails-any (λ (c : ℕ). not (isCall n c)) tour (not-fails (isCall n) tour (G .each));
     })

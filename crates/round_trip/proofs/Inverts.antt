@@ -9,8 +9,8 @@ use mathlib.Core.Option.{Option, none, some}
 use mathlib.Core.Logic.{inl, inr}
 use lib.ListN.{length, length-append}
 use lib.Dec.{eqb, ltb, leb, eqb·suc-zero}
-use borrow.Author.Tests.{eqb-true, ltb-true, ltb-false, leb-true, leb-false, not-true}
-use Rattle.basics.proofs.TestLaws.{by-test, not-false, and-left, and-right}
+use borrow.Author.Tests.{eqb-true, ltb-true, ltb-false, leb-true}
+use Rattle.basics.proofs.TestLaws.{by-test, not-false, and-left, or-false}
 use Rattle.basics.specs.Options.{Holds, IfAny}
 use Rattle.basics.specs.Lists.{All, Passes}
 use Rattle.definitions.specs.Domain.{isPlaces, isCapacity, isDemand, isPenalty, isNumber, isCall}
@@ -18,11 +18,12 @@ use Rattle.definitions.specs.Load.{ofSeats}
 use Rattle.definitions.specs.Sheet.{Customer, Sheet, depot}
 use Rattle.definitions.specs.Words.{Word, word}
 use Rattle.definitions.specs.Encoding.{optional, breakWords, windowWords, customerWords}
-use Rattle.definitions.specs.Reader.{State, start, next, onward, mayStand, inRange, pairFalls, among, faults, faultAt, accepted, refused, behind, unless, walk}
+use Rattle.definitions.specs.Reader.{State, start, next, onward, mayStand, inRange, repeated, pairFalls, among, faults, faultAt, accepted, refused, behind, unless, walk}
 use Rattle.theorems.proofs.InOrder.{none-fits}
+use Rattle.theorems.proofs.Again.{again, again-repeats}
 use Rattle.round_trip.proofs.Says.{callWords, timeWords, tableWords, allWords}
-use Rattle.round_trip.proofs.Good.{GoodWindow, GoodBreak, GoodCustomer, AsMany, GoodSheet, GoodCalls}
-use Rattle.round_trip.proofs.Accepts.{behindWord, wordCount}
+use Rattle.round_trip.proofs.Good.{GoodWindow, GoodBreak, GoodCustomer, AsMany, GoodSheet, GoodTour}
+use Rattle.round_trip.proofs.Accepts.{behindCalls, behindWord, wordCount}
 use Rattle.round_trip.proofs.ByKind.{ByKind, no-other, _or_, by-kind, map-kinds}
 
 -- ---- a word that is taken
@@ -30,6 +31,7 @@ use Rattle.round_trip.proofs.ByKind.{ByKind, no-other, _or_, by-kind, m
 record Taken (s : State) (i : ℕ) (w : Word) (ws : List Word) (left : Bool) : Type 0 where
   stands : among (w .kind) (mayStand s) ≡ true
   ranged : inRange s w ≡ true
+  once : repeated s w ≡ false
   paired : pairFalls s w ≡ false
   counted : eqb (w .kind) 0xF && not (eqb (w .value) i) ≡ false
   on : cond (eqb (w .kind) 0xF) (behind (suc i) ws left) (walk (next s w) (suc i) ws left) ≡ accepted
@@ -48,7 +50,7 @@ taken s i w ws left h = go (faultAt s i w) refl h
     go (some n) e f = not-accepted n i f
     go none e f =
         let N = none-fits (faults s i w) e in
-        record { stands = not-false (among (w .kind) (mayStand s)) (N 11); ranged = not-false (inRange s w) (N 1); paired = N 2; counted = N 3; on = f }
+        record { stands = not-false (among (w .kind) (mayStand s)) (N 11); ranged = not-false (inRange s w) (N 1); once = N 21; paired = N 2; counted = N 3; on = f }
 
 ended : {A : Type 0} (s : State) (i : ℕ) (left : Bool) → walk s i [] left ≡ accepted → A
 unfolding walk
@@ -77,54 +79,53 @@ behind-end i [] false h = (refl, refl)
 behind-end i [] true h = not-accepted 3 i h
 behind-end i (w ∷ ws) left h = not-accepted 3 i h
 
--- ---- the tour, of which r calls stand before
+-- ---- the tour, of which the calls cs stand before
 
-record TourEnd (n r : ℕ) (left : Bool) (i : ℕ) (ws : List Word) : Type 0 where
+record TourEnd (n : ℕ) (cs : List ℕ) (left : Bool) (i : ℕ) (ws : List Word) : Type 0 where
   tour : List ℕ
   is : ws ≡ callWords tour (i + length tour)
   calls : Passes (isCall n) tour
-  few : r + length tour ≤ 128
+  once : again cs tour ≡ false
   nothing-left : left ≡ false
 
-tour-over : (s : State) (n r i v : ℕ) (ws : List Word) (left : Bool) → r ≤ 128 → Case (TourEnd n r left) s i left v ws 0xF
-tour-over s n r i v ws left h T =
+tour-over : (s : State) (n : ℕ) (cs : List ℕ) (i v : ℕ) (ws : List Word) (left : Bool) → Case (TourEnd n cs left) s i left v ws 0xF
+tour-over s n cs i v ws left T =
     let B = behind-end (suc i) ws left (T .on) in
     let same : v ≡ i + 0 = omega (arith, eqb-true v i (not-false (eqb v i) (T .counted))) in
-    record { tour = []; is = λ j. word 0xF (same j) ∷ B .0 j; calls = tt; few = omega arith; nothing-left = B .1 }
+    record { tour = []; is = λ j. word 0xF (same j) ∷ B .0 j; calls = tt; once = refl; nothing-left = B .1 }
 
-tour-more : (n r i v : ℕ) (ws : List Word) (left : Bool) → isCall n v ≡ true → TourEnd n (suc r) left (suc i) ws → TourEnd n r left i (word 0xE v ∷ ws)
-tour-more n r i v ws left h E =
+tour-more : (n : ℕ) (cs : List ℕ) (i v : ℕ) (ws : List Word) (left : Bool) → isCall n v ≡ true → among v cs ≡ false → TourEnd n (v ∷ cs) left (suc i) ws
+    → TourEnd n cs left i (word 0xE v ∷ ws)
+tour-more n cs i v ws left h o E =
     let same : suc i + length (E .tour) ≡ i + suc (length (E .tour)) = omega arith in
     record {
       tour = v ∷ E .tour;
       is = ap (λ (l : List Word). word 0xE v ∷ l) (E .is ∙ ap (callWords (E .tour)) same);
       calls = (h, E .calls);
-      few = omega (arith, E .few);
+      once = or-false (among v cs) _ o (E .once);
       nothing-left = E .nothing-left;
     }
 
-tour-inv : (v r n d i : ℕ) (ws : List Word) (left : Bool) → r ≤ 128 → walk (behindWord 0xE v r n d) i ws left ≡ accepted → TourEnd n r left i ws
+tour-inv : (cs : List ℕ) (v r n d i : ℕ) (ws : List Word) (left : Bool) → walk (behindCalls cs 0xE v r n d) i ws left ≡ accepted → TourEnd n cs left i ws
 unfolding mayStand inRange
-tour-inv v r n d i [] left h a = ended (behindWord 0xE v r n d) i left a
-tour-inv v r n d i (w ∷ ws) left h a =
-    by-word (TourEnd n r left) (behindWord 0xE v r n d) i left w ws (0xE ∷ 0xF ∷ []) refl
-    ((λ T. let inside = and-right (isCall n (w .value)) (not (leb 128 r)) (T .ranged) in
-    let room : r < 128 = leb-false 128 r (not-true (leb 128 r) inside) in
-    tour-more n r i (w .value) ws left (and-left (isCall n (w .value)) (not (leb 128 r)) (T .ranged)) (tour-inv (w .value) (suc r) n d (suc i) ws left room (T .on)))
-    or tour-over (behindWord 0xE v r n d) n r i (w .value) ws left h
+tour-inv cs v r n d i [] left a = ended (behindCalls cs 0xE v r n d) i left a
+tour-inv cs v r n d i (w ∷ ws) left a =
+    by-word (TourEnd n cs left) (behindCalls cs 0xE v r n d) i left w ws (0xE ∷ 0xF ∷ []) refl
+    ((λ T. tour-more n cs i (w .value) ws left (T .ranged) (T .once) (tour-inv (w .value ∷ cs) (w .value) (suc r) n d (suc i) ws left (T .on)))
+    or tour-over (behindCalls cs 0xE v r n d) n cs i (w .value) ws left
     or no-other) a
 
 -- the first call or F, behind a word of another kind
 tour-cases : (k v r n d i u : ℕ) (ws : List Word) (left : Bool) → eqb 0xE k ≡ false
-    → ByKind (Case (TourEnd n 0 left) (behindWord k v r n d) i left u ws) (0xE ∷ 0xF ∷ [])
+    → ByKind (Case (TourEnd n [] left) (behindWord k v r n d) i left u ws) (0xE ∷ 0xF ∷ [])
 unfolding inRange
 tour-cases k v r n d i u ws left p =
-    (λ T. tour-more n 0 i u ws left (and-left (isCall n u) (not (eqb k 0xE && leb 128 r)) (T .ranged)) (tour-inv u 1 n d (suc i) ws left (omega arith) (rw p at (T .on))))
-    or tour-over (behindWord k v r n d) n 0 i u ws left (omega arith)
+    (λ T. tour-more n [] i u ws left (T .ranged) refl (tour-inv (u ∷ []) u 1 n d (suc i) ws left (rw p at (T .on))))
+    or tour-over (behindWord k v r n d) n [] i u ws left
     or no-other
 
-tour-good : {n i : ℕ} {ws : List Word} {left : Bool} (E : TourEnd n 0 left i ws) → GoodCalls n (E .tour)
-tour-good E = record { each = E .calls; few = omega (arith, E .few) }
+tour-good : {n i : ℕ} {ws : List Word} {left : Bool} (E : TourEnd n [] left i ws) → GoodTour n (E .tour)
+tour-good E = record { each = E .calls; once = sym (again-repeats (E .tour)) ∙ E .once }
 
 -- ---- the times, of which r stand before
 
@@ -134,10 +135,10 @@ record TimesEnd (n r : ℕ) (left : Bool) (i : ℕ) (ws : List Word) : Type 0 wh
   is : ws ≡ timeWords ts tour (i + length ts + length tour)
   times : Passes isNumber ts
   square : r + length ts ≡ n * n
-  calls : GoodCalls n tour
+  calls : GoodTour n tour
   nothing-left : left ≡ false
 
-times-over : (n r i : ℕ) (ws : List Word) (left : Bool) → r ≡ n * n → TourEnd n 0 left i ws → TimesEnd n r left i ws
+times-over : (n r i : ℕ) (ws : List Word) (left : Bool) → r ≡ n * n → TourEnd n [] left i ws → TimesEnd n r left i ws
 times-over n r i ws left h E =
     let same : i + length (E .tour) ≡ i + 0 + length (E .tour) = omega arith in
     record {
@@ -182,7 +183,7 @@ record GoodTables (n r : ℕ) (ds ts tour : List ℕ) : Type 0 where
   square : r + length ds ≡ n * n
   times : Passes isNumber ts
   as-many : AsMany (n * n) ts
-  calls : GoodCalls n tour
+  calls : GoodTour n tour
 
 record TablesEnd (n r : ℕ) (left : Bool) (i : ℕ) (ws : List Word) : Type 0 where
   ds : List ℕ
@@ -192,7 +193,7 @@ record TablesEnd (n r : ℕ) (left : Bool) (i : ℕ) (ws : List Word) : Type 0 w
   good : GoodTables n r ds ts tour
   nothing-left : left ≡ false
 
-no-times : (n r i : ℕ) (ws : List Word) (left : Bool) → r ≡ n * n → TourEnd n 0 left i ws → TablesEnd n r left i ws
+no-times : (n r i : ℕ) (ws : List Word) (left : Bool) → r ≡ n * n → TourEnd n [] left i ws → TablesEnd n r left i ws
 no-times n r i ws left h E =
     let same : i + length (E .tour) ≡ i + 0 + 0 + length (E .tour) = omega arith in
     record {
@@ -475,7 +476,7 @@ pub record IsSheet (left : Bool) (ws : List Word) : Type 0 where
   pub tour : List ℕ
   pub is : ws ≡ allWords sheet tour (wordCount sheet tour)
   pub good : GoodSheet sheet
-  pub calls : GoodCalls (sheet .head .places) tour
+  pub calls : GoodTour (sheet .head .places) tour
   pub nothing-left : left ≡ false
 
 is-sheet : (n capacity fixed : ℕ) (left : Bool) (ws : List Word) → isPlaces n ≡ true → isCapacity capacity ≡ true → isNumber fixed ≡ true → Limited n (pred n) left 3 ws

@@ -8,9 +8,9 @@ use Rattle.definitions.specs.Sheet.{Sheet}
 use Rattle.definitions.specs.Words.{Word}
 use Rattle.definitions.specs.Encoding.{encode}
 use Rattle.definitions.specs.Reader.{start, walk, Outcome, accepted, refused, sheetOf, tourOf, readWords, answer, sheet, refusedAt}
-use Rattle.definitions.specs.Refusals.{Within, WithinCalls}
+use Rattle.definitions.specs.Refusals.{Within, WithinCalls, repeats}
 use Rattle.round_trip.proofs.Says.{sheet-said, tour-said}
-use Rattle.round_trip.proofs.Good.{good-within, good-within-calls}
+use Rattle.round_trip.proofs.Good.{good-within, good-within-tour}
 use Rattle.round_trip.proofs.Accepts.{wordCount}
 use Rattle.round_trip.proofs.ReadsBack.{encode-counted}
 use Rattle.round_trip.proofs.Inverts.{IsSheet, accepted-is}
@@ -20,6 +20,7 @@ pub record Is (ws : List Word) (left : Bool) (s : Sheet) (tour : List ℕ) : Typ
   pub nothing-left : left ≡ false
   pub within : Within s
   pub calls : WithinCalls s tour
+  pub once : repeats tour ≡ false
 
 is-by : (ws : List Word) (left : Bool) → IsSheet left ws → Is ws left (sheetOf ws) (tourOf ws)
 is-by ws left I =
@@ -34,7 +35,8 @@ is-by ws left I =
           words = I .is ∙ sym (encode-counted (I .sheet) (I .tour));
           nothing-left = I .nothing-left;
           within = good-within (I .sheet) (I .good);
-          calls = good-within-calls (I .sheet .head .places) (I .tour) (I .calls);
+          calls = good-within-tour (I .sheet .head .places) (I .tour) (I .good .places) (I .calls);
+          once = I .calls .once;
         }
 
 -- whatever is accepted is the words of the sheet and tour returned, with nothing left over, and those are within the limits

@@ -8,9 +8,9 @@ use lib.ListN.{length, length-append, length-map}
 use Rattle.definitions.specs.Sheet.{Sheet}
 use Rattle.definitions.specs.Encoding.{bodyWords, encode}
 use Rattle.definitions.specs.Reader.{readWords, sheet}
-use Rattle.definitions.specs.Refusals.{Within, WithinCalls}
+use Rattle.definitions.specs.Refusals.{Within, WithinCalls, repeats}
 use Rattle.round_trip.proofs.Says.{allWords, encode-is, sheet-said, tour-said}
-use Rattle.round_trip.proofs.Good.{good-sheet, good-calls}
+use Rattle.round_trip.proofs.Good.{good-sheet, good-tour}
 use Rattle.round_trip.proofs.Accepts.{wordCount, all-ok}
 
 -- how many words stand before F
@@ -21,10 +21,10 @@ body-length s tour = simp (length-append, length-map) (omega arith)
 pub encode-counted : (s : Sheet) (tour : List ℕ) → encode s tour ≡ allWords s tour (wordCount s tour)
 encode-counted s tour = encode-is s tour ∙ ap (allWords s tour) (body-length s tour)
 
--- for every sheet within the limits and tour of it, reading their words gives them back
-pub reads-back : (s : Sheet) (tour : List ℕ) → Within s → WithinCalls s tour → readWords (encode s tour) false ≡ sheet s tour
+-- for every sheet within the limits and tour of it without a repeat, reading their words gives them back
+pub reads-back : (s : Sheet) (tour : List ℕ) → Within s → WithinCalls s tour → repeats tour ≡ false → readWords (encode s tour) false ≡ sheet s tour
 unfolding readWords
-reads-back s tour W C =
+reads-back s tour W C o =
     let G = good-sheet s W in
     let f = wordCount s tour in
-    rw (encode-counted s tour, all-ok s tour G (good-calls (s .head .places) tour C), sheet-said s tour f (G .first), tour-said s tour f)
+    rw (encode-counted s tour, all-ok s tour G (good-tour (s .head .places) tour C o), sheet-said s tour f (G .first), tour-said s tour f)

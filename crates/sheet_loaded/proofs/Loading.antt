@@ -4,6 +4,7 @@ use mathlib.Core.Path.{_≡_, sym, ap, _∙_}
 use mathlib.Core.List.{List, map}
 use lib.ListN.{length, take, length-map}
 use Rattle.whole.specs.Whole.{fl}
+use Rattle.cut_theory.specs.Tab.{mostCut}
 use Rattle.definitions.specs.Sheet.{Sheet}
 use Rattle.definitions.specs.Words.{wordsOf}
 use Rattle.definitions.specs.Reader.{sheet, read, sheetOf, tourOf}
@@ -38,7 +39,7 @@ module _ (bytes : List ℕ) (l : Loaded) (old new : Arrays) where
   pub record Large : Type 0 where
     pub distances : 4096 ≤ length (old .distances)
     pub times : 4096 ≤ length (old .times)
-    pub tour : 128 ≤ length (old .tour)
+    pub tour : mostCut ≤ length (old .tour)
 
   -- head and counts are taken from what was found
   pub record Taken (found : Contents) : Type 0 where

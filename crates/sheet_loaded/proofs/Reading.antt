@@ -62,6 +62,7 @@ module _ (bytes : List ℕ) (s : Sheet) (tour : List ℕ) (e : read bytes ≡ sh
         record {
           within = is .within;
           calls = rw t (is .calls);
+          once = rw t (is .once);
           tables =
               record {
                 size-is = ap (λ (x : HeadOf Float). x .places) head-is;

@@ -1,11 +1,12 @@
 -- A sheet and its tour as they are held in memory. Definitions only.
 use Prim.Native.Nat.{ℕ}
 use mathlib.Core.Path.{_≡_}
+use mathlib.Core.Bool.{false}
 use mathlib.Core.List.{List}
 use lib.Ieee.{Float}
 use Rattle.whole.specs.Whole.{fl}
 use Rattle.definitions.specs.Sheet.{Sheet}
-use Rattle.definitions.specs.Refusals.{Within, WithinCalls}
+use Rattle.definitions.specs.Refusals.{Within, WithinCalls, repeats}
 use Rattle.definitions.specs.Reader.{sheet, read}
 use Rattle.models.specs.Load.{spaceOf}
 use Rattle.models.specs.declared.customer.Customer.{Customer}
@@ -15,10 +16,11 @@ use Rattle.evaluation.specs.Image.{flLimits, Image}
 use Rattle.sheet_read.specs.declared.read.Contents.{Contents}
 use Rattle.sheet_read.specs.Summary.{holds, summaryOf, heldCounts}
 
--- the sheet is within the limits, and so are the calls of the tour; its numbers are held in floats
+-- the sheet is within the limits, and so are the calls of the tour, which repeats no customer; its numbers are held in floats
 pub record InMemory (s : Sheet) (tour : List ℕ) (head : Head) (customers : List Customer) (distances times : List Float) : Type 0 where
   pub within : Within s
   pub calls : WithinCalls s tour
+  pub once : repeats tour ≡ false
   pub tables : Image s (lent customers distances times (head .places))
   pub capacity : spaceOf (head .capacity) ≡ s .head .capacity
   pub fixed : head .«fixed_cost» ≡ fl (s .head .fixed)

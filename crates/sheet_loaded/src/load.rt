@@ -6,6 +6,7 @@ ghost use Rattle.definitions.specs.Sheet.{Sheet};
 ghost use Rattle.definitions.specs.Reader as Reader;
 ghost use Rattle.sheet_loaded.specs.Held.{Found};
 ghost use Rattle.sheet_loaded.specs.Loaded.{arrays, Holds};
+use cut_table::cells::MOST_CUT;
 use models::customer::Customer;
 use models::head::Head;
 use sheet_read::customers::customers_of;
@@ -29,7 +30,7 @@ pub fn load(
     found: Contents,
     distances: &mut [f64; 4096],
     times: &mut [f64; 4096],
-    tour: &mut [usize; 128],
+    tour: &mut [usize; MOST_CUT],
 ) -> Loaded
     requires { ⌜ Found (now bytes) found ⌝ }
     ensures { λ r.

@@ -7,13 +7,14 @@ use lib.Ieee.{Float}
 use lib.ListN.{length, take, length-map}
 use Rattle.basics.specs.Options.{valueOr}
 use Rattle.whole.specs.Whole.{fl}
+use Rattle.cut_theory.specs.Tab.{mostCut}
 use Rattle.definitions.specs.Sheet.{Sheet}
 use Rattle.definitions.specs.Clock.{startOf}
 use Rattle.definitions.specs.Drop.{splitTw}
 use Rattle.definitions.specs.Room.{written}
 use Rattle.theorems.proofs.RunListLaws.{RiseTo}
 use Rattle.theorems.proofs.Promised.{promised}
-use Rattle.bounds.proofs.Inside.{sized, few-calls, calls-inside}
+use Rattle.bounds.proofs.Inside.{sized, few-calls, few-tour, calls-inside}
 use Rattle.models.specs.declared.customer.Customer.{Customer}
 use Rattle.models.specs.declared.head.Head.{Head}
 use Rattle.models.specs.Records.{restOf}
@@ -57,8 +58,8 @@ module _ (s : Sheet) (tour : List ℕ) (head : Head) (customers : List Customer)
   rises = rw (served-are C, ends-are C) (plan-rises s tour)
 
   -- each run's break has room
-  pub ends-room : length (take (r .runs) (new .ends)) ≤ 128
-  ends-room = rw (ends-are C) (omega (arith, few-ends s tour, served-and-dropped s tour, few-calls s tour (H .calls)))
+  pub ends-room : length (take (r .runs) (new .ends)) ≤ mostCut
+  ends-room = rw (ends-are C) (omega (arith, few-ends s tour, served-and-dropped s tour, few-tour s (H .within) tour (H .calls) (H .once)))
 
   module _ (before after : PlanLists) (from : before .cut ≡ old) (to : after .cut ≡ new) where
     pub left : after .places ≡ written (placesIn breaks) (before .places) → after .starts ≡ written (startsIn breaks) (before .starts) → Left (plan s tour) r before after

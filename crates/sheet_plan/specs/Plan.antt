@@ -6,6 +6,7 @@ use lib.Ieee.{Float}
 use lib.ListN.{length}
 use Rattle.basics.specs.Options.{valueOr}
 use Rattle.whole.specs.Whole.{fl}
+use Rattle.cut_theory.specs.Tab.{mostCut}
 use Rattle.definitions.specs.Sheet.{Sheet}
 use Rattle.definitions.specs.Clock.{startOf}
 use Rattle.definitions.specs.Drop.{Result, splitTw}
@@ -46,8 +47,8 @@ planLists served ends places starts dropped = record { cut = cutLists served end
 -- each list has room for the longest tour
 abbrev pub Roomy : PlanLists → Type 0
 Roomy l =
-    (128 ≤ length (l .cut .served)) × (128 ≤ length (l .cut .ends)) × (128 ≤ length (l .places))
-    × (128 ≤ length (l .starts)) × (128 ≤ length (l .cut .dropped))
+    (mostCut ≤ length (l .cut .served)) × (mostCut ≤ length (l .cut .ends)) × (mostCut ≤ length (l .places))
+    × (mostCut ≤ length (l .starts)) × (mostCut ≤ length (l .cut .dropped))
 
 -- what a plan comes to, and the lists as it leaves them: each run has a place and a start
 pub record Left (p : Plan) (r : SplitResult) (old new : PlanLists) : Type 0 where

@@ -1,6 +1,7 @@
 // The cut of the tour on a sheet that is held in memory.
 ghost use Prim.Native.Nat.{_≤_};
 ghost use lib.ListN.{length};
+ghost use Rattle.cut_theory.specs.Tab.{mostCut};
 ghost use Rattle.definitions.specs.Sheet.{Sheet};
 ghost use Rattle.definitions.specs.Drop.{splitTw};
 ghost use Rattle.sheet_loaded.specs.Held.{InMemory, Held};
@@ -22,7 +23,8 @@ pub fn cut_held(
     dropped: &mut [usize],
 ) -> SplitResult
     requires { ⌜ Held (now tour) head customers (now distances) (now times) ⌝ }
-    requires { ⌜ (128 ≤ length (now served)) × (128 ≤ length (now «run_ends»)) × (128 ≤ length (now dropped)) ⌝ }
+    requires { ⌜ (mostCut ≤ length (now served)) × (mostCut ≤ length (now «run_ends»))
+        × (mostCut ≤ length (now dropped)) ⌝ }
     ensures { λ r.
         let old = cutLists (now (served .entry)) (now («run_ends» .entry)) (now (dropped .entry)) in
         let new = cutLists (now (served .exit)) (now («run_ends» .exit)) (now (dropped .exit)) in

@@ -8,6 +8,7 @@ ghost use Rattle.sheet_loaded.specs.Held.{InMemory, Held, Found};
 ghost use Rattle.sheet_plan.specs.Plan.{plan, planLists, Roomy, Left};
 use crate::breaks::write_breaks;
 use crate::cut::cut_held;
+use cut_table::cells::MOST_CUT;
 use models::customer::Customer;
 use models::head::Head;
 use sheet_loaded::load::load;
@@ -88,7 +89,7 @@ pub fn plan_sheet(
 {
     let mut distances = [0.0; 4096];
     let mut times = [0.0; 4096];
-    let mut tour = [0usize; 128];
+    let mut tour = [0usize; MOST_CUT];
     let l = load(bytes, found, &mut distances, &mut times, &mut tour);
     let customers = l.customers;
     plan_held(

@@ -13,7 +13,7 @@ use Rattle.definitions.specs.Words.{wordsOf, leftOver}
 use Rattle.definitions.specs.Reader.{Outcome, accepted, refused, sheet, answer, walk, start, read, readWords, sheetOf, tourOf}
 use Rattle.round_trip.proofs.OnlySheets.{Is, only-sheets}
 use Rattle.bounds.specs.Sized.{Sized}
-use Rattle.bounds.proofs.Inside.{sized, few-calls}
+use Rattle.bounds.proofs.Inside.{sized, few-tour}
 use Rattle.models.specs.Image.{flCustomer}
 use Rattle.sheet_read.specs.Fitting.{fitting}
 use Rattle.sheet_read.specs.Parts.{floatsOf, depots}
@@ -62,8 +62,8 @@ module _ (bytes : List ℕ) (s : Sheet) (tour : List ℕ) (e : read bytes ≡ sh
       fits (floatsOf 0xD bytes) (map fl (s .legs .times)) old 4096 (ap (λ (t : Sheet). map fl (t .legs .times)) (same .sheet-same))
       (omega (arith, length-map (s .legs .times) fl, few-times (s .legs .distances) (s .legs .times), small .times-all, few-legs)) h
 
-  pub tour-whole : (old : List ℕ) → 128 ≤ length old → fitting (tourOf (wordsOf bytes)) old ≡ tour
-  tour-whole old h = fits (tourOf (wordsOf bytes)) tour old 128 (same .tour-same) (few-calls s tour (is .calls)) h
+  pub tour-whole : (old : List ℕ) → 63 ≤ length old → fitting (tourOf (wordsOf bytes)) old ≡ tour
+  tour-whole old h = fits (tourOf (wordsOf bytes)) tour old 63 (same .tour-same) (few-tour s (is .within) tour (is .calls) (is .once)) h
 
   pub customers-whole : fitting (map flCustomer (sheetOf (wordsOf bytes) .customers)) depots ≡ map flCustomer (s .customers)
   customers-whole =

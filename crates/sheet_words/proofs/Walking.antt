@@ -1,18 +1,22 @@
 -- The reading by index: what it gives from a state at the word of index i, by what that word is. Assumes nothing.
 use Prim.Native.Nat.{ℕ, suc, _≤_, _<_}
 use native.Mathlib.Omega.{arith}
-use mathlib.Core.Path.{_≡_, ap, _∙_}
+use mathlib.Core.Path.{_≡_, refl, sym, ap, subst, _∙_}
 use mathlib.Core.Bool.{Bool, true, false}
 use mathlib.Core.List.{List, []}
 use mathlib.Core.Option.{none, some}
-use lib.ListN.{length, drop, getD, drop-of-length-le}
+use lib.ListN.{length, drop, getD, length-set, drop-of-length-le}
 use lib.Seq.{drop-cons}
-use lib.Dec.{eqb}
-use Rattle.basics.proofs.TestLaws.{by-test}
-use Rattle.definitions.specs.Words.{Word}
-use Rattle.definitions.specs.Reader.{State, refused, start, next, faultAt, behind, walk}
+use lib.Dec.{eqb, leb, ltb}
+use borrow.Author.Tests.{eqb-true, leb-true, ltb-true}
+use Rattle.basics.proofs.TestLaws.{by-test, and-right, not-false}
+use Rattle.definitions.specs.Words.{Word, word}
+use Rattle.definitions.specs.Reader.{State, refused, start, next, inRange, faults, faultAt, behind, walk}
+use Rattle.theorems.proofs.InOrder.{none-fits}
+use Rattle.refuse_lists.specs.Called.{noneCalled, Notes}
+use Rattle.refuse_lists.proofs.Calling.{none-noted, one-noted}
 use Rattle.sheet_words.specs.declared.state.State as Code
-use Rattle.sheet_words.specs.Held.{noWord, stateOf}
+use Rattle.sheet_words.specs.Held.{noWord, stateWith, stateOf, notesWith}
 use Rattle.sheet_words.proofs.ByIndex.{words-from}
 
 -- ws are the words, and left says whether bytes are left over behind them
@@ -41,32 +45,70 @@ module _ (ws : List Word) (left : Bool) (i : ℕ) where
       unfolding walk
       walk-on f k = rw (words-from ws i w h e, ← f, k)
 
+-- what a word without fault passed
+in-range : (s : State) (i : ℕ) (w : Word) → faultAt s i w ≡ none → inRange s w ≡ true
+unfolding faultAt
+in-range s i w h = not-false (inRange s w) (none-fits (faults s i w) h 1)
+
 -- ---- the loop
 
--- at the word of index i, in state s, what is left to read gives what the whole reading gives
-pub record Reached (ws : List Word) (left : Bool) (s : Code.State) (i : ℕ) : Type 0 where
+-- at the word of index i, in state s and with these notes, what is left to read gives what the whole reading gives
+pub record Reached (ws : List Word) (left : Bool) (s : Code.State) (called : List Bool) (i : ℕ) : Type 0 where
   pub inside : i ≤ length ws
   -- no more words of one kind in a row than words
   pub few : s .row ≤ i
-  pub same : walk (stateOf s) i (drop i ws) left ≡ walk start 0 ws left
+  pub few-places : s .places ≤ 64
+  -- the calls of the tour so far, whose customers are noted
+  pub calls : List ℕ
+  pub long : length called ≡ 64
+  pub notes : Notes called calls
+  pub same : walk (stateWith calls s) i (drop i ws) left ≡ walk start 0 ws left
 
 module _ (ws : List Word) (left : Bool) where
-  pub set-out : (s : Code.State) → stateOf s ≡ start → Reached ws left s 0
+  pub set-out : (s : Code.State) → stateOf s ≡ start → Reached ws left s noneCalled 0
   set-out s e =
       let r : s .row ≡ 0 = ap (λ (t : State). t .row) e in
-      record { inside = omega arith; few = omega arith; same = rw e }
+      let p : s .places ≡ 0 = ap (λ (t : State). t .places) e in
+      record { inside = omega arith; few = omega arith; few-places = omega arith; calls = []; long = refl; notes = none-noted; same = rw e }
 
   -- a row has at most one word more behind a word
   row-grows : (s : State) (w : Word) → next s w .row ≤ suc (s .row)
   row-grows s w = by-test (eqb (w .kind) (s .last .kind)) (λ t. rw t (omega arith)) (λ f. rw f (omega arith))
 
-  pub turn : (s t : Code.State) (i k : ℕ) (w : Word) → Reached ws left s i → i < length ws → w ≡ getD ws i noWord
-      → none ≡ faultAt (stateOf s) i w → eqb (w .kind) 0xF ≡ false → stateOf t ≡ next (stateOf s) w → k ≡ suc i → Reached ws left t k
-  turn s t i k w r h e f n g q =
-      let row : t .row ≡ next (stateOf s) w .row = ap (λ (u : State). u .row) g in
-      let grows = row-grows (stateOf s) w in
+  module _ (s : State) (w : Word) (fit : inRange s w ≡ true) (few : s .places ≤ 64) where
+    of-kind : (k : ℕ) → eqb (w .kind) k ≡ true → inRange s (word k (w .value)) ≡ true
+    of-kind k t = subst (λ (j : ℕ). inRange s (word j (w .value)) ≡ true) (eqb-true (w .kind) k t) fit
+
+    places-few : next s w .places ≤ 64
+    unfolding inRange
+    places-few = by-test (eqb (w .kind) 1) (λ t. rw t (leb-true (w .value) 64 (and-right (leb 1 (w .value)) (leb (w .value) 64) (of-kind 1 t)))) (λ f. rw f few)
+
+    -- there is a note for a call in range
+    notes-more : (called : List Bool) → length called ≡ 64 → Notes called (s .called) → (length (notesWith called w) ≡ 64) × Notes (notesWith called w) (next s w .called)
+    unfolding inRange
+    notes-more called long M =
+        by-test (eqb (w .kind) 0xE)
+        (λ t. let v = w .value in
+        let below : v < s .places = ltb-true v (s .places) (and-right (leb 1 v) (ltb v (s .places)) (of-kind 0xE t)) in
+        rw t (length-set called v true ∙ long, one-noted called (s .called) v (omega arith) M))
+        (λ f. rw f (long, M))
+
+  pub turn : (s t : Code.State) (called after : List Bool) (i k : ℕ) (w : Word) (r : Reached ws left s called i) → i < length ws → w ≡ getD ws i noWord
+      → none ≡ faultAt (stateWith (r .calls) s) i w → eqb (w .kind) 0xF ≡ false → stateWith (next (stateWith (r .calls) s) w .called) t ≡ next (stateWith (r .calls) s) w
+      → after ≡ notesWith called w → k ≡ suc i → Reached ws left t after k
+  turn s t called after i k w r h e f n g m q =
+      let was = stateWith (r .calls) s in
+      let row : t .row ≡ next was w .row = ap (λ (u : State). u .row) g in
+      let places : t .places ≡ next was w .places = ap (λ (u : State). u .places) g in
+      let grows = row-grows was w in
+      let fit = in-range was i w (sym f) in
+      let noted = notes-more was w fit (r .few-places) called (r .long) (r .notes) in
       record {
         inside = omega arith;
         few = omega (arith, r .few);
-        same = rw (q, g) (walk-on ws left i (stateOf s) w h e f n ∙ r .same);
+        few-places = omega (arith, places-few was w fit (r .few-places));
+        calls = next was w .called;
+        long = rw m (noted .0);
+        notes = rw m (noted .1);
+        same = rw (q, g) (walk-on ws left i was w h e f n ∙ r .same);
       }

@@ -1,6 +1,10 @@
 -- What the code's structs and enums hold, as the records of crates/definitions. Definitions only.
 use Prim.Native.Nat.{ℕ}
+use mathlib.Core.Bool.{Bool, true, cond}
+use mathlib.Core.List.{List, []}
 use mathlib.Core.Option.{Option, none, some}
+use lib.ListN.{set}
+use lib.Dec.{eqb}
 use Rattle.definitions.specs.Words as D
 use Rattle.definitions.specs.Reader as Reader
 use Rattle.sheet_words.specs.declared.Word.{Word}
@@ -17,8 +21,17 @@ heldWord w = record { kind = w .kind; value = w .value }
 abbrev pub noWord : D.Word
 noWord = D.word 16 0
 
+-- the code's state beside the calls of the tour so far, of which the code has notes
+abbrev pub stateWith : List ℕ → State → Reader.State
+stateWith called s = record { last = heldWord (s .last); row = s .row; places = s .places; coming = s .coming; called = called }
+
+-- for the tests that do not ask which those are
 abbrev pub stateOf : State → Reader.State
-stateOf s = record { last = heldWord (s .last); row = s .row; places = s .places; coming = s .coming }
+stateOf s = stateWith [] s
+
+-- the notes of the customers called, behind one more word
+abbrev pub notesWith : List Bool → D.Word → List Bool
+notesWith called w = cond (eqb (w .kind) 0xE) (set called (w .value) true) called
 
 abbrev pub faultOf : Fault → Option ℕ
 faultOf Sound = none

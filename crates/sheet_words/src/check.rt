@@ -1,15 +1,20 @@
 // The leftmost bad word of a sheet, if it has one.
 ghost use mathlib.Core.Path.{_≡_};
-ghost use lib.ListN.{drop};
+ghost use mathlib.Core.Bool.{_&&_, false};
+ghost use lib.Dec.{eqb};
+ghost use lib.ListN.{drop, getD};
 ghost use Rattle.definitions.specs.Words.{wordsOf, leftOver};
 ghost use Rattle.definitions.specs.Reader as Reader;
 ghost use Rattle.definitions.specs.Reader.{walk, start};
-ghost use Rattle.sheet_words.specs.Held.{outcomeOf};
+ghost use Rattle.sheet_words.specs.Held.{heldWord, notesWith, outcomeOf};
+use crate::Word;
 use crate::left_over;
 use crate::state::Fault;
 use crate::state::State;
 use crate::word_at;
 use crate::word_count;
+use refuse_lists::called::is_called;
+use refuse_lists::called::note_call;
 
 pub enum Checked {
     Accepted,
@@ -32,21 +37,40 @@ pub fn behind(bytes: &[u8], i: usize) -> Checked
     Checked::Accepted
 }
 
+// Whether the word calls a customer that is noted already.
+pub fn calls_again(called: &[bool], w: Word) -> bool
+    ensures { λ r. ⌜ r ≡ eqb (w .kind) 0xE && getD (now (called .entry)) (w .value) false ⌝ }
+{
+    w.kind == 0xE && is_called(called, w.value as usize)
+}
+
+// Notes the customer that the word calls, if it calls one.
+pub fn note_word(called: &mut [bool], w: Word)
+    ensures { λ _. ⌜ now (called .exit) ≡ notesWith (now (called .entry)) (heldWord w) ⌝ }
+{
+    if w.kind == 0xE {
+        note_call(called, w.value as usize);
+    }
+}
+
 // Every word in turn, up to the first that is bad or the last of the sheet.
 pub fn check(bytes: &[u8]) -> Checked
     ensures { λ r. ⌜ outcomeOf r ≡ walk start 0 (wordsOf (now (bytes .entry))) (leftOver (now (bytes .entry))) ⌝ }
 {
     let count = word_count(bytes);
     let mut state = State::start();
+    let mut called = [false; 64];
     let mut i = 0;
     while i < count {
         let w = word_at(bytes, i);
-        if let Fault::Number(number) = state.fault_at(i, w) {
+        let again = calls_again(&called, w);
+        if let Fault::Number(number) = state.fault_at(i, w, again) {
             return Checked::Refused(number, i);
         }
         if w.kind == 0xF {
             return behind(bytes, i + 1);
         }
+        note_word(&mut called, w);
         state = state.next(w);
         i += 1;
     }

@@ -1,16 +1,14 @@
 // What the words so far leave to be known, which words may stand next, and what is wrong with a word.
 ghost use mathlib.Core.Path.{_≡_};
 ghost use mathlib.Core.Bool.{cond, _&&_, _||_, not};
-ghost use mathlib.Core.List.{[], _∷_};
-ghost use Prim.Native.Nat.{suc, pred, _*_, _^_, _<_};
-ghost use lib.Dec.{eqb, leb, ltb};
+ghost use mathlib.Core.List.{List, [], _∷_};
+ghost use Prim.Native.Nat.{ℕ, suc, pred, _*_, _^_, _<_};
+ghost use lib.Dec.{eqb, ltb};
 ghost use Rattle.basics.specs.Options.{valueOr};
-ghost use Rattle.definitions.specs.Domain.{isCall, mostCalls};
 ghost use Rattle.definitions.specs.Reader as Reader;
-ghost use Rattle.definitions.specs.Reader.{among, onward, mayStand, inRange, pairFalls, faultAt};
-ghost use Rattle.sheet_words.specs.Held.{heldWord, stateOf, faultOf};
+ghost use Rattle.definitions.specs.Reader.{among, onward, mayStand, inRange, repeated, pairFalls, faultAt};
+ghost use Rattle.sheet_words.specs.Held.{heldWord, stateWith, stateOf, faultOf};
 use crate::Word;
-use models::domain::MOST_CALLS;
 use models::domain::is_call;
 use models::domain::is_capacity;
 use models::domain::is_demand;
@@ -119,7 +117,10 @@ impl State {
     // What is known behind one more word.
     pub fn next(self, w: Word) -> Self
         requires { ⌜ suc (self .row) < 2 ^ 64 ⌝ }
-        ensures { λ r. ⌜ stateOf r ≡ Reader.next (stateOf self) (heldWord w) ⌝ }
+        ensures { λ r.
+            ⌜ ((called : List ℕ) →
+            let after = Reader.next (stateWith called self) (heldWord w) in
+            stateWith (after .called) r ≡ after) ⌝ }
     {
         State {
             last: w,
@@ -207,22 +208,6 @@ impl State {
         }
     }
 
-    // Whether the tour has its most calls.
-    pub fn tour_full(self) -> bool
-        ensures { λ r. ⌜ r ≡ eqb (self .last .kind) 0xE && leb mostCalls (self .row) ⌝ }
-    {
-        self.last.kind == 0xE && MOST_CALLS <= self.row
-    }
-
-    // Whether a call's customer is one, and the tour has room for it.
-    pub fn call_in_range(self, c: u32) -> bool
-        ensures { λ r.
-            let full = eqb (self .last .kind) 0xE && leb mostCalls (self .row) in
-            ⌜ r ≡ isCall (self .places) c && not full ⌝ }
-    {
-        is_call(self.places as usize, c as usize) && !self.tour_full()
-    }
-
     pub fn in_range(self, w: Word) -> bool
         ensures { λ r. ⌜ r ≡ inRange (stateOf self) (heldWord w) ⌝ }
     {
@@ -232,7 +217,7 @@ impl State {
             2 => is_capacity(w.value),
             7 => is_demand(w.value),
             0xB => is_penalty(w.value),
-            0xE => self.call_in_range(w.value),
+            0xE => is_call(self.places as usize, w.value as usize),
             0xF => true,
             _ => is_number(w.value),
         }
@@ -258,15 +243,18 @@ impl State {
         self.ends_pair(w.kind) && w.value < self.last.value
     }
 
-    // The number of what is wrong with the word of index i, and 0 where nothing is.
-    // Every test is made, whatever the others say.
-    pub fn number_at(self, i: usize, w: Word) -> u32
-        ensures { λ r. ⌜ r ≡ valueOr 0 (faultAt (stateOf self) i (heldWord w)) ⌝ }
+    // The number of what is wrong with the word of index i, and 0 where nothing is: `again` says whether it calls a
+    // customer that was called before. Every test is made, whatever the others say.
+    pub fn number_at(self, i: usize, w: Word, again: bool) -> u32
+        ensures { λ r.
+            ⌜ ((called : List ℕ) → again ≡ repeated (stateWith called self) (heldWord w)
+            → r ≡ valueOr 0 (faultAt (stateWith called self) i (heldWord w))) ⌝ }
     {
-        let numbers = [11, 1, 2, 3];
+        let numbers = [11, 1, 21, 2, 3];
         let fits = [
             !self.may_stand(w.kind),
             !self.in_range(w),
+            again,
             self.pair_falls(w),
             wrong_count(w, i),
         ];
@@ -274,10 +262,12 @@ impl State {
     }
 
     // What is wrong with the word of index i.
-    pub fn fault_at(self, i: usize, w: Word) -> Fault
-        ensures { λ r. ⌜ faultOf r ≡ faultAt (stateOf self) i (heldWord w) ⌝ }
+    pub fn fault_at(self, i: usize, w: Word, again: bool) -> Fault
+        ensures { λ r.
+            ⌜ ((called : List ℕ) → again ≡ repeated (stateWith called self) (heldWord w)
+            → faultOf r ≡ faultAt (stateWith called self) i (heldWord w)) ⌝ }
     {
-        let number = self.number_at(i, w);
+        let number = self.number_at(i, w, again);
         if number == 0 {
             return Fault::Sound;
         }

@@ -9,7 +9,7 @@ use lib.Seq.{take-all}
 use lib.Ieee.{Float, nan}
 use Rattle.cut_theory.specs.Cut.{Rule, pred, backOf, ends, Falls}
 use Rattle.cut_theory.proofs.Best.{pred-lt}
-use Rattle.cut_theory.specs.Tab.{cells}
+use Rattle.cut_theory.specs.Tab.{mostCut, cells}
 use Rattle.cut_theory.specs.Rows.{Legs, rule64}
 use Rattle.cut_theory.proofs.RowLaws.{last-cost, last-falls, last-ends}
 use Rattle.cut_theory.proofs.CarriedLaws.{last-far}
@@ -18,7 +18,7 @@ use Rattle.cut_rows.specs.Tariff.{Tariff, stretches, runsOf, farsOf, TableOf, e
 
 -- ---- what is read from the table
 
-module _ (T : Tariff) (held : List ℕ) (few : length held ≤ 128) (t : Table) (R : TableOf T held (length held) t) where
+module _ (T : Tariff) (held : List ℕ) (few : length held ≤ mostCut) (t : Table) (R : TableOf T held (length held) t) where
   abbrev runs : Legs
   runs = runsOf T (stretches held)
 

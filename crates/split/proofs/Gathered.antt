@@ -11,6 +11,7 @@ use lib.Dec.{ltb}
 use borrow.Author.Tests.{ltb-true, ltb-false}
 use lib.Ieee.{Float, nan}
 use Rattle.basics.proofs.TestLaws.{by-test}
+use Rattle.cut_theory.specs.Tab.{mostCut}
 use Rattle.definitions.specs.Load.{Load, plus, carried}
 use Rattle.models.specs.declared.load.Space.{Space}
 use Rattle.models.specs.Load.{spaceOf, UpTo}
@@ -53,14 +54,14 @@ module _ (leg : ℕ → ℕ → Float) (calls : List ℕ) where
 -- after k calls
 pub record Laid (leg : ℕ → ℕ → Float) (calls : List ℕ) (ins backs : List Float) (prev k : ℕ) : Type 0 where
   pub within : k ≤ length calls
-  pub ins-long : length ins ≡ 128
-  pub backs-long : length backs ≡ 128
+  pub ins-long : length ins ≡ mostCut
+  pub backs-long : length backs ≡ mostCut
   pub is-prev : prev ≡ placeBefore calls k
   pub ins-are : (j : ℕ) → j < k → getD ins j nan ≡ into leg calls j
   pub backs-are : (j : ℕ) → j < k → getD backs j nan ≡ back leg calls j
 
 module _ (leg : ℕ → ℕ → Float) (calls : List ℕ) where
-  pub none-laid : (ins backs : List Float) → length ins ≡ 128 → length backs ≡ 128 → Laid leg calls ins backs 0 0
+  pub none-laid : (ins backs : List Float) → length ins ≡ mostCut → length backs ≡ mostCut → Laid leg calls ins backs 0 0
   unfolding placeBefore
   none-laid ins backs li lb =
       record {
@@ -72,7 +73,7 @@ module _ (leg : ℕ → ℕ → Float) (calls : List ℕ) where
         backs-are = λ j h. absurd (not-suc-le-zero h);
       }
 
-  pub one-laid : (ins backs : List Float) (prev k : ℕ) (x y : Float) → k < length calls → length calls ≤ 128 → x ≡ leg prev (getD calls k 0) → y ≡ leg (getD calls k 0) 0
+  pub one-laid : (ins backs : List Float) (prev k : ℕ) (x y : Float) → k < length calls → length calls ≤ mostCut → x ≡ leg prev (getD calls k 0) → y ≡ leg (getD calls k 0) 0
       → Laid leg calls ins backs prev k → Laid leg calls (set ins k x) (set backs k y) (getD calls k 0) (k + 1)
   unfolding placeBefore
   one-laid ins backs prev k x y h few ex ey L =
@@ -85,7 +86,7 @@ module _ (leg : ℕ → ℕ → Float) (calls : List ℕ) where
         backs-are = put nan (back leg calls) backs k y (omega (arith, L .backs-long)) ey (L .backs-are);
       }
 
-  pub all-laid : (ins backs : List Float) (prev k : ℕ) → length calls ≤ k → length calls ≤ 128 → Laid leg calls ins backs prev k → LegsOf leg calls ins backs
+  pub all-laid : (ins backs : List Float) (prev k : ℕ) → length calls ≤ k → length calls ≤ mostCut → Laid leg calls ins backs prev k → LegsOf leg calls ins backs
   unfolding placeBefore
   all-laid ins backs prev k h few L =
       record {
@@ -106,7 +107,7 @@ pub record Running (T : Tariff) (held : List ℕ) (R : Row) (new : Table) (out :
 
 -- a call fits, and its run is offered
 module _ {T : Tariff} {held : List ℕ} {i : ℕ} {old : Table} {base ahead : Float} {new : Table} {out : Float} {load : Load} {gone : Float} {m : ℕ}
-    (A : Running T held (rowFrom (drop i held) i old base ahead) new out load gone m) (few : length held ≤ 128) (h : i + m < length held)
+    (A : Running T held (rowFrom (drop i held) i old base ahead) new out load gone m) (few : length held ≤ mostCut) (h : i + m < length held)
     (ins backs : List Float) (L : LegsOf (T .leg) held ins backs) {run : List ℕ} (Q : RunIs held i m run) where
   abbrev st : List ℕ
   st = drop i held

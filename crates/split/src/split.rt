@@ -4,6 +4,7 @@ ghost use mathlib.Core.Path.{_≡_};
 ghost use mathlib.Core.Bool.{cond};
 ghost use Prim.Native.Nat.{_+_, _-_, _<_, _≤_};
 ghost use lib.ListN.{length, set};
+ghost use Rattle.cut_theory.specs.Tab.{mostCut, cells};
 ghost use Rattle.definitions.specs.Drop.{callsAt};
 ghost use Rattle.definitions.specs.Room.{written};
 ghost use Rattle.distance.specs.Lookup.{lookupF};
@@ -13,6 +14,8 @@ ghost use Rattle.split.specs.Answer.{Counted};
 ghost use Rattle.split.specs.Split.{lent, tariffAsked, LegsOf, carryablesAsked, splitF};
 use cut_rows::way::last_call;
 use cut_rows::way::way_to;
+use cut_table::cells::CELLS;
+use cut_table::cells::MOST_CUT;
 use cut_table::cells::offer;
 use cut_table::cells::read_back;
 use cut_table::held::write_front;
@@ -31,14 +34,14 @@ fn write_legs(
     held: &[usize],
     distances: &[f64],
     size: usize,
-    ins: &mut [f64; 128],
-    backs: &mut [f64; 128],
+    ins: &mut [f64; MOST_CUT],
+    backs: &mut [f64; MOST_CUT],
 )
-    requires { ⌜ (length (now held) ≤ 128) × (length (now ins) ≡ 128) × (length (now backs) ≡ 128) ⌝ }
+    requires { ⌜ (length (now held) ≤ mostCut) × (length (now ins) ≡ mostCut) × (length (now backs) ≡ mostCut) ⌝ }
     ensures { λ _.
         let leg = lookupF (now (distances .entry)) size in
         ⌜ LegsOf leg (now (held .entry)) (now (ins .exit)) (now (backs .exit)) ⌝ }
-    ensures { λ _. ⌜ (length (now (ins .exit)) ≡ 128) × (length (now (backs .exit)) ≡ 128) ⌝ }
+    ensures { λ _. ⌜ (length (now (ins .exit)) ≡ mostCut) × (length (now (backs .exit)) ≡ mostCut) ⌝ }
 {
     let mut prev = 0;
     let mut k = 0;
@@ -54,9 +57,9 @@ fn write_legs(
 // Row i: each run that starts at call i, after the best of the calls before it. Where these cannot be
 // cut there is nothing to do.
 pub fn row(
-    cost: &mut [f64; 129],
-    dist: &mut [f64; 129],
-    pred: &mut [usize; 129],
+    cost: &mut [f64; CELLS],
+    dist: &mut [f64; CELLS],
+    pred: &mut [usize; CELLS],
     held: &[usize],
     demands: &Demands,
     ins: &[f64],
@@ -68,7 +71,7 @@ pub fn row(
     i: usize,
 )
     requires { ⌜ Sized (table (now cost) (now dist) (now pred)) ⌝ }
-    requires { ⌜ (i ≤ length (now held)) × (length (now held) ≤ 128) ⌝ }
+    requires { ⌜ (i ≤ length (now held)) × (length (now held) ≤ mostCut) ⌝ }
     requires { ⌜ LegsOf (lookupF (now distances) size) (now held) (now ins) (now backs) ⌝ }
     ensures { λ _.
         let T = tariffAsked (now (demands .entry)) (now (distances .entry)) size capacity fixed in
@@ -105,9 +108,9 @@ pub fn row(
 
 // Every row, in order.
 pub fn rows(
-    cost: &mut [f64; 129],
-    dist: &mut [f64; 129],
-    pred: &mut [usize; 129],
+    cost: &mut [f64; CELLS],
+    dist: &mut [f64; CELLS],
+    pred: &mut [usize; CELLS],
     held: &[usize],
     demands: &Demands,
     distances: &[f64],
@@ -115,7 +118,7 @@ pub fn rows(
     capacity: Space,
     fixed: f64,
 )
-    requires { ⌜ length (now held) ≤ 128 ⌝ }
+    requires { ⌜ length (now held) ≤ mostCut ⌝ }
     requires { let T = tariffAsked (now demands) (now distances) size capacity fixed in
         ⌜ TableOf T (now held) 0 (table (now cost) (now dist) (now pred)) ⌝ }
     ensures { λ _.
@@ -123,8 +126,8 @@ pub fn rows(
         let new = table (now (cost .exit)) (now (dist .exit)) (now (pred .exit)) in
         ⌜ TableOf T (now (held .entry)) (length (now (held .entry))) new ⌝ }
 {
-    let mut ins = [0.0; 128];
-    let mut backs = [0.0; 128];
+    let mut ins = [0.0; MOST_CUT];
+    let mut backs = [0.0; MOST_CUT];
     write_legs(held, distances, size, &mut ins, &mut backs);
     let mut i: usize = 0;
     while i < held.len() {
@@ -162,18 +165,18 @@ pub fn cut(
     size: usize,
     capacity: Space,
     fixed: f64,
-    ends: &mut [usize; 129],
+    ends: &mut [usize; CELLS],
 ) -> Cutting
-    requires { ⌜ (length (now held) ≤ 128) × (length (now ends) ≡ 129) ⌝ }
+    requires { ⌜ (length (now held) ≤ mostCut) × (length (now ends) ≡ cells) ⌝ }
     ensures { λ r.
         let T = tariffAsked (now (demands .entry)) (now (distances .entry)) size capacity fixed in
         ⌜ CutDone T (now (held .entry)) (r .cost) (r .distance) (r .at) (now (ends .exit)) ⌝ }
 {
     let n = held.len();
     let top = infinity();
-    let mut cost = [top; 129];
-    let mut dist = [0.0; 129];
-    let mut pred = [0usize; 129];
+    let mut cost = [top; CELLS];
+    let mut dist = [0.0; CELLS];
+    let mut pred = [0usize; CELLS];
     cost[0] = 0.0;
     rows(
         &mut cost,
@@ -275,7 +278,7 @@ pub fn split(
     run_ends: &mut [usize],
     dropped: &mut [usize],
 ) -> SplitResult
-    requires { ⌜ length (now tour) ≤ 128 ⌝ }
+    requires { ⌜ length (now tour) ≤ mostCut ⌝ }
     requires { ⌜ (length (now tour) ≤ length (now served))
         × (length (now tour) ≤ length (now «run_ends»))
         × (length (now tour) ≤ length (now dropped)) ⌝ }
@@ -294,7 +297,7 @@ pub fn split(
 {
     let demands = demands_of(customers);
     let n = keep_carryable(tour, &demands, capacity, &mut *served, &mut *dropped);
-    let mut ends = [0usize; 129];
+    let mut ends = [0usize; CELLS];
     let c = cut(
         &served[..n],
         &demands,
@@ -306,7 +309,7 @@ pub fn split(
     );
     let at = c.at;
     write_front(&ends[at..], &mut *run_ends);
-    let runs = 129 - at;
+    let runs = CELLS - at;
     let gone = tour.len() - n;
     SplitResult {
         served: n,

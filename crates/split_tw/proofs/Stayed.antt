@@ -8,7 +8,7 @@ use lib.ListN.{length, getD, set, take, drop, replicate}
 use lib.Seq.{length-take-le}
 use lib.Ieee.{Float, nan, inf}
 use Rattle.cut_theory.specs.Cut.{backOf, Falls}
-use Rattle.cut_theory.specs.Tab.{cells}
+use Rattle.cut_theory.specs.Tab.{mostCut, cells}
 use Rattle.definitions.specs.Room.{written}
 use Rattle.whole.specs.Whole.{fl}
 use Rattle.models.specs.declared.customer.Customer.{Customer}
@@ -34,11 +34,11 @@ module _ (E : Given) (customers : List Customer) (W : ListsOf E customers) where
       subst (λ (l : List ℕ). Stayed (instanceWith E customers) l dropped n held dropped' t) e (H customers W)
 
 module _ {I : Instance} {tour dropped : List ℕ} {n : ℕ} {held dropped' : List ℕ} {t : Table} (S : Stayed I tour dropped n held dropped' t)
-    (few : n ≤ 128) (long : n ≤ length held) where
+    (few : n ≤ mostCut) (long : n ≤ length held) where
   is-long : length (take n held) ≡ n
   is-long = length-take-le n held long
 
-  short : length (take n held) ≤ 128
+  short : length (take n held) ≤ mostCut
   short = omega (arith, is-long, few)
 
   all-rows : TableOf (tariff I) (take n held) (length (take n held)) t

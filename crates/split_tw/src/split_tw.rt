@@ -3,6 +3,7 @@
 ghost use mathlib.Core.Path.{_≡_};
 ghost use Prim.Native.Nat.{_≤_};
 ghost use lib.ListN.{length};
+ghost use Rattle.cut_theory.specs.Tab.{mostCut, cells};
 ghost use Rattle.definitions.specs.Room.{written};
 ghost use Rattle.cut_stops.specs.Stops.{Below64};
 ghost use Rattle.cut_rows.specs.Runs.{lent};
@@ -14,6 +15,8 @@ use cut_rows::terms::Terms;
 use cut_stops::stops::ALL_CODES;
 use cut_stops::stops::ALL_FIGURES;
 use cut_stops::stops::work_out;
+use cut_table::cells::CELLS;
+use cut_table::cells::MOST_CUT;
 use cut_table::cells::read_back;
 use cut_table::held::write_front;
 use models::customer::Customer;
@@ -43,10 +46,10 @@ pub fn settle(
     fixed: f64,
     limits: RouteLimits,
     held: &mut [usize],
-    ends: &mut [usize; 129],
+    ends: &mut [usize; CELLS],
     dropped: &mut [usize],
 ) -> Settlement
-    requires { ⌜ (length (now tour) ≤ 128) × Below64 (now tour) × (length (now ends) ≡ 129) ⌝ }
+    requires { ⌜ (length (now tour) ≤ mostCut) × Below64 (now tour) × (length (now ends) ≡ cells) ⌝ }
     requires { ⌜ (length (now tour) ≤ length (now held)) × (length (now tour) ≤ length (now dropped)) ⌝ }
     ensures { λ r.
         let I = lent customers (now (distances .entry)) (now (times .entry)) size capacity fixed limits in
@@ -60,9 +63,9 @@ pub fn settle(
     let mut figures = [0.0; ALL_FIGURES];
     work_out(customers, distances, times, size, &mut codes, &mut figures);
     let top = infinity();
-    let mut cost = [top; 129];
-    let mut dist = [0.0; 129];
-    let mut pred = [0usize; 129];
+    let mut cost = [top; CELLS];
+    let mut dist = [0.0; CELLS];
+    let mut pred = [0usize; CELLS];
     cost[0] = 0.0;
     write_front(tour, &mut *held);
     let n = hold(
@@ -110,7 +113,7 @@ pub fn split_tw(
     run_ends: &mut [usize],
     dropped: &mut [usize],
 ) -> SplitResult
-    requires { ⌜ (length (now tour) ≤ 128) × Below64 (now tour) ⌝ }
+    requires { ⌜ (length (now tour) ≤ mostCut) × Below64 (now tour) ⌝ }
     requires { ⌜ (length (now tour) ≤ length (now served))
         × (length (now tour) ≤ length (now «run_ends»))
         × (length (now tour) ≤ length (now dropped)) ⌝ }
@@ -131,8 +134,8 @@ pub fn split_tw(
         (now (tour .entry)) in
         ⌜ now (dropped .exit) ≡ written (plan .dropped) (now (dropped .entry)) ⌝ }
 {
-    let mut held = [0usize; 128];
-    let mut ends = [0usize; 129];
+    let mut held = [0usize; MOST_CUT];
+    let mut ends = [0usize; CELLS];
     let s = settle(
         tour,
         customers,
@@ -150,7 +153,7 @@ pub fn split_tw(
     let at = s.at;
     write_front(&held[..n], &mut *served);
     write_front(&ends[at..], &mut *run_ends);
-    let runs = 129 - at;
+    let runs = CELLS - at;
     let gone = tour.len() - n;
     SplitResult {
         served: n,

@@ -1,5 +1,6 @@
-// The bench cases a to q, each cut by the planner: a line says the runs as customers, with the break and the time at
-// home where the sheet has a break, then the dropped positions, cost and distance.
+// The bench cases a to q, and r with a customer listed twice, each cut by the planner: a line says the refusal, or
+// the runs as customers, with the break and the time at home where the sheet has a break, then the dropped positions,
+// cost and distance.
 // A tour is written as the digits of a number.
 use call_cuts::cutting::Cut;
 use call_runs::evaluating::Evaluation;
@@ -149,18 +150,19 @@ fn show_totals(counts: SplitResult) {
     amount(b" distance ", counts.distance);
 }
 
-// The runs of a tour, its drops, and what they come to.
+// The runs of a tour, its drops, and what they come to; or the number of its refusal.
 fn show_cut(change: Change, tour: &[usize]) {
-    let mut served = [0; 2];
-    let mut ends = [0; 2];
-    let mut dropped = [0; 2];
-    let Cut::Cut(counts) = cut(change, tour, &mut served, &mut ends, &mut dropped) else {
-        text(b" refused");
-        return;
-    };
-    show_runs(change, &served, &ends, counts.runs);
-    show_dropped(&dropped, counts.dropped);
-    show_totals(counts);
+    let mut served = [0; 3];
+    let mut ends = [0; 3];
+    let mut dropped = [0; 3];
+    match cut(change, tour, &mut served, &mut ends, &mut dropped) {
+        Cut::Refused(number) => numbered(b" refused ", number as u64),
+        Cut::Cut(counts) => {
+            show_runs(change, &served, &ends, counts.runs);
+            show_dropped(&dropped, counts.dropped);
+            show_totals(counts);
+        }
+    }
 }
 
 // A case, with its letter.
@@ -202,9 +204,14 @@ fn breaks() {
     show(b'q', Change::BreakAtPrice, 12);
 }
 
+fn repeats() {
+    show(b'r', Change::Nothing, 121);
+}
+
 fn main() {
     loads();
     windows();
     limits();
     breaks();
+    repeats();
 }

@@ -1,60 +1,77 @@
 -- A question by its parts, and whether its recorded answer is alike. Assumes nothing.
 use Prim.Native.Nat.{ℕ, _+_, _-_, _≤_, _<_}
 use native.Mathlib.Omega.{arith}
-use mathlib.Core.Path.{_≡_, refl, ap, _∙_}
-use mathlib.Core.Bool.{Bool, true, false}
+use mathlib.Core.Path.{_≡_, refl, sym, ap, _∙_}
+use mathlib.Core.Bool.{Bool, true, false, _&&_}
 use mathlib.Core.List.{List}
-use lib.Dec.{eqb, leb}
-use lib.ListN.{length, take, drop, length-drop}
+use lib.Dec.{eqb, ltb, leb}
+use lib.ListN.{length, getD, take, drop, length-take, length-drop}
 use lib.Seq.{take-all}
-use borrow.Author.Tests.{lt-ltb, le-ltb, le-leb, leb-true}
-use Rattle.basics.proofs.TestLaws.{by-test}
+use borrow.Author.Tests.{lt-ltb, le-ltb, ltb-true, leb-true}
+use Rattle.basics.proofs.TestLaws.{and-left, and-right}
+use Rattle.definitions.specs.Domain.{mostCalls}
 use Rattle.definitions.specs.Refusals.{endsFall}
-use Rattle.definitions.specs.Reader.{read}
 use Rattle.route_elimination.specs.Insertion.{GivenF}
 use Rattle.test_runs.specs.Along.{follows, Short}
-use Rattle.test_lists.specs.Answers.{answerWords, listAlike, sheetAlike, runEnds, runsAlike}
+use Rattle.test_lists.specs.Answers.{answerWords, isCounted, counted, behind, EndsAt, listAlike}
 use Rattle.test_lists.proofs.Whole.{read-whole}
 
 -- ---- a run list
 
-module _ (G : GivenF) (tour ends recorded : List ℕ) where
-  pub fall-unlike : endsFall 0 ends (length tour) ≡ true → false ≡ listAlike G tour ends recorded
+module _ (G : GivenF) (tour calls ends recorded : List ℕ) where
+  pub fall-unlike : endsFall 0 ends (length calls) ≡ true → false ≡ listAlike G tour calls ends recorded
   unfolding listAlike
   fall-unlike h = rw h refl
 
-  pub whole-alike : Short recorded → endsFall 0 ends (length tour) ≡ false → (end : ℕ) → end ≡ follows recorded 0 (answerWords G tour ends)
-      → eqb end (length recorded) ≡ listAlike G tour ends recorded
+  pub whole-alike : Short recorded → endsFall 0 ends (length calls) ≡ false → (end : ℕ) → end ≡ follows recorded 0 (answerWords G tour calls ends)
+      → eqb end (length recorded) ≡ listAlike G tour calls ends recorded
   unfolding listAlike
-  whole-alike short h end e = rw h (read-whole recorded short (answerWords G tour ends) end e)
+  whole-alike short h end e = rw h (read-whole recorded short (answerWords G tour calls ends) end e)
 
--- ---- a question
+-- ---- a list behind a byte for its length
 
-module _ (question recorded : List ℕ) where
-  -- it ends before its sheet
-  pub no-sheet : length question ≤ runEnds question → false ≡ runsAlike question recorded
-  unfolding runsAlike
-  no-sheet h = rw (le-ltb (runEnds question) (length question) h) refl
+module _ (bytes : List ℕ) where
+  pub not-there : length bytes ≤ getD bytes 0 0 → false ≡ isCounted bytes
+  unfolding isCounted
+  not-there h = rw (le-ltb (getD bytes 0 0) (length bytes) h) refl
 
-  pub too-many : runEnds question < length question → 128 < runEnds question → false ≡ runsAlike question recorded
-  unfolding runsAlike
-  too-many h m = rw (lt-ltb (runEnds question) (length question) h, lt-leb) refl
-    where
-      lt-leb : leb (runEnds question) 128 ≡ false
-      lt-leb = by-test (leb (runEnds question) 128) (λ t. absurd (omega (arith, leb-true (runEnds question) 128 t))) (λ f. f)
+  pub there-if-few : (n : ℕ) → n ≡ getD bytes 0 0 → n < length bytes → leb n mostCalls ≡ isCounted bytes
+  unfolding isCounted
+  there-if-few n e h = ap (λ (k : ℕ). leb k mostCalls) e ∙ rw (lt-ltb (getD bytes 0 0) (length bytes) (omega (arith, e))) refl
 
-  pub asked : (runs : ℕ) → runs ≡ runEnds question → runs < length question → runs ≤ 128 → (r : Bool)
-      → r ≡ sheetAlike (read (take (length question - (runs + 1)) (drop (runs + 1) question))) (take (runs + 1 - 1) (drop 1 question)) recorded
-      → r ≡ runsAlike question recorded
-  unfolding runsAlike
-  asked runs e h m r q =
-      let here : runEnds question < length question = omega (arith, e) in
-      let few : runEnds question ≤ 128 = omega (arith, e) in
-      let left = length question - (runs + 1) in
-      let all = take-all left (drop (runs + 1) question) (omega (arith, length-drop (runs + 1) question)) in
-      let one : runs + 1 - 1 ≡ runs = omega arith in
-      q
-      ∙ ap (λ (l : List ℕ). sheetAlike (read l) (take (runs + 1 - 1) (drop 1 question)) recorded) all
-      ∙ ap (λ (n : ℕ). sheetAlike (read (drop (runs + 1) question)) (take n (drop 1 question)) recorded) one
-      ∙ ap (λ (n : ℕ). sheetAlike (read (drop (n + 1) question)) (take n (drop 1 question)) recorded) e
-      ∙ rw (lt-ltb (runEnds question) (length question) here, le-leb (runEnds question) 128 few) refl
+  pub uncounted : (b : Bool) → isCounted bytes ≡ false → false ≡ isCounted bytes && b
+  uncounted b h = rw h refl
+
+  module _ (h : isCounted bytes ≡ true) where
+    pub is-there : getD bytes 0 0 < length bytes
+    unfolding isCounted
+    is-there = ltb-true (getD bytes 0 0) (length bytes) (and-left (ltb (getD bytes 0 0) (length bytes)) _ h)
+
+    is-few : getD bytes 0 0 ≤ mostCalls
+    unfolding isCounted
+    is-few = leb-true (getD bytes 0 0) mostCalls (and-right (ltb (getD bytes 0 0) (length bytes)) _ h)
+
+    -- its slices: the list, and the bytes behind it
+    module _ (end : ℕ) (E : EndsAt bytes end) where
+      pub list-few : length (take (end - 1) (drop 1 bytes)) ≤ mostCalls
+      list-few = omega (arith, E .is, is-few, length-take (end - 1) (drop 1 bytes))
+
+      list-is : take (end - 1) (drop 1 bytes) ≡ counted bytes
+      list-is =
+          let many : end - 1 ≡ getD bytes 0 0 = omega (arith, E .is) in
+          ap (λ (n : ℕ). take n (drop 1 bytes)) many
+
+      rest-is : take (length bytes - end) (drop end bytes) ≡ behind bytes
+      rest-is =
+          take-all (length bytes - end) (drop end bytes) (omega (arith, length-drop end bytes))
+          ∙ ap (λ (n : ℕ). drop n bytes) (E .is)
+
+      -- what is asked of the slices is asked of the list and of what stands behind it
+      pub asked : (ask : List ℕ → List ℕ → Bool) (r : Bool)
+          → r ≡ ask (take (end - 1) (drop 1 bytes)) (take (length bytes - end) (drop end bytes))
+          → r ≡ isCounted bytes && ask (counted bytes) (behind bytes)
+      asked ask r q =
+          q
+          ∙ ap (λ (l : List ℕ). ask l (take (length bytes - end) (drop end bytes))) list-is
+          ∙ ap (λ (l : List ℕ). ask (counted bytes) l) rest-is
+          ∙ sym (ap (λ (b : Bool). b && ask (counted bytes) (behind bytes)) h)

@@ -5,6 +5,7 @@ use mathlib.Core.Bool.{Bool, false}
 use mathlib.Core.List.{List}
 use lib.Ieee.{Float}
 use lib.ListN.{length, take}
+use Rattle.cut_theory.specs.Tab.{mostCut}
 use Rattle.definitions.specs.Load.{Load}
 use Rattle.definitions.specs.Sheet.{Sheet, CustomerOf}
 use Rattle.definitions.specs.Reader.{sheet, refusedAt, read}
@@ -27,22 +28,24 @@ same-given : {c c' : List (CustomerOf Float)} {d d' t t' : List Float} {n n' : �
     → given c d t n k f l ≡ given c' d' t' n' k' f' l'
 same-given a b e g h i j = rw (a, b, e, g, h, i, j) refl
 
-module _ {s : Sheet} {calls : List ℕ} {l : Loaded} {old new : Arrays} (H : Holds s calls l old new) where
-  pub few-calls : length (take (l .calls) (new .tour)) ≤ 128
-  few-calls = Inside.few-calls s (take (l .calls) (new .tour)) (H .in-memory .calls)
+module _ {s : Sheet} {tour : List ℕ} {l : Loaded} {old new : Arrays} (H : Holds s tour l old new) where
+  pub few-tour : length (take (l .calls) (new .tour)) ≤ mostCut
+  few-tour =
+      let M = H .in-memory in
+      Inside.few-tour s (M .within) (take (l .calls) (new .tour)) (M .calls) (M .once)
 
   given-is : givenIn l (take (l .«distance_count») (new .distances)) (take (l .«time_count») (new .times)) ≡ givenOf s
   given-is =
       let M = H .in-memory in
       same-given (H .customers-are) (M .tables .distances-are) (M .tables .times-are) (M .tables .size-is) (M .capacity) (M .fixed) (M .limits)
 
-  pub alike-on : (bytes : List ℕ) → read bytes ≡ sheet s calls → (ends recorded : List ℕ) (r : Bool)
-      → r ≡ listAlike (givenIn l (take (l .«distance_count») (new .distances)) (take (l .«time_count») (new .times))) (take (l .calls) (new .tour)) ends recorded
-      → r ≡ sheetAlike (read bytes) ends recorded
-  alike-on bytes e ends recorded r h =
-      h ∙ ap (λ (G : GivenF). listAlike G (take (l .calls) (new .tour)) ends recorded) given-is
-      ∙ ap (λ (t : List ℕ). listAlike (givenOf s) t ends recorded) (calls-are H)
-      ∙ sym (ap (λ x. sheetAlike x ends recorded) e)
+  pub alike-on : (bytes : List ℕ) → read bytes ≡ sheet s tour → (calls ends recorded : List ℕ) (r : Bool)
+      → r ≡ listAlike (givenIn l (take (l .«distance_count») (new .distances)) (take (l .«time_count») (new .times))) (take (l .calls) (new .tour)) calls ends recorded
+      → r ≡ sheetAlike (read bytes) calls ends recorded
+  alike-on bytes e calls ends recorded r h =
+      h ∙ ap (λ (G : GivenF). listAlike G (take (l .calls) (new .tour)) calls ends recorded) given-is
+      ∙ ap (λ (t : List ℕ). listAlike (givenOf s) t calls ends recorded) (calls-are H)
+      ∙ sym (ap (λ x. sheetAlike x calls ends recorded) e)
 
-pub refused-unlike : (bytes ends recorded : List ℕ) (number word : ℕ) → read bytes ≡ refusedAt number word → false ≡ sheetAlike (read bytes) ends recorded
-refused-unlike bytes ends recorded number word e = sym (ap (λ x. sheetAlike x ends recorded) e)
+pub refused-unlike : (bytes calls ends recorded : List ℕ) (number word : ℕ) → read bytes ≡ refusedAt number word → false ≡ sheetAlike (read bytes) calls ends recorded
+refused-unlike bytes calls ends recorded number word e = sym (ap (λ x. sheetAlike x calls ends recorded) e)

@@ -4,5 +4,7 @@ pub mod Whole
 pub mod Held
 -- The lists of a cut.
 pub mod CutLists
+-- Bytes that are written as numbers.
+pub mod Numbers
 -- A question by its parts.
 pub mod Asked

@@ -1,11 +1,13 @@
 -- What a recorded answer on a run list has to say, as words and as a text. Definitions only.
-use Prim.Native.Nat.{ℕ, _+_}
+use Prim.Native.Nat.{ℕ, _+_, _≤_}
+use mathlib.Core.Path.{_≡_}
 use mathlib.Core.Bool.{Bool, false, cond, _&&_}
 use mathlib.Core.List.{List, [], _∷_, _++_, map}
 use lib.Dec.{ltb, leb}
 use lib.Ieee.{Float}
 use lib.ListN.{length, getD, take, drop}
 use Rattle.whole.specs.Whole.{fl}
+use Rattle.definitions.specs.Domain.{mostCalls}
 use Rattle.definitions.specs.Sheet.{Sheet}
 use Rattle.definitions.specs.Refusals.{endsFall}
 use Rattle.definitions.specs.Room.{written}
@@ -19,10 +21,11 @@ use Rattle.route_elimination.specs.Insertion.{GivenF}
 use Rattle.split.specs.Answer.{ResultF}
 use Rattle.split.specs.Split.{Instance, splitF}
 use Rattle.test_runs.specs.Alike.{sameList}
+use Rattle.test_runs.specs.Along.{Short}
 use Rattle.test_runs.specs.Words.{Words, line, figure, numbers}
 use Rattle.test_runs.specs.Runs.{runsWords}
 
--- ---- of a sheet, its tour and run ends
+-- ---- of a sheet, its tour, calls and run ends
 
 -- the sheet as it is held: records behind those of its places are the depot's
 abbrev pub givenOf : Sheet → GivenF
@@ -61,32 +64,53 @@ cutWords x =
     ++ line "dropped" (numbers (x .dropped))
     ++ line "split" (figure (x .cost) ∷ figure (x .distance) ∷ [])
 
--- what is made of the runs, and the cut of all calls
-abbrev pub answerWords : GivenF → List ℕ → List ℕ → Words
-answerWords G tour ends = runsWords G (runsOf tour ends) ++ cutWords (splitF (bare G) tour)
+-- what is made of the runs of these calls, and the cut of the tour
+abbrev pub answerWords : GivenF → (tour calls ends : List ℕ) → Words
+answerWords G tour calls ends = runsWords G (runsOf calls ends) ++ cutWords (splitF (bare G) tour)
 
 abbrev pub textOf : Words → List ℕ
 textOf [] = []
 textOf (w ∷ ws) = w ++ textOf ws
 
--- ---- of a question
+-- ---- a list behind a byte for its length, and what follows it
+
+-- the list is there, and has at most as many numbers as a run list may have calls or run ends
+unfoldable pub isCounted : List ℕ → Bool
+isCounted bytes = ltb (getD bytes 0 0) (length bytes) && leb (getD bytes 0 0) mostCalls
+
+abbrev pub counted : List ℕ → List ℕ
+counted bytes = take (getD bytes 0 0) (drop 1 bytes)
+
+abbrev pub behind : List ℕ → List ℕ
+behind bytes = drop (getD bytes 0 0 + 1) bytes
+
+-- the end of the list lies inside the bytes
+pub record EndsAt (bytes : List ℕ) (end : ℕ) : Type 0 where
+  pub is : end ≡ getD bytes 0 0 + 1
+  pub inside : end ≤ length bytes
+
+-- ---- of a question: the run ends, then the calls, and behind them the sheet
 
 -- the recorded text is, byte by byte, that of the run list; one whose ends fall has none
-unfoldable pub listAlike : GivenF → List ℕ → List ℕ → List ℕ → Bool
-listAlike G tour ends recorded = cond (endsFall 0 ends (length tour)) false (sameList (textOf (answerWords G tour ends)) recorded)
+unfoldable pub listAlike : GivenF → (tour calls ends recorded : List ℕ) → Bool
+listAlike G tour calls ends recorded =
+    cond (endsFall 0 ends (length calls)) false (sameList (textOf (answerWords G tour calls ends)) recorded)
 
 -- of a sheet as it is read; a refused one has no answer
-abbrev pub sheetAlike : Reading → List ℕ → List ℕ → Bool
-sheetAlike (sheet s tour) ends recorded = listAlike (givenOf s) tour ends recorded
-sheetAlike (refusedAt number word) ends recorded = false
+abbrev pub sheetAlike : Reading → (calls ends recorded : List ℕ) → Bool
+sheetAlike (sheet s tour) calls ends recorded = listAlike (givenOf s) tour calls ends recorded
+sheetAlike (refusedAt number word) calls ends recorded = false
 
--- the first byte of a question says how many run ends stand before the sheet
-abbrev pub runEnds : List ℕ → ℕ
-runEnds question = getD question 0 0
+-- of the bytes behind the run ends; where the calls are not there, or too many, there is no answer
+unfoldable pub callsAlike : (ends rest recorded : List ℕ) → Bool
+callsAlike ends rest recorded = isCounted rest && sheetAlike (read (behind rest)) (counted rest) ends recorded
 
--- one with too many run ends, or that ends before its sheet, has no answer
-unfoldable pub runsAlike : List ℕ → List ℕ → Bool
-runsAlike question recorded =
-    let runs = runEnds question in
-    ltb runs (length question)
-    && (leb runs 128 && sheetAlike (read (drop (runs + 1) question)) (take runs (drop 1 question)) recorded)
+-- the same of the run ends
+unfoldable pub runsAlike : (question recorded : List ℕ) → Bool
+runsAlike question recorded = isCounted question && callsAlike (counted question) (behind question) recorded
+
+-- not too many calls and run ends, and the recorded text is short
+pub record Fits (calls ends recorded : List ℕ) : Type 0 where
+  pub few-calls : length calls ≤ mostCalls
+  pub few-ends : length ends ≤ mostCalls
+  pub short : Short recorded

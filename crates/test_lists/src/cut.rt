@@ -3,11 +3,13 @@ ghost use mathlib.Core.Path.{_≡_};
 ghost use Prim.Native.Nat.{_≤_};
 ghost use mathlib.Core.List.{[], _∷_, _++_};
 ghost use lib.ListN.{length};
+ghost use Rattle.cut_theory.specs.Tab.{mostCut};
 ghost use Rattle.definitions.specs.Listing.{endOfLine};
 ghost use Rattle.split.specs.Split.{splitF, lent};
 ghost use Rattle.test_runs.specs.Along.{follows};
 ghost use Rattle.test_runs.specs.Words as Words;
 ghost use Rattle.test_lists.specs.Answers.{result, cutWords};
+use cut_table::cells::MOST_CUT;
 use sheet_loaded::load::Loaded;
 use split::split::SplitResult;
 use split::split::split;
@@ -65,7 +67,7 @@ pub fn cut_text(
     held: Loaded,
     distances: &[f64],
 ) -> usize
-    requires { ⌜ length (now tour) ≤ 128 ⌝ }
+    requires { ⌜ length (now tour) ≤ mostCut ⌝ }
     ensures { λ r.
         let head = held .head in
         let sheet = lent (held .customers) (now (distances .entry))
@@ -74,9 +76,9 @@ pub fn cut_text(
 {
     let head = held.head;
     let customers = held.customers;
-    let mut served = [0usize; 128];
-    let mut run_ends = [0usize; 128];
-    let mut dropped = [0usize; 128];
+    let mut served = [0usize; MOST_CUT];
+    let mut run_ends = [0usize; MOST_CUT];
+    let mut dropped = [0usize; MOST_CUT];
     let made = split(
         tour,
         customers,

@@ -270,7 +270,7 @@ fn full_costs() {
 }
 
 fn full_faults() {
-    full_run(b"full load", 242, 1);
+    full_run(b"full load", 2453, 1);
     full_run(b"full break", 24, 2);
     full_run(b"full window", 1, 1);
     full_run(b"full missing", 4, 0);
@@ -280,8 +280,8 @@ fn full_faults() {
 
 // Of two faults the one that is told.
 fn order() {
-    full_cut(b"calls before load", 212, 222, 3, 0);
-    full_run(b"load before walk", 212, 0);
+    full_cut(b"calls before load", 2134, 2222, 4, 0);
+    full_run(b"load before walk", 2134, 0);
     full_run(b"break before window", 23, 2);
     full_run(b"earlier call first", 213, 3);
     full_run(b"walk before missing", 21, 0);
@@ -291,7 +291,7 @@ fn order() {
 
 // Of two runs the first with a fault.
 fn runs() {
-    full_cut(b"first run first", 32242, 32242, 25, 11);
+    full_cut(b"first run first", 321, 321, 23, 11);
     full_cut(b"second run long", 132, 132, 13, 1);
     full_cut(b"second run window", 21, 21, 12, 1);
 }

@@ -62,8 +62,8 @@ fn seen(question: &[u8], recorded: &[u8]) -> Seen
 }
 
 // Reads a question and its recorded answer, and compares. A question has a byte for its kind, and a sheet of at most
-// 34,576 bytes behind at most 129 bytes for run ends, or alone with as many bytes too many; an answer has fewer than
-// 65,536. No contract can say what is read.
+// 34,316 bytes behind at most 258 bytes for run ends and calls, or alone with as many bytes too many; an answer has
+// fewer than 65,536. No contract can say what is read.
 fn next() -> Seen {
     let mut question = [0u8; 34706];
     let mut recorded = [0u8; 65535];

@@ -1,9 +1,9 @@
--- A call is accepted exactly when it is lent a sheet that means one within the limits, calls of it, even runs, and lists that are long enough.
+-- A call is accepted exactly when it is lent a sheet that means one within the limits, calls of it, in a tour none repeated, even runs, and lists that are long enough.
 use Prim.Native.Nat.{ℕ, _≤_}
 use native.Mathlib.Omega.{arith}
 use mathlib.Core.Logic.{_↔_}
 use mathlib.Core.Path.{_≡_, refl, sym, _∙_}
-use mathlib.Core.Bool.{Bool, true, false, _&&_, _||_, true≢false, false≢true}
+use mathlib.Core.Bool.{Bool, true, false, _&&_, _||_, not, true≢false, false≢true}
 use mathlib.Core.List.{List, [], _∷_, map}
 use mathlib.Core.Option.{Option, none, some, Option·map}
 use lib.ListN.{length, length-map}
@@ -13,14 +13,15 @@ use borrow.Author.Tests.{ltb-false, le-ltb}
 use Rattle.basics.proofs.TestLaws.{or-left, or-right, or-false, not-false, not-of-true}
 use Rattle.basics.specs.Options.{holds, present, valueOr}
 use Rattle.basics.specs.Lists.{isEmpty, any}
-use Rattle.basics.proofs.ListLaws.{all-imp, all-map, any-fails, fails-any}
-use Rattle.definitions.specs.Domain.{isPenalty, isNumber}
+use Rattle.basics.proofs.ListLaws.{all-imp, all-map, any-fails, fails-any, fails-not}
+use Rattle.definitions.specs.Domain.{isPlaces, isPenalty, isNumber, isCall}
 use Rattle.definitions.specs.Sheet.{WindowOf, BreakOf, CustomerOf, SheetOf, Customer, records, soft, anySoft, latenessPay, mapWindow, mapBreak, mapCustomer}
 use Rattle.definitions.specs.Room.{short}
 use Rattle.definitions.specs.Lent.{Lent, whole, wholeSheet, Call}
-use Rattle.definitions.specs.Refusals.{tooShort, Within, WithinCalls, tablesOdd, unfit, badOptional, badBreak, badWindow, badCustomer, badDepot, badSheet, windowFalls, breakFalls, pairsFall, refusals, refusalOf}
-use Rattle.theorems.proofs.Ranges.{LongEnough, long-enough, RunsEven, runs-even, even-runs, break-in-range, range-break, window-in-range, range-window, customer-in-range, range-customer, depot-in-range, range-depot, InRange, in-range, range-in, LentInRange, lent-in-range, range-lent, PairsRise, pairs-rise, rise-pairs, fitsBy, not-refused}
+use Rattle.definitions.specs.Refusals.{tooShort, Within, WithinCalls, tablesOdd, unfit, badOptional, badBreak, badWindow, badCustomer, badDepot, badSheet, windowFalls, breakFalls, pairsFall, repeats, refusals, refusalOf}
+use Rattle.theorems.proofs.Ranges.{calls-in-range, LongEnough, long-enough, RunsEven, runs-even, even-runs, break-in-range, range-break, window-in-range, range-window, customer-in-range, range-customer, depot-in-range, range-depot, InRange, in-range, range-in, LentInRange, lent-in-range, range-lent, PairsRise, pairs-rise, rise-pairs, fitsBy, not-refused}
 use Rattle.theorems.proofs.InOrder.{fits-none, _also_}
+use Rattle.theorems.proofs.Repeats.{tour-few}
 
 -- ---- lists long enough
 
@@ -194,6 +195,8 @@ module _ {F : Type 0} (value : F → Option ℕ) where
     pub within : Within (wholeSheet value (l .sheet))
     pub tour : WithinCalls (wholeSheet value (l .sheet)) (l .tour)
     pub calls : WithinCalls (wholeSheet value (l .sheet)) (l .calls)
+    -- 21
+    pub once : repeats (l .tour) ≡ false
     -- 5
     pub runs : RunsEven k l
     -- 4
@@ -210,6 +213,7 @@ module _ {F : Type 0} (value : F → Option ℕ) where
         within = whole-within (l .sheet) enough (N 14) (R .sheet) (N 2);
         tour = R .tour;
         calls = R .run-list;
+        once = N 21;
         runs = runs-even k l (N 5);
         unpaid = λ m. pay-same (l .sheet) ∙ (rw m at (N 4));
       }
@@ -226,6 +230,14 @@ module _ {F : Type 0} (value : F → Option ℕ) where
 
       enough : l .sheet .head .places ≤ length (l .sheet .customers)
       enough = ltb-false (length (l .sheet .customers)) (l .sheet .head .places) (L .customers)
+
+  -- an accepted tour has at most 63 calls
+  pub accepted-few : (k : Call) (l : Lent F) → Accepted k l → length (l .tour) ≤ 63
+  unfolding wholeSheet
+  accepted-few k l A =
+      let n = l .sheet .head .places in
+      tour-few n (l .tour) (not-false (isPlaces n) (A .ranged .places))
+      (fails-not (isCall n) (l .tour) (any-fails (λ (c : ℕ). not (isCall n c)) (l .tour) (calls-in-range n (l .tour) (A .tour) .each))) (A .once)
 
   -- ---- and a call that keeps all this is accepted
 
@@ -262,6 +274,7 @@ module _ {F : Type 0} (value : F → Option ℕ) where
         (not-short
         also not-odd
         also range-lent value l (record { sheet = range-in value (l .sheet) (A .ranged); tour = A .tour; run-list = A .calls })
+        also A .once
         also not-falling
         also even-runs k l (A .runs)
         also only-where (k .improves) (anySoft (records (l .sheet))) (λ m. sym (pay-same (l .sheet)) ∙ A .unpaid m)

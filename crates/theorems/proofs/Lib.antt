@@ -21,10 +21,13 @@ pub mod Agreement
 pub mod Bare
 -- Refusals in order, whatever stands in the list.
 pub mod InOrder
--- What an accepted call is known to be; the reader's leftmost bad word; a number as text.
+-- What an accepted call is known to be; a tour with a customer twice; the reader's leftmost bad word, and the one that it names by 21; a number as text.
 pub mod Ranges
+pub mod Repeats
+pub mod Again
 pub mod Accepted
 pub mod Leftmost
+pub mod NamedRepeat
 pub mod Decimal
 -- The marker and the visits.
 pub mod GivenRuns

@@ -170,6 +170,7 @@ module _ {F : Type 0} (value : F → Option ℕ) (l : Lent F) where
           within = A .within;
           tour = A .tour;
           calls = own-calls;
+          once = A .once;
           runs = own-runs;
           unpaid = λ m. absurd (true≢false (sym m));
         })

@@ -7,7 +7,10 @@ mod verdict;
 
 pub use verdict::Verdict;
 
-/// The most calls that a sheet has, and so the most runs.
+/// The most calls that a sheet has, each of another customer, and so the most runs of its plan.
+pub const TOUR: usize = 63;
+
+/// The most calls, and the most runs, that a function is given.
 pub const CALLS: usize = 128;
 
 /// Why nothing was answered, by the number that `lizsomdur.h` lists.
@@ -88,9 +91,9 @@ fn joined<'a>(runs: impl Iterator<Item = &'a [usize]>) -> (Vec<usize>, Vec<usize
 
 /// Cuts a sheet's calls into runs at least cost.
 pub fn plan(sheet: &[u8]) -> Result<Plan, Refusal> {
-    let (mut served, mut ends) = ([0; CALLS], [0; CALLS]);
-    let (mut places, mut starts) = ([0; CALLS], [0.0; CALLS]);
-    let mut dropped = [0; CALLS];
+    let (mut served, mut ends) = ([0; TOUR], [0; TOUR]);
+    let (mut places, mut starts) = ([0; TOUR], [0.0; TOUR]);
+    let mut dropped = [0; TOUR];
     let (mut counts, mut totals) = ([0; 3], [0.0; 2]);
     let mut word = NO_WORD;
     let number = slices::plan(

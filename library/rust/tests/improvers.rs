@@ -1,13 +1,18 @@
 //! Reversed runs and runs left by elimination, beside the original Rust planner's.
 mod common;
-use common::{kind, records, tour, words};
+use common::{kind, records, words};
 use lizsomdur::{eliminate, reverse, Refusal};
 
-/// A recorded question: how many runs there are, their ends, and a sheet with the calls of all runs.
+/// Numbers behind how many they are, a byte each, and what follows.
+fn counted(bytes: &[u8]) -> (Vec<usize>, &[u8]) {
+    let (numbers, rest) = bytes[1..].split_at(bytes[0].into());
+    (numbers.iter().map(|&n| n.into()).collect(), rest)
+}
+
+/// A recorded question: the ends of the runs, the calls of all runs, and a sheet.
 fn question(bytes: &[u8]) -> (&[u8], Vec<Vec<usize>>) {
-    let (ends, sheet) = bytes[1..].split_at(bytes[0].into());
-    let calls = tour(sheet);
-    let ends: Vec<usize> = ends.iter().map(|&e| e.into()).collect();
+    let (ends, rest) = counted(bytes);
+    let (calls, sheet) = counted(rest);
     let starts = std::iter::once(0).chain(ends.iter().copied());
     let runs = starts.zip(&ends).map(|(a, &b)| calls[a..b].to_vec());
     (sheet, runs.collect())

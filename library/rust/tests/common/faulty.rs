@@ -4,7 +4,7 @@ use super::{bytes, sample, words};
 
 pub type Faulty = (Vec<u8>, u32, usize);
 
-/// Sample m with one word changed. Where it has several faults, they count in the order 11, 1, 2, 3.
+/// Sample m with one word changed. Where it has several faults, they count in the order 11, 1, 21, 2, 3.
 fn changed() -> Vec<Faulty> {
     let table = [
         (0, 0x1000_0000, 1),
@@ -17,6 +17,7 @@ fn changed() -> Vec<Faulty> {
         (6, 0x7000_8000, 1),
         (9, 0x9000_0000, 11),
         (20, 0xE000_0003, 1),
+        (20, 0xE000_0001, 21),
         (21, 0xF000_0014, 3),
     ];
     table
@@ -45,7 +46,8 @@ pub fn faulty() -> Vec<Faulty> {
     let others = vec![
         (late_window, 2, 6),
         (first_of_two, 2, 6),
-        (base().with(&[1; 129]), 1, 16 + 128),
+        (base().with(&[1, 2, 2, 1]), 21, 16 + 2),
+        (base().with(&[1; 129]), 21, 16 + 1),
     ];
     [changed(), cut_short_or_continued(), others].concat()
 }

@@ -14,7 +14,7 @@ use common::sheets::{Customer, Sheet};
 use common::worked::{base, full, marked, with_window};
 use lists::{Judged, Left, Planned, Reversed, OLD_FLOAT};
 
-const ROOM: usize = lizsomdur::CALLS;
+const ROOM: usize = lizsomdur::TOUR;
 
 type List<'a> = &'a [usize];
 
@@ -49,13 +49,13 @@ fn a_plan_is_written_at_the_fronts() {
     for room in [ROOM, 200] {
         let lent = Planned::new([room; 5]);
         let left = Planned {
-            served: lent.served.fronted(&[6, 6, 7, 3, 6, 3, 6, 6]),
-            run_ends: lent.run_ends.fronted(&[2, 4, 6, 8]),
-            break_places: lent.break_places.fronted(&[0, 2, 2, 0]),
-            break_starts: lent.break_starts.fronted(&[0.0, 1000.0, 1000.0, 0.0]),
-            dropped: lent.dropped.fronted(&[1, 2, 7, 12]),
-            counts: [8, 4, 4],
-            totals: [2725.0, 2325.0],
+            served: lent.served.fronted(&[3, 4, 6, 7]),
+            run_ends: lent.run_ends.fronted(&[1, 3, 4]),
+            break_places: lent.break_places.fronted(&[1, 2, 0]),
+            break_starts: lent.break_starts.fronted(&[1000.0, 1337.0, 0.0]),
+            dropped: lent.dropped.fronted(&[1, 2, 5]),
+            counts: [4, 3, 3],
+            totals: [2644.0, 2344.0],
             ..lent.clone()
         };
         assert_eq!(lent.after(&sample("drops")), (0, left));

@@ -2,6 +2,7 @@
 use Prim.Native.Nat.{ℕ}
 use mathlib.Core.List.{List}
 use lib.ListN.{replicate, take}
+use Rattle.cut_theory.specs.Tab.{mostCut}
 use Rattle.cut_table.proofs.Fronts.{front, inside, counted}
 use Rattle.call_cuts.proofs.CutAnswers.{Asked}
 use Rattle.call_cuts.proofs.MarkCase.{cutF, Given}
@@ -12,7 +13,7 @@ use Rattle.call_cuts.proofs.marking.mark.Tie as tie
 
 -- what the arrays hold at first
 abbrev zeros : List ℕ
-zeros = replicate 128 0
+zeros = replicate mostCut 0
 
 abbrev start : tie.After-refuse-marking → tie.Start
 start c = let known = c .before .before .before in known .before .before .before .before

@@ -3,6 +3,7 @@ use native.Mathlib.Omega.{arith}
 use mathlib.Core.Path.{refl, sym}
 use lib.Seq.{length-take-le}
 use denote.Ref.{now}
+use Rattle.cut_theory.specs.Tab.{mostCut}
 use Rattle.cut_stops.specs.Stops.{lookups, legLists}
 use Rattle.cut_drops.proofs.Noting.{legs-begun}
 use Rattle.cut_drops.proofs.Settling.{few-taken, numbered}
@@ -36,7 +37,7 @@ write-legs-requires : tie.Need-write-legs-requires
 write-legs-requires c κs =
     let s = begun (c .before .before .before .before .before) in
     let f = s .pre .0 in
-    (few-taken (s .args .n) 128 (now (s .args .held)) (f .few) (f .held-long), record { distances-long = refl; times-long = refl })
+    (few-taken (s .args .n) mostCut (now (s .args .held)) (f .few) (f .held-long), record { distances-long = refl; times-long = refl })
 
 slice-aggregate-drop-stuck : tie.Need-slice-aggregate-drop-stuck
 slice-aggregate-drop-stuck c = search needs

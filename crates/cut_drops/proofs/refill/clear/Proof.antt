@@ -7,6 +7,7 @@ use mathlib.Core.Bool.{false}
 use lib.Ieee.{inf, nan, ofBits, ofInt}
 use denote.Ref.{now}
 use Rattle.whole.specs.Whole.{fl}
+use Rattle.cut_theory.specs.Tab.{cells}
 use Rattle.cut_drops.proofs.Clearing.{Clearing, none-cleared, one-cleared, all-cleared}
 use borrow.Author.Needs.{needs}
 use Rattle.cut_drops.proofs.refill.clear.Statement.{statement}
@@ -17,7 +18,7 @@ Inv-loop cost₀ dist₀ pred₀ from top k₀ cost dist pred k =
     (from ≤ k) × Clearing from k (inf false) nan cost₀ cost × Clearing from k (fl 0) nan dist₀ dist × Clearing from k 0 0 pred₀ pred
 
 abbrev μ-loop : tie.MeasureT-loop
-μ-loop cost₀ dist₀ pred₀ from top k₀ cost dist pred k = 129 - k
+μ-loop cost₀ dist₀ pred₀ from top k₀ cost dist pred k = cells - k
 
 infinity-requires : tie.Need-infinity-requires Inv-loop μ-loop
 infinity-requires c κs = search needs

@@ -11,6 +11,7 @@ use lib.Ieee.{Float, nan}
 use denote.Ref.{now}
 use borrow.Author.Needs.{needs}
 use Rattle.basics.proofs.TestLaws.{not-false}
+use Rattle.cut_theory.specs.Tab.{mostCut}
 use Rattle.definitions.specs.Load.{noLoad}
 use Rattle.models.specs.Load.{loadOf, UpTo, none-up-to, up-to-more}
 use Rattle.whole.proofs.Bits.{fl-zero}
@@ -88,13 +89,13 @@ module _ (p : tie.After-stop-at Inv-loop μ-loop) where
   ahead : i + m < length (x .held)
   ahead = ahead-run (p .before .before)
 
-  few : (length (x .held) ≤ 128) × LegsLong (x .legs)
+  few : (length (x .held) ≤ mostCut) × LegsLong (x .legs)
   few = (begun (top .before) .pre .few, begun (top .before) .pre .legs-long)
 
   inside : m < length (drop i (x .held))
   inside = simp length-drop (omega (arith, ahead))
 
-  short : i + length (drop i (x .held)) ≤ 128
+  short : i + length (drop i (x .held)) ≤ mostCut
   short = simp length-drop (omega (arith, few .0, begun (top .before) .pre .inside))
 
   next-cell : i + m + 1 ≡ i + (m + 1)

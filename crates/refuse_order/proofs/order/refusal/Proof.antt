@@ -37,6 +37,9 @@ tables-odd-requires c κs = search needs
 out-of-range-requires : tie.Need-out-of-range-requires
 out-of-range-requires c κs = search needs
 
+repeats-requires : tie.Need-repeats-requires
+repeats-requires c κs = search needs
+
 pairs-fall-requires : tie.Need-pairs-fall-requires
 pairs-fall-requires c κs = search needs
 
@@ -61,7 +64,8 @@ returns c =
     let c4 = c .before .before .before in
     let c5 = c4 .before in
     let c2 = c5 .before in
-    let c1 = c2 .before in
+    let c21 = c2 .before in
+    let c1 = c21 .before in
     let c14 = c1 .before in
     let c13 = c14 .before in
     -- behind the numbers, behind the tables, and where the function begins
@@ -75,6 +79,7 @@ returns c =
     c13 .too-short .ensures i
     ∷ c14 .tables-odd .ensures i
     ∷ c1 .out-of-range .ensures i
+    ∷ c21 .repeats .ensures i
     ∷ c2 .pairs-fall .ensures i
     ∷ c5 .runs-uneven .ensures i
     ∷ c4 .lateness-pay .ensures i
@@ -94,6 +99,7 @@ refusal-spec =
     too-short-requires
     tables-odd-requires
     out-of-range-requires
+    repeats-requires
     pairs-fall-requires
     runs-uneven-requires
     lateness-pay-requires

@@ -1,7 +1,7 @@
 -- `cut::cut_held` meets its contract. Assumes nothing.
 use native.Mathlib.Omega.{arith}
 use denote.Ref.{now}
-use Rattle.bounds.proofs.Inside.{few-calls}
+use Rattle.bounds.proofs.Inside.{few-tour}
 use Rattle.cut_exact.proofs.Exact.{below-64}
 use Rattle.sheet_plan.specs.Cut.{cutLists}
 use Rattle.sheet_plan.proofs.CutHeld.{cut-left}
@@ -17,7 +17,7 @@ split-tw-requires c κs =
     let s = start .pre .0 .0 in
     let H = start .pre .0 .1 in
     let room = start .pre .1 in
-    let h = few-calls s tour (H .calls) in
+    let h = few-tour s (H .within) tour (H .calls) (H .once) in
     ((h, below-64 s (H .within) tour (H .calls)), (omega (arith, h, room .0), omega (arith, h, room .1), omega (arith, h, room .2)))
 
 same-length : tie.Need-same-length

@@ -4,14 +4,14 @@ use Rattle.sheet_read.specs.Summary.{heldCounts}
 use Rattle.sheet_loaded.specs.Held.{Accepted}
 use Rattle.sheet_loaded.proofs.Reading.{is-accepted}
 use Rattle.sheet_loaded.proofs.Loading.{far-inside, far-counted, long-inside, long-counted, calls-inside, calls-counted}
-use Rattle.test_lists.proofs.Held.{few-calls, alike-on}
+use Rattle.test_lists.proofs.Held.{few-tour, alike-on}
 use borrow.Author.Needs.{needs}
 use Rattle.test_lists.proofs.alike.accepted_alike.Statement.{statement}
 use Rattle.test_lists.proofs.alike.accepted_alike.Tie as tie
 
--- the entry, before the three lent slices and the three arrays
+-- the entry, before the four lent slices and the three arrays
 abbrev entry : tie.After-load → tie.Start
-entry x = let slices = x .before .before .before .before in slices .before .before .before
+entry x = let arrays = x .before .before .before .before in arrays .before .before .before .before
 
 -- the bytes are those of a sheet
 accepted : (x : tie.After-load) → Accepted (now (entry x .args .sheet))
@@ -26,8 +26,8 @@ array-share-prefix-tour c =
     let q = accepted x in
     calls-inside (x .load .ensures (q .0) (q .1) (q .2))
 
-slice-aggregate-ends-alike : tie.Need-slice-aggregate-ends-alike
-slice-aggregate-ends-alike c =
+slice-aggregate-list-alike : tie.Need-slice-aggregate-list-alike
+slice-aggregate-list-alike c =
     let x = c .before in
     let q = accepted x in
     calls-counted (x .load .ensures (q .0) (q .1) (q .2))
@@ -38,8 +38,8 @@ array-share-prefix-distances c =
     let q = accepted x in
     far-inside (x .load .ensures (q .0) (q .1) (q .2))
 
-slice-aggregate-ends-alike-2 : tie.Need-slice-aggregate-ends-alike-2
-slice-aggregate-ends-alike-2 c =
+slice-aggregate-list-alike-2 : tie.Need-slice-aggregate-list-alike-2
+slice-aggregate-list-alike-2 c =
     let x = c .before .before in
     let q = accepted x in
     far-counted (x .load .ensures (q .0) (q .1) (q .2))
@@ -50,25 +50,24 @@ array-share-prefix-times c =
     let q = accepted x in
     long-inside (x .load .ensures (q .0) (q .1) (q .2))
 
-slice-aggregate-ends-alike-3 : tie.Need-slice-aggregate-ends-alike-3
-slice-aggregate-ends-alike-3 c =
+slice-aggregate-list-alike-3 : tie.Need-slice-aggregate-list-alike-3
+slice-aggregate-list-alike-3 c =
     let x = c .before .before .before in
     let q = accepted x in
     long-counted (x .load .ensures (q .0) (q .1) (q .2))
 
-ends-alike-requires : tie.Need-ends-alike-requires
-ends-alike-requires c κs =
+list-alike-requires : tie.Need-list-alike-requires
+list-alike-requires c κs =
     let x = c .before .before .before in
     let q = accepted x in
-    let few = entry x .pre .1 in
-    (few .0, few .1, few-calls (x .load .ensures (q .0) (q .1) (q .2)))
+    (entry x .pre .1, few-tour (x .load .ensures (q .0) (q .1) (q .2)))
 
 returns : tie.Need-returns
 returns c =
     let x = c .before .before .before .before in
     let q = accepted x in
     let a = entry x .args in
-    alike-on (x .load .ensures (q .0) (q .1) (q .2)) (now (a .sheet)) (q .2) (now (a .ends)) (now (a .recorded)) (c .ends-alike .result) (c .ends-alike .ensures)
+    alike-on (x .load .ensures (q .0) (q .1) (q .2)) (now (a .sheet)) (q .2) (now (a .calls)) (now (a .ends)) (now (a .recorded)) (c .list-alike .result) (c .list-alike .ensures)
 
 pub accepted-alike-spec : {M : Type 1} → statement M
 accepted-alike-spec =
@@ -76,10 +75,10 @@ accepted-alike-spec =
     (tie.spec
     load-requires
     array-share-prefix-tour
-    slice-aggregate-ends-alike
+    slice-aggregate-list-alike
     array-share-prefix-distances
-    slice-aggregate-ends-alike-2
+    slice-aggregate-list-alike-2
     array-share-prefix-times
-    slice-aggregate-ends-alike-3
-    ends-alike-requires
+    slice-aggregate-list-alike-3
+    list-alike-requires
     returns)

@@ -8,6 +8,10 @@ use borrow.Author.Needs.{needs}
 use Rattle.test_lists.proofs.alike.sheet_alike.Statement.{statement}
 use Rattle.test_lists.proofs.alike.sheet_alike.Tie as tie
 
+-- the entry, before the lent slices
+abbrev entry : tie.After-read → tie.Start
+entry x = x .before .before .before .before .before
+
 read-requires : tie.Need-read-requires
 read-requires c κs = search needs
 
@@ -21,15 +25,15 @@ accepted-alike-requires : tie.Need-accepted-alike-requires
 accepted-alike-requires c κs =
     let r = c .before .before .before in
     let k = c .before .found .given in
-    let s = r .before .before .before .before in
-    (sym (ap heldSummary (k .1)) ∙ r .read .ensures, s .pre)
+    (sym (ap heldSummary (k .1)) ∙ r .read .ensures, entry r .pre)
 
 returns : tie.Need-returns
 returns c =
     let r = c .before .before in
-    let a = r .before .before .before .before .args in
+    let a = entry r .args in
     let k = c .enum-told .given in
-    refused-unlike (now (a .sheet)) (now (a .ends)) (now (a .recorded)) (k .0 .0) (k .0 .1 .0) (refused-is (now (a .sheet)) (k .0 .0) (k .0 .1 .0) (sym (ap heldSummary (k .1)) ∙ r .read .ensures))
+    refused-unlike (now (a .sheet)) (now (a .calls)) (now (a .ends)) (now (a .recorded)) (k .0 .0) (k .0 .1 .0)
+    (refused-is (now (a .sheet)) (k .0 .0) (k .0 .1 .0) (sym (ap heldSummary (k .1)) ∙ r .read .ensures))
 
 returns-2 : tie.Need-returns-2
 returns-2 c = search needs

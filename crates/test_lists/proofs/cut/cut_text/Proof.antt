@@ -2,6 +2,7 @@
 use mathlib.Core.Path.{ap, _∙_}
 use lib.ListN.{replicate}
 use denote.Ref.{now}
+use Rattle.cut_theory.specs.Tab.{mostCut}
 use Rattle.split.specs.Answer.{ResultF}
 use Rattle.split.specs.Split.{splitF, lent}
 use Rattle.test_runs.specs.Along.{follows}
@@ -14,7 +15,7 @@ use Rattle.test_lists.proofs.cut.cut_text.Tie as tie
 -- ---- the places on the way: before the lent slices, the head, the records and the three arrays; and the cut, before its lists are lent
 
 abbrev entry : tie.After-split → tie.Start
-entry x = let arrays = x .before .before .before .before .before in arrays .before .before .before .before
+entry x = let lists = x .before .before .before in let arrays = lists .before .before .before in arrays .before .before .before
 
 abbrev gone : tie.After-served3 → tie.After-split
 gone x = x .before .before .before .before
@@ -26,7 +27,7 @@ plan s =
     splitF (lent (a .held .customers) (now (a .distances)) (head .places) (head .capacity) (head .«fixed_cost»)) (now (a .tour))
 
 abbrev blank : Lists
-blank = record { served = replicate 128 0; ends = replicate 128 0; dropped = replicate 128 0 }
+blank = record { served = replicate mostCut 0; ends = replicate mostCut 0; dropped = replicate mostCut 0 }
 
 abbrev lists : tie.After-split → Lists
 lists x =

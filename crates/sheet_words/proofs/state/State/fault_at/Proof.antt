@@ -3,7 +3,7 @@ use mathlib.Core.Path.{refl, sym, _∙_}
 use borrow.Author.Needs.{needs}
 use Rattle.definitions.specs.Reader.{faults, faultAt}
 use Rattle.theorems.proofs.InOrder.{zero-none, number-given}
-use Rattle.sheet_words.specs.Held.{heldWord, stateOf}
+use Rattle.sheet_words.specs.Held.{heldWord, stateWith}
 use Rattle.sheet_words.proofs.state.State.fault_at.Statement.{statement}
 use Rattle.sheet_words.proofs.state.State.fault_at.Tie as tie
 
@@ -12,15 +12,15 @@ number-at-requires c κs = search needs
 
 returns : tie.Need-returns
 unfolding faultAt
-returns c =
+returns c called told =
     let a = c .before .before .args in
-    sym (zero-none (faults (stateOf (a .self)) (a .i) (heldWord (a .w))) refl (sym (c .before .number-at .ensures) ∙ c .if1 .taken))
+    sym (zero-none (faults (stateWith called (a .self)) (a .i) (heldWord (a .w))) refl (sym (c .before .number-at .ensures called told) ∙ c .if1 .taken))
 
 returns-2 : tie.Need-returns-2
 unfolding faultAt
-returns-2 c =
+returns-2 c called told =
     let a = c .before .before .args in
-    sym (number-given (faults (stateOf (a .self)) (a .i) (heldWord (a .w))) (c .before .number-at .result) (c .before .number-at .ensures) (c .if1 .left))
+    sym (number-given (faults (stateWith called (a .self)) (a .i) (heldWord (a .w))) (c .before .number-at .result) (c .before .number-at .ensures called told) (c .if1 .left))
 
 pub fault-at-spec : {M : Type 1} → statement M
 fault-at-spec = tie.close (tie.spec number-at-requires returns returns-2)

@@ -20,8 +20,14 @@ is-demand-requires c κs = search needs
 is-penalty-requires : tie.Need-is-penalty-requires
 is-penalty-requires c κs = search needs
 
-call-in-range-requires : tie.Need-call-in-range-requires
-call-in-range-requires c κs = search needs
+cast-is-call : tie.Need-cast-is-call
+cast-is-call c = search needs
+
+cast-is-call-2 : tie.Need-cast-is-call-2
+cast-is-call-2 c = search needs
+
+is-call-requires : tie.Need-is-call-requires
+is-call-requires c κs = search needs
 
 is-number-requires : tie.Need-is-number-requires
 is-number-requires c κs = search needs
@@ -44,7 +50,7 @@ returns-4 c = rw (c .before .match .keys4) (c .is-penalty .ensures)
 
 returns-5 : tie.Need-returns-5
 unfolding inRange
-returns-5 c = rw (c .before .match .keys5) (c .call-in-range .ensures)
+returns-5 c = rw (c .before .before .before .match .keys5) (c .is-call .ensures)
 
 returns-6 : tie.Need-returns-6
 unfolding inRange
@@ -74,7 +80,9 @@ in-range-spec =
     is-capacity-requires
     is-demand-requires
     is-penalty-requires
-    call-in-range-requires
+    cast-is-call
+    cast-is-call-2
+    is-call-requires
     is-number-requires
     returns
     returns-2

@@ -3,9 +3,9 @@ use mathlib.Core.Path.{refl}
 use mathlib.Core.Bool.{not}
 use mathlib.Core.List.{[], _∷_}
 use borrow.Author.Needs.{needs}
-use Rattle.definitions.specs.Reader.{faults, faultAt}
+use Rattle.definitions.specs.Reader.{mayStand, inRange, pairFalls, faults, faultAt}
 use Rattle.refuse_lists.proofs.Numbers.{by-tests}
-use Rattle.sheet_words.specs.Held.{heldWord, stateOf}
+use Rattle.sheet_words.specs.Held.{heldWord, stateWith}
 use Rattle.sheet_words.proofs.state.State.number_at.Statement.{statement}
 use Rattle.sheet_words.proofs.state.State.number_at.Tie as tie
 
@@ -31,18 +31,19 @@ first-fit-requires : tie.Need-first-fit-requires
 first-fit-requires c κs = search needs
 
 returns : tie.Need-returns
-unfolding faultAt
-returns c =
+unfolding faultAt mayStand inRange pairFalls
+returns c called told =
     -- behind each test, from the last
     let c3 = c .before .before .before in
     let c2 = c3 .before in
     let c1 = c2 .before in
     let c11 = c1 .before in
     let a = c11 .before .args in
-    by-tests (faults (stateOf (a .self)) (a .i) (heldWord (a .w))) (c .first-fit .result) _ _ (c .first-fit .ensures) refl
+    by-tests (faults (stateWith called (a .self)) (a .i) (heldWord (a .w))) (c .first-fit .result) _ _ (c .first-fit .ensures) refl
     (λ i.
     not (c11 .may-stand .ensures i)
     ∷ not (c1 .in-range .ensures i)
+    ∷ told i
     ∷ c2 .pair-falls .ensures i
     ∷ c3 .wrong-count .ensures i
     ∷ [])
