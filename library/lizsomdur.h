@@ -10,18 +10,21 @@
  * It is made of 32-bit words, little-endian. The top four bits of a word are its kind, the rest is its value. The kinds, in the order in which they
  * stand:
  *
- *   1 places, the depot among them (1 to 64)         2 capacity (to 1,000,000)          3 fixed cost of every run
+ *   1 places, the depot among them (1 to 64)
+ *   2 capacity: seats (to 1,000,000)                 0 second capacity: wheelchair places (the same range; may be left out: then it is 0)
+ *   3 fixed cost of every run
  *   4 distance limit (may be left out)               5 duration limit (may be left out)
  *   6 break: earliest start, latest start, duration (three words, may be left out)
  *   for each customer, that is each place but the depot, from 1 on:
- *     7 demand (to 32,767)                           8 service, the time that it takes
+ *     7 demand: seats (to 32,767)                    0 second demand: wheelchair places (the same range; may be left out: then it is 0)
+ *     8 service, the time that it takes
  *     9 ready and A due, the window (both may be left out)
  *     B penalty (to 1,000, may be left out)
  *   C distances, places times places                 D times, the same (may be left out: then a time is the distance)
  *   E calls: the customers to serve, in order (0 to 63 words, each from 1 to places - 1; none of them twice)
  *   F the end; its value is the number of words before it
  *
- * A number for which no range is given here goes from 0 to 10,000,000.
+ * A number for which no range is given here goes from 0 to 10,000,000. No accepted sheet has more than 8,643 words, which are 34,572 bytes.
  *
  * Distances and times are tables by rows: the row is the place that a leg starts from, the column the one that it goes to, so that the leg stands at
  * entry from * places + to. Place 0 is the depot. There and back may differ. The diagonal is read only where a run goes from a place to itself, with
@@ -32,7 +35,7 @@
  * A run leaves the depot at time 0, serves one or more calls in order and comes home. Its distance is that of all its legs, the depot's too; its
  * duration is the time at which it is home. It is legal when it keeps to all of these; each bound itself is still allowed:
  *
- *   load      the demands of its calls together are at most the capacity
+ *   load      the demands of its calls together are at most the capacity, and their second demands together at most the second capacity
  *   limits    its distance and its duration are at most their limits, where the sheet has them
  *   windows   before ready the bus waits. Service may begin until due. After that it is late: where the customer has no penalty, the run is illegal;
  *             where there is one, each unit of time above due costs that much. A penalty without a window does nothing.
@@ -121,23 +124,24 @@ uint32_t lizsomdur_plan(const uint8_t *sheet, size_t sheet_length,
 
 /* Verdicts, and the values that each has. Runs, places and positions are numbered from 1. */
 enum {
-    LIZSOMDUR_OTHER_CALLS = 1,    /* position: there the calls first differ from those that the planner serves, or one list ends before the other */
-    LIZSOMDUR_OVERLOAD = 2,       /* run, load, capacity */
-    LIZSOMDUR_BREAK_TOO_LATE = 3, /* run, place in it, customer, start, latest */
-    LIZSOMDUR_WINDOW_MISSED = 4,  /* run, place in it, customer, when the bus is ready to serve, due */
-    LIZSOMDUR_BREAK_MISSING = 5,  /* run, duration, earliest */
-    LIZSOMDUR_TOO_FAR = 6,        /* run, distance, limit */
-    LIZSOMDUR_TOO_LONG = 7,       /* run, duration, limit */
-    LIZSOMDUR_BEST = 8,           /* none: as cheap as the planner's */
-    LIZSOMDUR_DEARER = 9,         /* by how much */
-    LIZSOMDUR_CHEAPER = 10        /* by how much: only where the sheet has both lateness pay and a break */
+    LIZSOMDUR_OTHER_CALLS = 1,          /* position: where the calls first differ from those that the planner serves, or the first of the two ends */
+    LIZSOMDUR_OVERLOAD = 2,             /* run, load, capacity */
+    LIZSOMDUR_BREAK_TOO_LATE = 3,       /* run, place in it, customer, start, latest */
+    LIZSOMDUR_WINDOW_MISSED = 4,        /* run, place in it, customer, when the bus is ready to serve, due */
+    LIZSOMDUR_BREAK_MISSING = 5,        /* run, duration, earliest */
+    LIZSOMDUR_TOO_FAR = 6,              /* run, distance, limit */
+    LIZSOMDUR_TOO_LONG = 7,             /* run, duration, limit */
+    LIZSOMDUR_BEST = 8,                 /* none: as cheap as the planner's */
+    LIZSOMDUR_DEARER = 9,               /* by how much */
+    LIZSOMDUR_CHEAPER = 10,             /* by how much: only where the sheet has both lateness pay and a break */
+    LIZSOMDUR_WHEELCHAIR_OVERLOAD = 11  /* run, second load, second capacity: its load is at most the capacity */
 };
 
 /* Marks a cutting of the sheet's calls against the planner's own. `places` has the break place of each run; a break may also be taken where none is
  * needed.
  *
  * The calls come first: they have to be those that the planner serves. Then the first run with a fault is told, and of its faults the first of load,
- * break and window of one call after the other, missing break, distance, duration. Where there is none, the costs are compared.
+ * second load, break and window of one call after the other, missing break, distance, duration. Where there is none, the costs are compared.
  *
  * verdict       its number
  * values        its values; those behind them stay as they were
@@ -149,7 +153,7 @@ uint32_t lizsomdur_mark(const uint8_t *sheet, size_t sheet_length,
                         size_t *word, uint32_t *verdict, double values[5]);
 
 /* Shortens one run: turns stretches of its calls around, as long as one is found that lowers the distance and makes a run that keeps windows, limits
- * and break. The load is not looked at, nor are the sheet's own calls. A run that is not legal is taken too.
+ * and break. Neither load is looked at, nor are the sheet's own calls. A run that is not legal is taken too.
  *
  * improved      the calls, as many as the run has
  * distance      that of the run so made; 0 for a run without calls
@@ -160,7 +164,7 @@ uint32_t lizsomdur_reverse(const uint8_t *sheet, size_t sheet_length,
                            size_t *word, double *distance);
 
 /* Empties runs: puts all calls of a run into the others, as long as one is found for which that lowers the cost and where each run that takes a call
- * keeps load, windows, limits and break. The sheet's own calls are not looked at. Runs without calls are taken, and left out of the answer.
+ * keeps both loads, windows, limits and break. The sheet's own calls are not looked at. Runs without calls are taken, and left out of the answer.
  *
  * left_calls    the calls of the runs that are left, as many as were given
  * left_ends     the end of each

@@ -8,6 +8,7 @@ mod fitted;
 mod ga;
 mod kinds;
 mod legs;
+mod load;
 mod local_search;
 mod models;
 mod original;

@@ -7,13 +7,15 @@
 
 #define LENGTH(list) (sizeof(list) / sizeof *(list))
 
-/* Five customers; the fifth has a window with a penalty. Its calls and its end are added by `write_sheet`. */
+/* Five customers: the third and the fourth ask for the one wheelchair place, the fifth has a window with a penalty. Its calls and its end are added by
+ * `write_sheet`.
+ */
 static const uint32_t START[] = {
-    0x10000006, 0x20000004, 0x30000003, 0x4000003C, 0x50000050, 0x60000018, 0x6000001E, 0x60000004,
+    0x10000006, 0x20000004, 0x00000001, 0x30000003, 0x4000003C, 0x50000050, 0x60000018, 0x6000001E, 0x60000004,
     0x70000001, 0x80000001, 0x90000000, 0xA000000E,
     0x70000002, 0x80000000,
-    0x70000001, 0x80000014, 0x90000000, 0xA000001F,
-    0x70000001, 0x80000003,
+    0x70000001, 0x00000001, 0x80000014, 0x90000000, 0xA000001F,
+    0x70000001, 0x00000001, 0x80000003,
     0x70000001, 0x80000001, 0x9000001A, 0xA000001B, 0xB0000005,
     0xC0000000, 0xC000000A, 0xC000000C, 0xC0000019, 0xC0000014, 0xC0000006,
     0xC000000A, 0xC0000000, 0xC0000005, 0xC0000010, 0xC000000F, 0xC0000009,
@@ -87,6 +89,7 @@ static const struct { uint32_t number; const char *name; size_t values; } VERDIC
     {LIZSOMDUR_BEST, "best", 0},
     {LIZSOMDUR_DEARER, "dearer", 1},
     {LIZSOMDUR_CHEAPER, "cheaper", 1},
+    {LIZSOMDUR_WHEELCHAIR_OVERLOAD, "wheelchair overload", 3},
 };
 
 static void print_verdict(uint32_t verdict, const double *values) {
@@ -101,6 +104,7 @@ struct cutting { size_t tour[CALLS], count, other, ends[CALLS], places[CALLS], r
 static const struct cutting CUTTINGS[] = {
     {{2, 1}, 2, 3, {2}, {0}, 1},
     {{2, 4, 5, 3}, 4, 0, {4}, {1}, 1},
+    {{3, 4}, 2, 0, {2}, {1}, 1},
     {{2, 4}, 2, 0, {2}, {2}, 1},
     {{2, 1}, 2, 0, {1, 2}, {0, 1}, 2},
     {{4}, 1, 0, {1}, {0}, 1},

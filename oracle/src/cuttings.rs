@@ -1,6 +1,6 @@
 //! Cuttings to be marked: the plan's own, and what a controller makes of it by a change or two.
 use crate::evaluation::has_soft_windows;
-use crate::marker::{mark, spans, Cutting, CHEAPER};
+use crate::marker::{mark, spans, Cutting, BEST, CHEAPER};
 use crate::plan::{self, Plan};
 use crate::sheet::Sheet;
 use crate::source::Source;
@@ -9,8 +9,10 @@ use std::collections::BTreeSet;
 /// The plan of an accepted sheet with up to two changes. With lateness pay and a break it is, three times in four, the plan with a break place that makes it cheaper, if there is one.
 pub fn drawn(source: &mut Source, words: &[u32]) -> Cutting {
     let sheet = Sheet::from_words(words);
-    let plan = plan::of(&sheet);
+    let plan = plan::of(words);
     let mut cutting = planned(&plan);
+    let own = mark(&sheet, &plan.served, plan.cost as u64, &cutting);
+    assert_eq!(own, Ok((BEST, vec![])), "the plan itself is the best");
     if priced(&sheet) && !source.one_in(4) && made_cheaper(&sheet, &plan, &mut cutting) {
         return cutting;
     }

@@ -1,9 +1,9 @@
 //! Sheets on an edge, and damaged ones.
 use crate::source::Source;
-use crate::word::{bytes, ended, kind, most, value, word};
+use crate::word::{bytes, ended, kind, most, most_at, second_capacity, value, word};
 
 /// The kinds of the numbers that a run is held against.
-const LIMITS: [u32; 6] = [2, 4, 5, 6, 9, 0xA];
+const LIMITS: [u32; 7] = [0, 2, 4, 5, 6, 9, 0xA];
 
 /// Moves one of the sheet's numbers onto an edge of a run of the first of these calls.
 pub fn on_edge(source: &mut Source, words: &mut [u32], calls: &[u32]) {
@@ -17,11 +17,13 @@ fn on_edge_of(source: &mut Source, words: &mut [u32], calls: &[u32], kinds: &[u3
     let run = run(words, calls);
     let edges: Vec<usize> = (0..words.len())
         .filter(|&at| kinds.contains(&kind(words[at])))
+        .filter(|&at| kind(words[at]) != 0 || second_capacity(words) == Some(at))
         .collect();
     let Some(&at) = source.any(&edges) else {
         return;
     };
     let number = match kind(words[at]) {
+        0 => run.second_load,
         2 => run.load,
         4 => run.distance,
         5 => run.duration,
@@ -48,6 +50,7 @@ pub fn all(words: &[u32], wanted: u32) -> Vec<u32> {
 /// What a run comes to that waits for nobody.
 struct Run {
     load: u32,
+    second_load: u32,
     distance: u32,
     duration: u32,
     arrivals: Vec<u32>,
@@ -55,10 +58,12 @@ struct Run {
 
 fn run(words: &[u32], calls: &[u32]) -> Run {
     let [demands, services, legs, times] = [7, 8, 0xC, 0xD].map(|kind| all(words, kind));
+    let second = second_demands(words);
     let times = if times.is_empty() { &legs } else { &times };
     let places = value(words[0]);
     let mut run = Run {
         load: 0,
+        second_load: 0,
         distance: 0,
         duration: 0,
         arrivals: Vec::new(),
@@ -71,11 +76,22 @@ fn run(words: &[u32], calls: &[u32]) -> Run {
         run.arrivals.push(run.duration);
         if customer > 0 {
             run.load += demands[customer as usize - 1];
+            run.second_load += second[customer as usize - 1];
             run.duration += services[customer as usize - 1];
         }
         at = customer;
     }
     run
+}
+
+/// The second demand of each customer, 0 where it is not said.
+fn second_demands(words: &[u32]) -> Vec<u32> {
+    let records = words.windows(2).filter(|pair| kind(pair[0]) == 7);
+    let second = |pair: &[u32]| match kind(pair[1]) {
+        0 => value(pair[1]),
+        _ => 0,
+    };
+    records.map(second).collect()
 }
 
 /// The sheet's bytes with something wrong, or right after all.
@@ -86,16 +102,17 @@ pub fn damaged(source: &mut Source, words: &[u32]) -> Vec<u8> {
             break;
         }
         let at = place(source, words.len() as u32) as usize;
-        match source.below(10) {
+        match source.below(11) {
             0 => words[at] ^= 1 << source.below(32),
             1 => drop(words.remove(at)),
             2 => words.insert(at, word(source.below(16), source.below(20))),
             3 => words.truncate(at),
             4 => words[at] = word(source.below(16), value(words[at])),
-            5 => words[at] = word(kind(words[at]), beyond(source, kind(words[at]))),
+            5 => words[at] = word(kind(words[at]), beyond(source, most_at(&words, at))),
             6 => words.push(word(source.below(16), source.below(3))),
             7 => words = with_more_calls(source, words),
             8 => words = with_a_call_again(source, words),
+            9 => damage_second(source, &mut words, at),
             _ => words.swap(at, 0),
         }
     }
@@ -107,6 +124,18 @@ pub fn damaged(source: &mut Source, words: &[u32]) -> Vec<u8> {
         file.extend((0..source.below(4)).map(|_| 0));
     }
     file
+}
+
+/// Says one of the second capacity and demands twice, or gives it a number at an end of its range or one past it; where there is none, puts one in at this index.
+fn damage_second(source: &mut Source, words: &mut Vec<u32>, at: usize) {
+    let said: Vec<usize> = (0..words.len())
+        .filter(|&at| kind(words[at]) == 0)
+        .collect();
+    match source.any(&said) {
+        Some(&at) if source.one_in(3) => words.insert(at, words[at]),
+        Some(&at) => words[at] = word(0, beyond(source, most_at(words, at))),
+        None => words.insert(at, word(0, source.below(3))),
+    }
 }
 
 /// An index below `length`: near the beginning, near the end, or anywhere, so that long tables don't take all the damage.
@@ -146,11 +175,11 @@ fn with_a_call_again(source: &mut Source, mut words: Vec<u32>) -> Vec<u32> {
     ended(words)
 }
 
-/// A number at an end of the kind's range, or one past it.
-fn beyond(source: &mut Source, kind: u32) -> u32 {
+/// A number at an end of a range up to `most`, or one past it.
+fn beyond(source: &mut Source, most: u32) -> u32 {
     if source.one_in(2) {
         source.below(2)
     } else {
-        most(kind) + source.below(2)
+        most + source.below(2)
     }
 }

@@ -1,9 +1,10 @@
 //! Sheets on which a fault of a cutting is just a fault, or just none.
 use crate::marker::{
-    Verdict, BREAK_MISSING, BREAK_TOO_LATE, OVERLOAD, TOO_FAR, TOO_LONG, WINDOW_MISSED,
+    Verdict, BREAK_MISSING, BREAK_TOO_LATE, OVERLOAD, TOO_FAR, TOO_LONG, WHEELCHAIR_OVERLOAD,
+    WINDOW_MISSED,
 };
 use crate::source::Source;
-use crate::word::{kind, most, word};
+use crate::word::{kind, most_at, second_capacity, word};
 
 /// The sheet with the number that a fault names as its limit moved to the value above that, or to one below or above the value.
 pub fn at_fault(source: &mut Source, words: &[u32], fault: &Verdict) -> Option<Vec<u32>> {
@@ -19,11 +20,12 @@ pub fn at_fault(source: &mut Source, words: &[u32], fault: &Verdict) -> Option<V
         BREAK_MISSING => first(6)?,
         TOO_FAR => first(4)?,
         TOO_LONG => first(5)?,
+        WHEELCHAIR_OVERLOAD => second_capacity(words)?,
         _ => return None,
     };
     let limit = source.near(u32::try_from(value).ok()?);
     let mut words = words.to_vec();
-    words[at] = word(kind(words[at]), limit.min(most(kind(words[at]))));
+    words[at] = word(kind(words[at]), limit.min(most_at(&words, at)));
     Some(words)
 }
 

@@ -1,6 +1,7 @@
 //! What a sample of questions and answers has, by how many of them.
-use crate::reader;
 use crate::sheet::Sheet;
+use crate::word::{ended, has_second, kind};
+use crate::{listing, reader};
 use std::fmt;
 
 /// A run of so many calls counts as long, and a tour of so many.
@@ -8,12 +9,13 @@ const LONG: usize = 100;
 const MANY: usize = 50;
 
 /// How the answers to cuttings begin, and what they are then.
-const MARKS: [(&str, &str); 13] = [
+const MARKS: [(&str, &str); 14] = [
     ("refused 13", "refused by 13"),
     ("refused 1", "by 1"),
     ("refused 5", "by 5"),
     ("verdict 1", "other calls"),
     ("verdict 2", "overload"),
+    ("verdict 11", "wheelchair overload"),
     ("verdict 3", "break too late"),
     ("verdict 4", "window missed"),
     ("verdict 5", "break missing"),
@@ -49,19 +51,25 @@ impl Features {
         self.count("with drops", answer.contains("drop "));
         self.count("with a break taken", answer.contains(" rest "));
         if let Ok(words) = reader::words(file) {
-            self.sheet(&Sheet::from_words(&words));
+            self.sheet(&words);
+            let matters = has_second(&words) && listing::of(&without_second(&words)) != answer;
+            self.count("cut otherwise for them", matters);
         }
     }
 
-    fn sheet(&mut self, sheet: &Sheet) {
+    /// An accepted sheet in words.
+    fn sheet(&mut self, words: &[u32]) {
+        let sheet = Sheet::from_words(words);
         self.count("with a symmetric table", sheet.distances.symmetric());
         self.count("of 50 calls or more", sheet.tour.len() >= MANY);
+        self.count("with wheelchair places", has_second(words));
     }
 
     /// An accepted sheet, its runs, and what is made of them.
-    pub fn runs(&mut self, sheet: &Sheet, routes: &[Vec<usize>], answer: &str) {
+    pub fn runs(&mut self, words: &[u32], routes: &[Vec<usize>], answer: &str) {
         self.questions += 1;
-        self.sheet(sheet);
+        self.sheet(words);
+        self.count("with a second load over", answer.contains("violation 6 "));
         let longest = routes.iter().map(Vec::len).max().unwrap_or(0);
         self.count("with a run of 4 calls or more", longest >= 4);
         self.count("with a run of 100 calls or more", longest >= LONG);
@@ -90,9 +98,15 @@ impl Features {
             self.count(name, words.is_ok() && said.join(" ") == start);
         }
         if let Ok(words) = words {
-            self.sheet(&Sheet::from_words(&words));
+            self.sheet(&words);
         }
     }
+}
+
+/// The sheet with seats alone.
+fn without_second(words: &[u32]) -> Vec<u32> {
+    let before = words[..words.len() - 1].iter().copied();
+    ended(before.filter(|&w| kind(w) != 0).collect())
 }
 
 /// The numbers of the answer's lines that begin with this word.

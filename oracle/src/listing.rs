@@ -1,10 +1,12 @@
 //! The listing of a sheet, planned by the Rust.
+use crate::edges::all;
 use crate::plan;
-use crate::sheet::Sheet;
 use std::fmt::Write;
 
-pub fn of(sheet: &Sheet) -> String {
-    let plan = plan::of(sheet);
+/// That of an accepted sheet in words.
+pub fn of(words: &[u32]) -> String {
+    let plan = plan::of(words);
+    let tour = all(words, 0xE);
     let mut text = String::new();
     for (run, total) in &plan.runs {
         text += "run";
@@ -17,7 +19,7 @@ pub fn of(sheet: &Sheet) -> String {
         text += "\n";
     }
     for &position in &plan.dropped {
-        writeln!(text, "drop {}", sheet.tour[position]).unwrap();
+        writeln!(text, "drop {}", tour[position]).unwrap();
     }
     let (distance, cost) = (plan.distance, plan.cost);
     let (served, dropped) = (plan.served.len(), plan.dropped.len());

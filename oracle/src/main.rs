@@ -8,7 +8,9 @@ mod evaluation;
 mod faults;
 mod features;
 mod ga;
+mod judges;
 mod listing;
+mod load;
 mod local_search;
 mod marker;
 mod marks;
@@ -70,7 +72,7 @@ fn number<N: std::str::FromStr>(text: &str) -> N {
 /// What the listing program is to print for these bytes.
 fn answer(file: &[u8]) -> String {
     match reader::words(file) {
-        Ok(words) => listing::of(&sheet::Sheet::from_words(&words)),
+        Ok(words) => listing::of(&words),
         Err((number, word)) => format!("refused {number} at {word}\n"),
     }
 }
@@ -89,7 +91,7 @@ fn random(seed: u64, count: usize) {
     let mut source = source::Source::new(seed);
     for _ in 0..count {
         let words = random::small(&mut source);
-        let text = listing::of(&sheet::Sheet::from_words(&words)).replace('\n', "\\n");
+        let text = listing::of(&words).replace('\n', "\\n");
         let words: Vec<String> = words.iter().map(|w| format!("{w:08X}")).collect();
         println!("{} {}", words.join(","), text);
     }

@@ -1,4 +1,4 @@
-//! The mark of a cutting beside the planner's. Written from the scope document alone: the Rust has no marker, and of its code only the plan is asked.
+//! The mark of a cutting beside the planner's. Written from the scope document and the requests alone: the Rust has no marker, and of its code only the plan is asked.
 use crate::sheet::Sheet;
 use std::cmp::Ordering;
 
@@ -23,6 +23,7 @@ pub const TOO_LONG: u32 = 7;
 pub const BEST: u32 = 8;
 pub const DEARER: u32 = 9;
 pub const CHEAPER: u32 = 10;
+pub const WHEELCHAIR_OVERLOAD: u32 = 11;
 
 /// The most calls, and the most run ends.
 const MOST: usize = 128;
@@ -97,6 +98,12 @@ fn first_difference(one: &[usize], other: &[usize]) -> u64 {
 fn run_cost(sheet: &Sheet, calls: &[usize], place: usize) -> Result<u64, Verdict> {
     let demands = calls.iter().map(|&c| sheet.customers[c].demand() as u64);
     within(OVERLOAD, demands.sum(), sheet.capacity as u64)?;
+    let second = calls.iter().map(|&c| sheet.second_demands[c] as u64);
+    within(
+        WHEELCHAIR_OVERLOAD,
+        second.sum(),
+        sheet.second_capacity as u64,
+    )?;
     let (mut at, mut time, mut distance, mut pay) = (0, 0, 0, 0);
     for (number, &customer) in (1..).zip(calls) {
         distance += whole(sheet.distances.get(at, customer));

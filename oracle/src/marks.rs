@@ -88,7 +88,7 @@ fn accepted(words: Vec<u32>) -> Option<Vec<u32>> {
 /// The mark beside the Rust's plan of an accepted sheet. Only where lateness is paid and there is a break may it be Cheaper.
 fn marked(words: &[u32], cutting: &Cutting) -> Result<Verdict, u32> {
     let sheet = Sheet::from_words(words);
-    let plan = plan::of(&sheet);
+    let plan = plan::of(words);
     let said = mark(&sheet, &plan.served, plan.cost as u64, cutting);
     let cheaper = matches!(said, Ok((CHEAPER, _)));
     assert!(

@@ -1,6 +1,6 @@
 //! The plan of a sheet by the Rust's `split_tw`, with what that does not say itself: cost, breaks and drops.
 use crate::evaluation::{route_eval, RouteEval};
-use crate::ga::{split_tw, SplitResult};
+use crate::judges::split_tw;
 use crate::sheet::Sheet;
 
 pub struct Plan {
@@ -14,16 +14,16 @@ pub struct Plan {
     pub cost: f64,
 }
 
-pub fn of(sheet: &Sheet) -> Plan {
-    let cut = split(sheet, &sheet.tour);
-    let (dropped, served) = drops(sheet);
-    let calls = cut.routes.concat();
-    assert_eq!(calls, served, "the Rust serves the held calls");
-    let runs: Vec<_> = cut
-        .routes
+/// That of an accepted sheet in words.
+pub fn of(words: &[u32]) -> Plan {
+    let sheet = Sheet::from_words(words);
+    let (routes, distance) = split_tw(words, &sheet, &sheet.tour);
+    let (dropped, served) = drops(words, &sheet);
+    assert_eq!(routes.concat(), served, "the Rust serves the held calls");
+    let runs: Vec<_> = routes
         .into_iter()
         .map(|run| {
-            let total = evaluated(sheet, &run).expect("a legal run");
+            let total = evaluated(&sheet, &run).expect("a legal run");
             (run, total)
         })
         .collect();
@@ -35,7 +35,7 @@ pub fn of(sheet: &Sheet) -> Plan {
         runs,
         served,
         dropped,
-        distance: cut.total_distance,
+        distance,
     }
 }
 
@@ -44,23 +44,12 @@ pub fn evaluated(sheet: &Sheet, run: &[usize]) -> Option<RouteEval> {
     route_eval(run, 0, &sheet.distances, &sheet.customers, &sheet.limits)
 }
 
-fn split(sheet: &Sheet, tour: &[usize]) -> SplitResult {
-    split_tw(
-        tour,
-        &sheet.customers,
-        &sheet.distances,
-        sheet.capacity,
-        &sheet.limits,
-        sheet.fixed,
-    )
-}
-
 /// The positions that are dropped, from 0, in drop order, and the calls that are held at the end. Each beginning of the held calls is asked about once: what is dropped changes no shorter one.
-fn drops(sheet: &Sheet) -> (Vec<usize>, Vec<usize>) {
+fn drops(words: &[u32], sheet: &Sheet) -> (Vec<usize>, Vec<usize>) {
     let (mut dropped, mut held) = (Vec::new(), Vec::new());
     for (position, &call) in sheet.tour.iter().enumerate() {
         held.push(call);
-        if split(sheet, &held).routes.concat().len() < held.len() {
+        if split_tw(words, sheet, &held).0.concat().len() < held.len() {
             held.pop();
             dropped.push(position);
         }

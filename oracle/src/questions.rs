@@ -14,7 +14,7 @@ pub fn sheets(seed: u64, count: usize, files: &[String]) -> impl Iterator<Item =
     cases.chain(longest).chain(generated).chain(instances)
 }
 
-/// A sheet of 8,579 words, the same with a 64th call, and with a word behind its end.
+/// A sheet of 8,643 words, the same with a 64th call, and with a word behind its end.
 fn longest(source: &mut Source) -> [Vec<u8>; 3] {
     let words = random::full(source);
     let mut call_more = words.clone();

@@ -1,6 +1,6 @@
 //! Random accepted sheets in words, of all mixes of features.
 use crate::source::Source;
-use crate::word::{ended, most, word};
+use crate::word::{ended, most, value, word};
 
 /// How large a sheet's numbers may be: each is below the number here, or up to it.
 struct Scale {
@@ -126,13 +126,19 @@ fn number(source: &mut Source, scale: &Scale, kind: u32, bound: u32) -> u32 {
     word(kind, value)
 }
 
+/// One sheet in four has wheelchair places; of these one in eight has no second capacity, which is then 0.
 fn sheet(source: &mut Source, scale: &Scale, places: u32, calls: u32) -> Vec<u32> {
-    let capacity = number(source, scale, 2, scale.capacity);
-    let fixed = number(source, scale, 3, 10);
-    let mut words = vec![word(1, places), capacity, fixed];
+    let second = scale.full || source.one_in(4);
+    let mut words = vec![word(1, places)];
+    words.push(number(source, scale, 2, scale.capacity));
+    if second && (scale.full || !source.one_in(8)) {
+        let capacity = value(number(source, scale, 2, scale.capacity));
+        words.push(word(0, capacity));
+    }
+    words.push(number(source, scale, 3, 10));
     limits(source, scale, &mut words);
     for _ in 1..places {
-        customer(source, scale, &mut words);
+        customer(source, scale, second, &mut words);
     }
     table(source, scale, places, 0xC, &mut words);
     if scale.full || source.one_in(3) {
@@ -159,8 +165,12 @@ fn limits(source: &mut Source, scale: &Scale, words: &mut Vec<u32>) {
     }
 }
 
-fn customer(source: &mut Source, scale: &Scale, words: &mut Vec<u32>) {
+/// With a second demand or, where the sheet has such, every other time without one.
+fn customer(source: &mut Source, scale: &Scale, second: bool, words: &mut Vec<u32>) {
     words.push(word(7, source.below(scale.demand)));
+    if second && (scale.full || source.one_in(2)) {
+        words.push(word(0, source.below(scale.demand)));
+    }
     words.push(word(8, source.below(scale.service)));
     if scale.full || source.one_in(scale.windows) {
         let ready = source.below(scale.day + 3);

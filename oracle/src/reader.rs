@@ -80,13 +80,15 @@ impl Seen {
         match self.last.map(|(kind, _)| kind) {
             None => vec![1],
             Some(1) => vec![2],
-            Some(2) => vec![3],
+            Some(2) => vec![0, 3],
+            Some(0) if self.count(7) == 0 => vec![3],
+            Some(0) => vec![8],
             Some(3) => self.after_head(&[4, 5, 6]),
             Some(4) => self.after_head(&[5, 6]),
             Some(5) => self.after_head(&[6]),
             Some(6) if self.count(6) < 3 => vec![6],
             Some(6) => self.after_head(&[]),
-            Some(7) => vec![8],
+            Some(7) => vec![0, 8],
             Some(8) => self.after_customer(&[9, 0xB]),
             Some(9) => vec![0xA],
             Some(0xA) => self.after_customer(&[0xB]),
@@ -113,6 +115,7 @@ impl Seen {
             1 => (1..=most(1)).contains(&value),
             0xE => value >= 1 && (value as usize) < self.places,
             0xF => true,
+            0 => self.last.is_some_and(|(first, _)| value <= most(first)),
             _ => value <= most(kind),
         }
     }

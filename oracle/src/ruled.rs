@@ -20,10 +20,12 @@ pub fn sheet(source: &mut Source, number: usize) -> Vec<u32> {
 fn loosened(source: &mut Source) -> Vec<u32> {
     let mut words = random::ruled(source);
     words.pop();
-    if !source.one_in(4) {
-        words[1] = word(2, most(2));
+    for (at, kind) in [(1, 2), (2, 0)] {
+        if !source.one_in(4) {
+            words[at] = word(kind, most(2));
+        }
     }
-    for kinds in [&[4][..], &[5], &[6], &[9, 0xA], &[0xB], &[0xD]] {
+    for kinds in [&[0][..], &[4], &[5], &[6], &[9, 0xA], &[0xB], &[0xD]] {
         if source.one_in(2) {
             words.retain(|&w| !kinds.contains(&kind(w)));
         }
@@ -37,7 +39,7 @@ fn narrow(source: &mut Source) -> Vec<u32> {
     words.pop();
     let timed = source.one_in(2);
     words.retain(|&w| match kind(w) {
-        4 | 5 => false,
+        0 | 4 | 5 => false,
         0xB => !source.one_in(4),
         0xD => timed,
         _ => true,

@@ -1,16 +1,19 @@
 //! What the Rust makes of a run list, as text: the visits of each run, whether it may be made and what it costs, on sheets without lateness pay each run reversed and the runs left by elimination, and the cut of the tour by capacity.
 use crate::evaluation::{effective_cost, has_soft_windows, route_feasible, RouteEvaluator};
-use crate::ga::split;
-use crate::local_search::{eliminate_routes, two_opt_improve};
-use crate::models::{Vehicle, ViolationType};
+use crate::judges::{eliminate_routes, split};
+use crate::local_search::two_opt_improve;
+use crate::models::{Route, Violation, ViolationType};
 use crate::sheet::Sheet;
+use crate::word::exchanged;
 use std::fmt::Write;
 
-pub fn of(sheet: &Sheet, routes: &[Vec<usize>]) -> String {
-    let vehicle = sheet.vehicle();
+/// That of an accepted sheet in words.
+pub fn of(words: &[u32], routes: &[Vec<usize>]) -> String {
+    let sheet = &Sheet::from_words(words);
+    let second = &Sheet::from_words(&exchanged(words));
     let mut text = String::new();
     for route in routes {
-        visits(&mut text, sheet, &vehicle, route);
+        visits(&mut text, sheet, second, route);
     }
     for route in routes {
         evaluated(&mut text, sheet, route);
@@ -19,12 +22,11 @@ pub fn of(sheet: &Sheet, routes: &[Vec<usize>]) -> String {
         for route in routes {
             reversed(&mut text, sheet, route);
         }
-        let routes = routes.to_vec();
-        for route in eliminate_routes(routes, &sheet.customers, &sheet.distances, &vehicle) {
+        for route in eliminate_routes(words, sheet, routes) {
             line(&mut text, "left", &route);
         }
     }
-    by_capacity(&mut text, sheet);
+    by_capacity(&mut text, words, sheet);
     text
 }
 
@@ -37,29 +39,49 @@ fn line<T: std::fmt::Display>(text: &mut String, first: &str, numbers: &[T]) {
     *text += "\n";
 }
 
-/// The visits, the violations by number with their figures, and the totals.
-fn visits(text: &mut String, sheet: &Sheet, vehicle: &Vehicle, route: &[usize]) {
-    let evaluator = RouteEvaluator::new(&sheet.customers, &sheet.distances, vehicle);
-    let (built, violations) = evaluator.build_route(route);
-    for v in built.visits() {
-        let (customer, load) = (v.customer_id as f64, f64::from(v.load_after));
-        line(
-            text,
-            "visit",
-            &[customer, v.arrival_time, v.departure_time, load],
-        );
+/// The run as the Rust builds it, and its violations.
+fn built(sheet: &Sheet, route: &[usize]) -> (Route, Vec<Violation>) {
+    let vehicle = sheet.vehicle();
+    RouteEvaluator::new(&sheet.customers, &sheet.distances, &vehicle).build_route(route)
+}
+
+/// The visits, the violations by number with their figures, and the totals. The Rust builds the run twice: by seats, and by wheelchair places in place of seats, for the second load.
+fn visits(text: &mut String, sheet: &Sheet, second: &Sheet, route: &[usize]) {
+    let [(built, violations), (second, second_violations)] =
+        [sheet, second].map(|sheet| built(sheet, route));
+    for (v, w) in std::iter::zip(built.visits(), second.visits()) {
+        let loads = [v.load_after, w.load_after].map(f64::from);
+        let times = [v.arrival_time, v.departure_time];
+        let customer = [v.customer_id as f64];
+        line(text, "visit", &[&customer[..], &times, &loads].concat());
     }
-    for violation in &violations {
-        line(text, "violation", &figures(&violation.kind));
+    for figures in in_order(&violations, &second_violations) {
+        line(text, "violation", &figures);
     }
     let (distance, duration) = (built.total_distance(), built.total_duration());
     let (lateness, cost) = (built.total_lateness(), built.lateness_cost());
-    let load = f64::from(built.total_load());
-    let mut totals = vec![distance, duration, lateness, cost, load];
+    let loads = [built.total_load(), second.total_load()].map(f64::from);
+    let mut totals = vec![distance, duration, lateness, cost];
+    totals.extend(loads);
     if let Some((index, start)) = built.rest() {
         totals.extend([index as f64 + 1.0, start]);
     }
     line(text, "route", &totals);
+}
+
+/// The number of a second load above capacity.
+const SECOND: f64 = 6.0;
+
+/// The figures of the violations. A second load above capacity stands where the first does, or behind it: before distance and duration.
+fn in_order(violations: &[Violation], second: &[Violation]) -> Vec<Vec<f64>> {
+    let mut all: Vec<_> = violations.iter().map(|v| figures(&v.kind)).collect();
+    let mut over = second.iter().map(|v| figures(&v.kind));
+    if let Some(over) = over.find(|figures| figures[0] == 3.0) {
+        let at = all.iter().position(|figures| figures[0] > 3.0);
+        let at = at.unwrap_or(all.len());
+        all.insert(at, [&[SECOND], &over[1..]].concat());
+    }
+    all
 }
 
 /// The violation's number, in the scope document's order, and its figures.
@@ -119,20 +141,23 @@ fn evaluated(text: &mut String, sheet: &Sheet, route: &[usize]) {
 }
 
 /// Served customers, run ends, dropped positions (from 1), cost and distance. The Rust gives runs and distance; the dropped calls are those that no vehicle holds, and the rest follows from the runs.
-fn by_capacity(text: &mut String, sheet: &Sheet) {
+fn by_capacity(text: &mut String, words: &[u32], sheet: &Sheet) {
     let (tour, fixed) = (&sheet.tour, sheet.fixed);
-    let (customers, capacity) = (&sheet.customers, sheet.capacity);
-    let cut = split(tour, customers, &sheet.distances, capacity, fixed);
-    let fits = |&position: &usize| customers[tour[position - 1]].demand() <= capacity;
+    let (routes, distance) = split(words, sheet);
+    let fits = |&position: &usize| {
+        let customer = tour[position - 1];
+        sheet.customers[customer].demand() <= sheet.capacity
+            && sheet.second_demands[customer] <= sheet.second_capacity
+    };
     let (held, dropped): (Vec<usize>, Vec<usize>) = (1..=tour.len()).partition(fits);
     let held: Vec<usize> = held.iter().map(|&position| tour[position - 1]).collect();
-    assert_eq!(cut.routes.concat(), held, "the Rust serves the held calls");
-    let ends: Vec<usize> = (1..=cut.routes.len())
-        .map(|runs| cut.routes[..runs].concat().len())
+    assert_eq!(routes.concat(), held, "the Rust serves the held calls");
+    let ends: Vec<usize> = (1..=routes.len())
+        .map(|runs| routes[..runs].concat().len())
         .collect();
-    let cost = cut.total_distance + cut.routes.len() as f64 * fixed;
+    let cost = distance + routes.len() as f64 * fixed;
     line(text, "served", &held);
     line(text, "ends", &ends);
     line(text, "dropped", &dropped);
-    line(text, "split", &[cost, cut.total_distance]);
+    line(text, "split", &[cost, distance]);
 }

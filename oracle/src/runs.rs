@@ -4,7 +4,6 @@
 use crate::edges::{all, on_edge};
 use crate::features::Features;
 use crate::record::Out;
-use crate::sheet::Sheet;
 use crate::source::Source;
 use crate::word::{bytes, ended, kind, value};
 use crate::{random, reader, run_answer};
@@ -18,15 +17,14 @@ pub fn write(out: &mut Out, seed: u64, count: usize) {
     let mut features = Features::default();
     for number in 0..count {
         let (words, calls) = sheet(&mut source, number);
-        let sheet = Sheet::from_words(&words);
         let ends = ends(&mut source, calls.len());
         let starts = [&[0], &ends[..]].concat();
         let routes: Vec<Vec<usize>> = std::iter::zip(starts, &ends)
             .map(|(start, &end)| calls[start..end].to_vec())
             .collect();
         let question = [counted(&ends), counted(&calls), bytes(&words)].concat();
-        let answer = run_answer::of(&sheet, &routes);
-        features.runs(&sheet, &routes, &answer);
+        let answer = run_answer::of(&words, &routes);
+        features.runs(&words, &routes, &answer);
         out.put(RUNS, &question, &answer);
     }
     eprintln!("{features}");

@@ -1,10 +1,15 @@
 //! A sheet in words, taken to be an accepted one.
 use crate::distance::DistanceMatrix;
 use crate::evaluation::RouteLimits;
+use crate::load::{self, Pair};
 use crate::models::{Customer, TimeWindow, Vehicle, VehicleBreak};
 
 pub struct Sheet {
+    /// As the Rust is given it.
     pub capacity: i32,
+    /// The wheelchair places of a vehicle, and those that each place asks for.
+    pub second_capacity: i32,
+    pub second_demands: Vec<i32>,
     pub fixed: f64,
     pub limits: RouteLimits,
     pub customers: Vec<Customer>,
@@ -30,6 +35,12 @@ impl Words<'_> {
         self.next_if(kind).expect("a word of this kind")
     }
 
+    /// The next number of a load, and that of the second load behind it, which is 0 where it is not said.
+    fn pair(&mut self, kind: u32) -> Pair {
+        let seats = self.next(kind);
+        [seats, self.next_if(0).unwrap_or(0.0)].map(|number| number as i32)
+    }
+
     fn row(&mut self, kind: u32, count: usize) -> Vec<f64> {
         (0..count).map(|_| self.next(kind)).collect()
     }
@@ -39,7 +50,7 @@ impl Sheet {
     pub fn from_words(words: &[u32]) -> Sheet {
         let mut words = Words(words);
         let places = words.next(1) as usize;
-        let capacity = words.next(2) as i32;
+        let held = words.pair(2);
         let fixed = words.next(3);
         let limits = RouteLimits {
             max_distance: words.next_if(4),
@@ -49,7 +60,12 @@ impl Sheet {
                 .map(|earliest| VehicleBreak::new(earliest, words.next(6), words.next(6))),
         };
         let mut customers = vec![Customer::depot(0.0, 0.0)];
-        customers.extend((1..places).map(|id| customer(&mut words, id)));
+        let mut second_demands = vec![0];
+        for id in 1..places {
+            let asked = words.pair(7);
+            customers.push(customer(&mut words, id, asked, held));
+            second_demands.push(asked[1]);
+        }
         let legs = places * places;
         let mut distances =
             DistanceMatrix::from_data(places, words.row(0xC, legs)).expect("a square table");
@@ -60,7 +76,9 @@ impl Sheet {
         }
         let tour = std::iter::from_fn(|| words.next_if(0xE).map(|c| c as usize)).collect();
         Sheet {
-            capacity,
+            capacity: load::capacity(held),
+            second_capacity: held[1],
+            second_demands,
             fixed,
             limits,
             customers,
@@ -85,10 +103,10 @@ impl Sheet {
     }
 }
 
-fn customer(words: &mut Words, id: usize) -> Customer {
-    let demand = words.next(7) as i32;
+/// A customer who asks for so much, of a vehicle that holds so much.
+fn customer(words: &mut Words, id: usize, asked: Pair, held: Pair) -> Customer {
     let service = words.next(8);
-    let mut customer = Customer::new(id, 0.0, 0.0, demand, service);
+    let mut customer = Customer::new(id, 0.0, 0.0, load::asked(asked, held), service);
     if let Some(ready) = words.next_if(9) {
         let window = TimeWindow::new(ready, words.next(0xA)).expect("a window");
         customer = customer.with_time_window(window);

@@ -24,6 +24,41 @@ pub fn most(kind: u32) -> u32 {
     }
 }
 
+/// The end of the range of the word at this index: a second capacity or demand has that of the first, which stands before it.
+pub fn most_at(words: &[u32], at: usize) -> u32 {
+    match kind(words[at]) {
+        0 if at > 0 => most(kind(words[at - 1])),
+        kind => most(kind),
+    }
+}
+
+/// The index of the second capacity.
+pub fn second_capacity(words: &[u32]) -> Option<usize> {
+    (kind(words[2]) == 0).then_some(2)
+}
+
+/// Whether wheelchair places are said anywhere on an accepted sheet.
+pub fn has_second(words: &[u32]) -> bool {
+    words.iter().any(|&w| kind(w) == 0)
+}
+
+/// An accepted sheet with seats and wheelchair places exchanged, in demands and capacities.
+pub fn exchanged(words: &[u32]) -> Vec<u32> {
+    let mut turned = Vec::new();
+    for (at, &first) in words[..words.len() - 1].iter().enumerate() {
+        match kind(first) {
+            0 => (),
+            2 | 7 => {
+                let second = Some(words[at + 1]).filter(|&next| kind(next) == 0);
+                turned.push(word(kind(first), second.map_or(0, value)));
+                turned.push(word(0, value(first)));
+            }
+            _ => turned.push(first),
+        }
+    }
+    ended(turned)
+}
+
 /// The words before it, and the word that ends a sheet.
 pub fn ended(mut words: Vec<u32>) -> Vec<u32> {
     words.push(word(0xF, words.len() as u32));

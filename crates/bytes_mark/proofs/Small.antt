@@ -14,6 +14,7 @@ use Rattle.basics.specs.Options.{_>>=_, valueOr, orElse, given, Holds}
 use Rattle.basics.proofs.OptionLaws.{same, clash}
 use Rattle.basics.specs.Lists.{All}
 use Rattle.definitions.specs.Domain.{mostCalls}
+use Rattle.definitions.specs.Load.{seated}
 use Rattle.definitions.specs.Sheet.{Break, Sheet, time}
 use Rattle.definitions.specs.Limits.{within}
 use Rattle.definitions.specs.Run.{ready, Label, start, serve, Run, breakAt, Totals, ride, load, fits, placed}
@@ -23,7 +24,7 @@ use Rattle.definitions.specs.Drop.{Result, splitTw}
 use Rattle.definitions.specs.Lent.{Lent, wholeSheet, marking}
 use Rattle.definitions.specs.Refusals.{refusalOf}
 use Rattle.definitions.specs.Answers.{gives, unlessRefused, answer, markOf}
-use Rattle.definitions.specs.Marker.{Verdict, overload, breakMissing, tooFar, tooLong, withPlaces, breakOr, differ, callFault, walkFault, totalFault, runFault, firstFault, against, markAgainst, mark}
+use Rattle.definitions.specs.Marker.{Verdict, overloadOf, breakMissing, tooFar, tooLong, withPlaces, breakOr, differ, callFault, walkFault, totalFault, runFault, firstFault, against, markAgainst, mark}
 use Rattle.theorems.proofs.RunListLaws.{calls-back}
 use Rattle.theorems.proofs.Accepted.{Accepted, accepted-within}
 use Rattle.bounds.specs.Sized.{Place, Sized}
@@ -94,14 +95,20 @@ module _ (s : Sheet) (S : Sized s) (n : ℕ) (few : n ≤ limit) where
       or-small (given missing unbroken) (orElse (given beyond far) (given over long)) (given-small missing unbroken few)
       (or-small (given beyond far) (given over long) (given-small beyond far few) (given-small over long few))
 
+  load-small : (calls : List ℕ) → Inside s calls → Fits (overloadOf n (load s calls) (s .head .capacity))
+  load-small calls i =
+      let most = load-most s S calls in
+      by-test (seated (load s calls) (s .head .capacity)) (λ t. rw t (few, omega (arith, most .wheelchairs, i .0)))
+      (λ f. rw f (few, omega (arith, most .seats, i .0)))
+
   run-small : (r : Run) → Inside s (r .calls) → Holds Fits (runFault s n r)
   unfolding runFault
   run-small r i =
       let unfit = not (fits s (r .calls)) in
-      let heavy = overload n (load s (r .calls) .seats) (s .head .capacity .seats) in
+      let heavy = overloadOf n (load s (r .calls)) (s .head .capacity) in
       let walked = walkFault s n (r .place) 1 0 start (r .calls) in
       let home = ride s r >>= totalFault s n r in
-      or-small (given unfit heavy) (orElse walked home) (given-small unfit heavy (few, omega (arith, load-most s S (r .calls) .seats, i .0)))
+      or-small (given unfit heavy) (orElse walked home) (given-small unfit heavy (load-small (r .calls) i))
       (or-small walked home (walk-small (r .place) 1 0 start (r .calls) (omega (arith, i .0)) (i .1)) (go (ride s r)))
     where
       go : (o : Option Totals) → Holds Fits (o >>= totalFault s n r)

@@ -2,7 +2,7 @@
 use Prim.Native.Nat.{_≤_}
 use Rattle.whole.specs.Whole.{limit}
 use Rattle.marker.specs.declared.verdict.Verdict.{Verdict}
-use Rattle.marker.specs.declared.verdict.Verdict.the-variants.{OtherCalls, Overload, BreakTooLate, WindowMissed, BreakMissing, TooFar, TooLong, Best, Dearer, Cheaper}
+use Rattle.marker.specs.declared.verdict.Verdict.the-variants.{OtherCalls, Overload, BreakTooLate, WindowMissed, BreakMissing, TooFar, TooLong, Best, Dearer, Cheaper, WheelchairOverload}
 
 -- each whole number that it has is one that a float holds exactly
 abbrev pub Small : Verdict → Type 0
@@ -16,3 +16,4 @@ Small (TooLong run duration max) = run ≤ limit
 Small Best = Unit {0}
 Small (Dearer by) = Unit {0}
 Small (Cheaper by) = Unit {0}
+Small (WheelchairOverload run load capacity) = (run ≤ limit) × (load ≤ limit)

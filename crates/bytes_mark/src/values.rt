@@ -24,6 +24,7 @@ pub fn number_of(v: Verdict) -> u32
         Verdict::Best => 8,
         Verdict::Dearer { .. } => 9,
         Verdict::Cheaper { .. } => 10,
+        Verdict::WheelchairOverload { .. } => 11,
     }
 }
 
@@ -42,6 +43,17 @@ fn write_three(a: f64, b: f64, c: f64, values: &mut [f64])
     values[0] = a;
     values[1] = b;
     values[2] = c;
+}
+
+// The three of a load over what the vehicle holds: the run, and in one measure its load and the capacity.
+fn write_load(run: usize, load: u64, capacity: u32, values: &mut [f64])
+    requires { ⌜ (run ≤ limit) × (load ≤ limit) ⌝ }
+    requires { ⌜ length (now values) ≡ 5 ⌝ }
+    ensures { λ _. ⌜ now (values .exit) ≡ written (fl run ∷ fl load ∷ fl capacity ∷ []) (now (values .entry)) ⌝ }
+{
+    values[0] = run as f64;
+    values[1] = load as f64;
+    values[2] = capacity as f64;
 }
 
 // The five of a fault at a call: its run, its place in the run, its customer, and the two times that clash.
@@ -112,7 +124,12 @@ pub fn write_values(v: Verdict, values: &mut [f64])
             run,
             load,
             capacity,
-        } => write_three(run as f64, load as f64, capacity as f64, &mut *values),
+        } => write_load(run, load, capacity, &mut *values),
+        Verdict::WheelchairOverload {
+            run,
+            load,
+            capacity,
+        } => write_load(run, load, capacity, &mut *values),
         Verdict::Best => {}
         Verdict::Dearer { by } => write_one(by, &mut *values),
         Verdict::Cheaper { by } => write_one(by, &mut *values),

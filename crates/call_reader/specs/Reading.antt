@@ -30,7 +30,7 @@ use Rattle.call_reader.specs.declared.reading.Read.the-variants.{Refused
 -- ---- the code's records
 
 abbrev pub spaceIn : Load → Space
-spaceIn x = record { seats = x .seats }
+spaceIn x = record { seats = x .seats; wheelchairs = x .wheelchairs }
 
 abbrev pub openingIn : Option (WindowOf Float) → Opening
 openingIn none = Always

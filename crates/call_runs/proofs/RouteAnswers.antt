@@ -26,6 +26,7 @@ use Rattle.refuse_order.specs.Lent.{sheetOf}
 use Rattle.refuse_order.specs.Order.{Refuses, Images}
 use Rattle.evaluation.specs.Records.{LimitsF, Tables, lent, limitsOf}
 use Rattle.visits.specs.declared.evaluator.Built.{Built}
+use Rattle.visits.specs.Visiting.{loadIn}
 use Rattle.visits.specs.Building.{RouteF, Builds, builtOf, buildRouteF}
 use Rattle.visits.specs.Image.{flViolation, flRoute}
 use Rattle.visits.proofs.BuildExact.{built-exact}
@@ -76,7 +77,7 @@ module _ (t : Tables) (capacity : Load) (limits : LimitsF) (s : Sheet) (run : Li
         duration = held i .totals .duration;
         lateness = held i .totals .lateness;
         «lateness_cost» = held i .totals .cost;
-        load = held i .load;
+        load = loadIn (held i .load);
         place = held i .totals .place;
         start = start-held i;
       }

@@ -15,7 +15,7 @@ use Rattle.refuse_order.specs.Lent.{sheetOf, lentOf, Gathered}
 use Rattle.whole.specs.Whole.{fl}
 use Rattle.whole.specs.Value.{value}
 use Rattle.visits.specs.declared.evaluator.Built.{Built}
-use Rattle.visits.specs.Visiting.{blankVisit, blankViolation}
+use Rattle.visits.specs.Visiting.{loadIn, mostViolations, blankVisit, blankViolation}
 use Rattle.visits.specs.Image.{flVisit, flViolation}
 use Rattle.call_runs.specs.declared.visiting.RouteFigures.{RouteFigures}
 use Rattle.call_runs.specs.declared.visiting.Route.{Route}
@@ -42,7 +42,7 @@ figuresOf x =
       duration = fl (x .totals .duration);
       lateness = fl (x .totals .lateness);
       «lateness_cost» = fl (x .totals .pay);
-      load = x .load .seats;
+      load = loadIn (x .load);
       place = x .totals .place;
       start = startIn (Option·map fl (x .start));
     }
@@ -60,7 +60,7 @@ refusedBy number =
       route = Cases.Refused number;
       visits = replicate 128 blankVisit;
       count = 0;
-      violations = replicate 131 blankViolation;
+      violations = replicate mostViolations blankViolation;
       found = 0;
     }
 

@@ -5,9 +5,11 @@ ghost use Rattle.call_runs.specs.Visiting.{routeAnswer, givenBy, refused
 use evaluation::route::Start;
 use models::customer::Customer;
 use models::head::Head;
+use models::load::Load;
 use refuse_order::by_call::refuse_visiting;
 use visits::evaluator;
 use visits::evaluator::Built;
+use visits::visit::MOST_VIOLATIONS;
 use visits::visit::Violation;
 use visits::visit::Visit;
 
@@ -19,7 +21,7 @@ pub struct RouteFigures {
     pub duration: f64,
     pub lateness: f64,
     pub lateness_cost: f64,
-    pub load: u64,
+    pub load: Load,
     pub place: usize,
     pub start: Start,
 }
@@ -34,7 +36,7 @@ pub struct Listed {
     pub route: Route,
     pub visits: [Visit; 128],
     pub count: usize,
-    pub violations: [Violation; 131],
+    pub violations: [Violation; MOST_VIOLATIONS],
     pub found: usize,
 }
 
@@ -57,6 +59,7 @@ fn gives(built: Built) -> Listed
 {
     let visits = built.visits;
     let violations = built.violations;
+    let load = built.load;
     let start = built.start;
     let figures = RouteFigures {
         visits: built.count,
@@ -65,7 +68,7 @@ fn gives(built: Built) -> Listed
         duration: built.duration,
         lateness: built.lateness,
         lateness_cost: built.lateness_cost,
-        load: built.load,
+        load,
         place: built.place,
         start,
     };

@@ -13,7 +13,6 @@ use lib.Dec.{eqb}
 use lib.Ieee.{Float, nan}
 use borrow.Author.Tests.{eqb-true, eqb-false, lt-ltb}
 use Rattle.basics.proofs.TestLaws.{by-test}
-use Rattle.definitions.specs.Load.{ofSeats}
 use Rattle.definitions.specs.Sheet.{WindowOf, CustomerOf}
 use Rattle.models.specs.declared.customer.Customer.{Customer}
 use Rattle.models.specs.Records.{customerOf}
@@ -52,9 +51,12 @@ penalty-back (some p) = refl
 -- the numbers of its record, stored one after the other
 module _ (x : CustomerOf Float) (i : ℕ) where
   pub codes-stored : (l : List ℕ) (a b : ℕ) → a ≡ code (x .window) → b ≡ code (x .penalty)
-      → set (set (set l i (x .demand .seats)) (i + 1) a) (i + 2) b ≡ sets l i (codesOf x)
+      → set (set (set (set l i (x .demand .seats)) (i + 1) (x .demand .wheelchairs)) (i + 2) a) (i + 3) b ≡ sets l i (codesOf x)
   unfolding codesOf
-  codes-stored l a b ea eb = let e : i + 2 ≡ suc (suc i) = omega arith in rw (ea, eb, add-one, e) refl
+  codes-stored l a b ea eb =
+      let e2 : i + 2 ≡ suc (suc i) = omega arith in
+      let e3 : i + 3 ≡ suc (suc (suc i)) = omega arith in
+      rw (ea, eb, add-one, e2, e3) refl
 
   pub figures-stored : (l : List Float) (w : WindowOf Float) (p : Float) → w ≡ timesIn (x .window) → p ≡ priceIn (x .penalty)
       → set (set (set (set l (i + 4) (x .service)) (i + 5) (w .ready)) (i + 6) (w .due)) (i + 7) p ≡ sets l (i + 4) (recordFigures x)
@@ -87,9 +89,14 @@ module _ (x : Numbers) (c : ℕ) where
 module _ (x : Numbers) (c : ℕ) where
   -- its record is read, with what its window and penalty are
   pub record-read : (o : Option (WindowOf Float)) (p : Option Float)
-      → o ≡ openingAt (codeAt x c 1) (figureAt x c 5) (figureAt x c 6) → p ≡ penaltyAt (codeAt x c 2) (figureAt x c 7)
+      → o ≡ openingAt (codeAt x c 2) (figureAt x c 5) (figureAt x c 6) → p ≡ penaltyAt (codeAt x c 3) (figureAt x c 7)
       → _≡_ {A = CustomerOf Float}
-      (record { demand = ofSeats (getD (x .codes) (codesEach * c) 0); service = figureAt x c 4; window = o; penalty = p })
+      (record {
+        demand = record { seats = getD (x .codes) (codesEach * c) 0; wheelchairs = codeAt x c 1 };
+        service = figureAt x c 4;
+        window = o;
+        penalty = p;
+      })
       (stopAt x c .customer)
   unfolding stopAt
   record-read o p eo ep = rw (eo, ep, add-zero (codesEach * c)) refl
@@ -113,7 +120,7 @@ module _ (x : Numbers) (c : ℕ) where
       → ((j : ℕ) → j < figuresEach → figureAt x c j ≡ getD (figuresOf s) j nan) → stopAt x c ≡ s
   unfolding stopAt codesOf figuresOf
   stop-of s n f =
-      rw (n 0 (omega arith), n 1 (omega arith), n 2 (omega arith))
+      rw (n 0 (omega arith), n 1 (omega arith), n 2 (omega arith), n 3 (omega arith))
       (rw (f 0 (omega arith), f 1 (omega arith), f 2 (omega arith), f 3 (omega arith), f 4 (omega arith), f 5 (omega arith), f 6 (omega arith), f 7 (omega arith))
       (rw (opening-back (s .customer .window), penalty-back (s .customer .penalty)) refl))
 
@@ -121,7 +128,7 @@ module _ (x : Numbers) (c : ℕ) where
       → ((j : ℕ) → j < figuresEach → figureAt x' c j ≡ figureAt x c j) → stopAt x' c ≡ stopAt x c
   unfolding stopAt
   same-stop x' n f =
-      rw (n 0 (omega arith), n 1 (omega arith), n 2 (omega arith))
+      rw (n 0 (omega arith), n 1 (omega arith), n 2 (omega arith), n 3 (omega arith))
       (rw (f 0 (omega arith), f 1 (omega arith), f 2 (omega arith), f 3 (omega arith), f 4 (omega arith), f 5 (omega arith), f 6 (omega arith), f 7 (omega arith)) refl)
 
 -- a stop is put at place c

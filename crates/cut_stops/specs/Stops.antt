@@ -9,7 +9,6 @@ use lib.Dec.{eqb}
 use lib.Ieee.{Float, nan}
 use Rattle.basics.specs.Lists.{count}
 use Rattle.cut_theory.specs.Tab.{mostCut}
-use Rattle.definitions.specs.Load.{ofSeats}
 use Rattle.definitions.specs.Sheet.{WindowOf, CustomerOf, timeTable}
 use Rattle.distance.specs.Lookup.{lookupF}
 use Rattle.models.specs.Records.{customerOf}
@@ -55,9 +54,9 @@ abbrev pub priceIn : Option Float → Float
 priceIn none = fl 0
 priceIn (some p) = p
 
--- a record as codes (demand, window, penalty) and four figures, and a stop as these and four figures before them
+-- a record as codes (demand in each measure, window, penalty) and four figures, and a stop as these and four figures before them
 unfoldable pub codesOf : CustomerOf Float → List ℕ
-codesOf x = x .demand .seats ∷ code (x .window) ∷ code (x .penalty) ∷ []
+codesOf x = x .demand .seats ∷ x .demand .wheelchairs ∷ code (x .window) ∷ code (x .penalty) ∷ []
 
 abbrev pub recordFigures : CustomerOf Float → List Float
 recordFigures x = x .service ∷ timesIn (x .window) .ready ∷ timesIn (x .window) .due ∷ priceIn (x .penalty) ∷ []
@@ -67,7 +66,7 @@ figuresOf s = s .out ∷ s .back ∷ s .timeOut ∷ s .timeBack ∷ recordFigure
 
 -- so many codes and figures for each place
 abbrev pub codesEach : ℕ
-codesEach = 3
+codesEach = 4
 
 abbrev pub figuresEach : ℕ
 figuresEach = 8
@@ -98,7 +97,13 @@ stopAt x c =
     let f : ℕ → Float = λ k. getD (x .figures) (figuresEach * c + k) nan in
     let n : ℕ → ℕ = λ k. getD (x .codes) (codesEach * c + k) 0 in
     record {
-      customer = record { demand = ofSeats (n 0); service = f 4; window = openingAt (n 1) (f 5) (f 6); penalty = penaltyAt (n 2) (f 7) };
+      customer =
+          record {
+            demand = record { seats = n 0; wheelchairs = n 1 };
+            service = f 4;
+            window = openingAt (n 2) (f 5) (f 6);
+            penalty = penaltyAt (n 3) (f 7);
+          };
       out = f 0;
       back = f 1;
       timeOut = f 2;

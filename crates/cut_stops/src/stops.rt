@@ -17,9 +17,9 @@ use models::customer::Penalty;
 use models::customer::TimeWindow;
 use models::load::Space;
 
-// So many codes (demand, window, penalty) and figures (four legs, and four of the record) has a place,
-// and so many have all 64.
-const CODES: usize = 3;
+// So many codes (demand in each measure, window, penalty) and figures (four legs, and four of the record)
+// has a place, and so many have all 64.
+const CODES: usize = 4;
 
 const FIGURES: usize = 8;
 
@@ -66,12 +66,13 @@ pub fn customer_at(codes: &[u32], figures: &[f64], c: usize) -> Customer
     let k = CODES * c;
     let f = FIGURES * c;
     let seats = codes[k];
+    let wheelchairs = codes[k + 1];
     let service = figures[f + 4];
     Customer {
-        demand: Space { seats },
+        demand: Space { seats, wheelchairs },
         service_duration: service,
-        time_window: opening_of(codes[k + 1], figures[f + 5], figures[f + 6]),
-        lateness_penalty: penalty_of(codes[k + 2], figures[f + 7]),
+        time_window: opening_of(codes[k + 2], figures[f + 5], figures[f + 6]),
+        lateness_penalty: penalty_of(codes[k + 3], figures[f + 7]),
     }
 }
 
@@ -151,8 +152,9 @@ fn put_customer(
     let times = opening_times(opening);
     let k = CODES * c;
     codes[k] = customer.demand.seats;
-    codes[k + 1] = opening_code(opening);
-    codes[k + 2] = penalty_code(penalty);
+    codes[k + 1] = customer.demand.wheelchairs;
+    codes[k + 2] = opening_code(opening);
+    codes[k + 3] = penalty_code(penalty);
     let f = FIGURES * c;
     figures[f + 4] = customer.service_duration;
     figures[f + 5] = times.ready;

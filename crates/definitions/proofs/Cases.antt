@@ -116,7 +116,7 @@ listedTwice = 1 ∷ 2 ∷ 1 ∷ []
 abbrev toCutTwice : Lent ℕ
 toCutTwice = record { sheet = base; tour = listedTwice; calls = []; ends = []; breaks = []; rooms = 3 ∷ 3 ∷ 3 ∷ [] }
 
-pub case-r : (splitTwOf some toCutTwice ≡ refused 21) × (readWords (encode base listedTwice) false ≡ refusedAt 21 18)
+pub case-r : (splitTwOf some toCutTwice ≡ refused 21) × (readWords (encode [] base listedTwice) false ≡ refusedAt 21 18)
 unfolding answer refusalOf refusals badSheet outOfRange pairsFall anySoft readWords walk faultAt mayStand inRange pairFalls encode bodyWords
 case-r = (refl, refl)
 

@@ -8,8 +8,8 @@ use mathlib.Core.Option.{Option, none, some}
 use Rattle.definitions.specs.Load.{ofSeats}
 use Rattle.definitions.specs.Sheet.{asking, depot, anySoft}
 use Rattle.definitions.specs.Run.{legal}
-use Rattle.definitions.specs.Visits.{windowShut, breakNotPlaceable, overCapacity, overDistance, overDuration, violationNumber, violationValues}
-use Rattle.definitions.specs.Marker.{otherCalls, overload, breakTooLate, windowMissed, breakMissing, tooFar, tooLong, best, dearer, cheaper, verdictNumber, verdictValues}
+use Rattle.definitions.specs.Visits.{windowShut, breakNotPlaceable, overCapacity, overDistance, overDuration, overWheelchairs, violationNumber, violationValues}
+use Rattle.definitions.specs.Marker.{otherCalls, overload, breakTooLate, windowMissed, breakMissing, tooFar, tooLong, best, dearer, cheaper, wheelchairOverload, verdictNumber, verdictValues}
 use Rattle.definitions.specs.RunList.{runsFrom}
 use Rattle.definitions.specs.Sort.{insert, sort}
 use Rattle.definitions.specs.Improver.{checksNeeded}
@@ -104,7 +104,7 @@ near-split-tw = refl
 
 -- ---- Visits and violations
 
-crooked-visits : buildRouteOf some (lend crookedBreak [] (2 ∷ 1 ∷ 1 ∷ []) [] [] (3 ∷ 6 ∷ []))
+crooked-visits : buildRouteOf some (lend crookedBreak [] (2 ∷ 1 ∷ 1 ∷ []) [] [] (3 ∷ 7 ∷ []))
     ≡ gives (record {
       visits = (record { customer = 2; arrival = 7; departure = 12; load = ofSeats 2 } ∷ record { customer = 1; arrival = 20; departure = 21; load = ofSeats 3 }
           ∷ record { customer = 1; arrival = 22; departure = 23; load = ofSeats 4 } ∷ []);
@@ -117,7 +117,7 @@ unfolding answering
 crooked-visits = refl
 
 -- distance 31 is over 30, and the duration is another number
-crooked-too-far : buildRouteOf some (lend crookedHard [] (1 ∷ 1 ∷ 2 ∷ []) [] [] (3 ∷ 6 ∷ []))
+crooked-too-far : buildRouteOf some (lend crookedHard [] (1 ∷ 1 ∷ 2 ∷ []) [] [] (3 ∷ 7 ∷ []))
     ≡ gives (record {
       visits = (record { customer = 1; arrival = 4; departure = 5; load = ofSeats 1 } ∷ record { customer = 1; arrival = 6; departure = 7; load = ofSeats 2 }
           ∷ record { customer = 2; arrival = 10; departure = 12; load = ofSeats 4 } ∷ []);
@@ -130,7 +130,7 @@ crooked-too-far : buildRouteOf some (lend crookedHard [] (1 ∷ 1 ∷ 2 ∷ []) 
 unfolding answering
 crooked-too-far = refl
 
-crooked-back : buildRouteOf some (lend crookedHard [] (2 ∷ 1 ∷ []) [] [] (2 ∷ 5 ∷ []))
+crooked-back : buildRouteOf some (lend crookedHard [] (2 ∷ 1 ∷ []) [] [] (2 ∷ 6 ∷ []))
     ≡ gives (record {
       visits = (record { customer = 2; arrival = 7; departure = 12; load = ofSeats 2 } ∷ record { customer = 1; arrival = 20; departure = 21; load = ofSeats 3 } ∷ []);
       totals = totals 38 30 0 0 1;
@@ -141,7 +141,7 @@ crooked-back : buildRouteOf some (lend crookedHard [] (2 ∷ 1 ∷ []) [] [] (2 
 unfolding answering
 crooked-back = refl
 
-near-visits : buildRouteOf some (lend near [] (1 ∷ 2 ∷ []) [] [] (2 ∷ 5 ∷ []))
+near-visits : buildRouteOf some (lend near [] (1 ∷ 2 ∷ []) [] [] (2 ∷ 6 ∷ []))
     ≡ gives (record {
       visits = (record { customer = 1; arrival = 10; departure = 10; load = ofSeats 2 } ∷ record { customer = 2; arrival = 15; departure = 15; load = ofSeats 4 } ∷ []);
       totals = totals 27 27 0 0 0;
@@ -156,12 +156,12 @@ near-visits-short : buildRouteOf some (lend near [] (1 ∷ 2 ∷ []) [] [] (2 �
 unfolding answering
 near-visits-short = refl
 
-violation-numbers : map violationNumber (windowShut 1 2 3 ∷ breakNotPlaceable ∷ overCapacity 1 2 ∷ overDistance 1 2 ∷ overDuration 1 2 ∷ []) ≡ (1 ∷ 2 ∷ 3 ∷ 4 ∷ 5 ∷ [])
+violation-numbers : map violationNumber (windowShut 1 2 3 ∷ breakNotPlaceable ∷ overCapacity 1 2 ∷ overDistance 1 2 ∷ overDuration 1 2 ∷ overWheelchairs 1 2 ∷ []) ≡ (1 ∷ 2 ∷ 3 ∷ 4 ∷ 5 ∷ 6 ∷ [])
 unfolding answering
 violation-numbers = refl
 
-violation-values : map violationValues (windowShut 1 2 3 ∷ breakNotPlaceable ∷ overCapacity 1 2 ∷ overDistance 1 2 ∷ overDuration 1 2 ∷ [])
-    ≡ ((1 ∷ 2 ∷ 3 ∷ []) ∷ [] ∷ (1 ∷ 2 ∷ []) ∷ (1 ∷ 2 ∷ []) ∷ (1 ∷ 2 ∷ []) ∷ [])
+violation-values : map violationValues (windowShut 1 2 3 ∷ breakNotPlaceable ∷ overCapacity 1 2 ∷ overDistance 1 2 ∷ overDuration 1 2 ∷ overWheelchairs 1 2 ∷ [])
+    ≡ ((1 ∷ 2 ∷ 3 ∷ []) ∷ [] ∷ (1 ∷ 2 ∷ []) ∷ (1 ∷ 2 ∷ []) ∷ (1 ∷ 2 ∷ []) ∷ (1 ∷ 2 ∷ []) ∷ [])
 unfolding answering
 violation-values = refl
 
@@ -177,14 +177,14 @@ unfolding answering
 crooked-dearer = refl
 
 verdict-numbers : map verdictNumber (otherCalls 1 ∷ overload 1 2 3 ∷ breakTooLate 1 2 3 4 5 ∷ windowMissed 1 2 3 4 5 ∷ breakMissing 1 2 3 ∷ tooFar 1 2 3 ∷ tooLong 1 2 3 ∷ best ∷ dearer 1
-    ∷ cheaper 1 ∷ [])
-    ≡ (1 ∷ 2 ∷ 3 ∷ 4 ∷ 5 ∷ 6 ∷ 7 ∷ 8 ∷ 9 ∷ 10 ∷ [])
+    ∷ cheaper 1 ∷ wheelchairOverload 1 2 3 ∷ [])
+    ≡ (1 ∷ 2 ∷ 3 ∷ 4 ∷ 5 ∷ 6 ∷ 7 ∷ 8 ∷ 9 ∷ 10 ∷ 11 ∷ [])
 unfolding answering
 verdict-numbers = refl
 
 verdict-values : map verdictValues (otherCalls 1 ∷ overload 1 2 3 ∷ breakTooLate 1 2 3 4 5 ∷ windowMissed 1 2 3 4 5 ∷ breakMissing 1 2 3 ∷ tooFar 1 2 3 ∷ tooLong 1 2 3 ∷ best ∷ dearer 1
-    ∷ cheaper 1 ∷ [])
-    ≡ ((1 ∷ []) ∷ (1 ∷ 2 ∷ 3 ∷ []) ∷ (1 ∷ 2 ∷ 3 ∷ 4 ∷ 5 ∷ []) ∷ (1 ∷ 2 ∷ 3 ∷ 4 ∷ 5 ∷ []) ∷ (1 ∷ 2 ∷ 3 ∷ []) ∷ (1 ∷ 2 ∷ 3 ∷ []) ∷ (1 ∷ 2 ∷ 3 ∷ []) ∷ [] ∷ (1 ∷ []) ∷ (1 ∷ []) ∷ [])
+    ∷ cheaper 1 ∷ wheelchairOverload 1 2 3 ∷ [])
+    ≡ ((1 ∷ []) ∷ (1 ∷ 2 ∷ 3 ∷ []) ∷ (1 ∷ 2 ∷ 3 ∷ 4 ∷ 5 ∷ []) ∷ (1 ∷ 2 ∷ 3 ∷ 4 ∷ 5 ∷ []) ∷ (1 ∷ 2 ∷ 3 ∷ []) ∷ (1 ∷ 2 ∷ 3 ∷ []) ∷ (1 ∷ 2 ∷ 3 ∷ []) ∷ [] ∷ (1 ∷ []) ∷ (1 ∷ []) ∷ (1 ∷ 2 ∷ 3 ∷ []) ∷ [])
 unfolding answering
 verdict-values = refl
 
@@ -247,19 +247,19 @@ short-times : readInto (64 ∷ 4096 ∷ 4095 ∷ 128 ∷ []) [] ≡ refusedAt 13
 unfolding reading
 short-times = refl
 
-front-customers : readCustomers (readWords (encode crooked (2 ∷ 1 ∷ [])) false) ≡ (depot ∷ asking (ofSeats 1) 1 (window 0 3) (some 2) ∷ asking (ofSeats 2) 2 (window 0 6) (some 5) ∷ [])
+front-customers : readCustomers (readWords (encode [] crooked (2 ∷ 1 ∷ [])) false) ≡ (depot ∷ asking (ofSeats 1) 1 (window 0 3) (some 2) ∷ asking (ofSeats 2) 2 (window 0 6) (some 5) ∷ [])
 unfolding reading
 front-customers = refl
 
-front-distances : readDistances (readWords (encode crooked (2 ∷ 1 ∷ [])) false) ≡ (1 ∷ 10 ∷ 12 ∷ 20 ∷ 3 ∷ 5 ∷ 13 ∷ 6 ∷ 4 ∷ [])
+front-distances : readDistances (readWords (encode [] crooked (2 ∷ 1 ∷ [])) false) ≡ (1 ∷ 10 ∷ 12 ∷ 20 ∷ 3 ∷ 5 ∷ 13 ∷ 6 ∷ 4 ∷ [])
 unfolding reading
 front-distances = refl
 
-front-times : readTimes (readWords (encode crooked (2 ∷ 1 ∷ [])) false) ≡ (2 ∷ 4 ∷ 7 ∷ 9 ∷ 1 ∷ 3 ∷ 5 ∷ 8 ∷ 2 ∷ [])
+front-times : readTimes (readWords (encode [] crooked (2 ∷ 1 ∷ [])) false) ≡ (2 ∷ 4 ∷ 7 ∷ 9 ∷ 1 ∷ 3 ∷ 5 ∷ 8 ∷ 2 ∷ [])
 unfolding reading
 front-times = refl
 
-front-tour : readTour (readWords (encode crooked (2 ∷ 1 ∷ [])) false) ≡ (2 ∷ 1 ∷ [])
+front-tour : readTour (readWords (encode [] crooked (2 ∷ 1 ∷ [])) false) ≡ (2 ∷ 1 ∷ [])
 unfolding reading
 front-tour = refl
 
@@ -269,6 +269,6 @@ far-count = refl
 
 -- ---- The listing
 
-listing-runs : listing (bytesOf (encode listed (1 ∷ 3 ∷ 2 ∷ []))) ≡ text "run 1 rest 1 10\nrun 2 rest 1 12\ndrop 3\ntotal 44 cost 50 served 2 dropped 1\n"
+listing-runs : listing (bytesOf (encode [] listed (1 ∷ 3 ∷ 2 ∷ []))) ≡ text "run 1 rest 1 10\nrun 2 rest 1 12\ndrop 3\ntotal 44 cost 50 served 2 dropped 1\n"
 unfolding listed-text
 listing-runs = refl

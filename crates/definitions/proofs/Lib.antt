@@ -17,5 +17,7 @@ pub mod ImproverCases
 pub mod FurtherSheets
 pub mod FurtherCases
 pub mod RangeCases
+-- Wheelchair places beside seats.
+pub mod WheelchairCases
 -- Laws of loads.
 pub mod LoadLaws

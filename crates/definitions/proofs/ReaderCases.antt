@@ -48,7 +48,7 @@ reads-m : read (file m) ≡ sheet sheet-m tour-m
 unfolding opened
 reads-m = refl
 
-words-m : encode sheet-m tour-m ≡ map wordOf m
+words-m : encode [] sheet-m tour-m ≡ map wordOf m
 unfolding encode bodyWords
 words-m = refl
 

@@ -112,11 +112,11 @@ unfolding opened
 short-result = refl
 
 -- visits, and three more violations than calls
-short-visits : (refusalOf value visiting (toRun base both (1 ∷ 5 ∷ [])) ≡ some 13) × (refusalOf value visiting (toRun base both (2 ∷ 4 ∷ [])) ≡ some 13)
+short-visits : (refusalOf value visiting (toRun base both (1 ∷ 6 ∷ [])) ≡ some 13) × (refusalOf value visiting (toRun base both (2 ∷ 5 ∷ [])) ≡ some 13)
 unfolding opened
 short-visits = (refl, refl)
 
-visits-enough : refusalOf value visiting (toRun base both (2 ∷ 5 ∷ [])) ≡ none
+visits-enough : refusalOf value visiting (toRun base both (2 ∷ 6 ∷ [])) ≡ none
 unfolding opened
 visits-enough = refl
 
@@ -214,7 +214,7 @@ unfolding opened
 repeated = (refl, refl)
 
 -- a run, and a run list, may repeat
-repeated-run : (refusalOf value evaluating (toRun base (1 ∷ 1 ∷ []) []) ≡ none) × (refusalOf value visiting (toRun base (1 ∷ 1 ∷ []) (2 ∷ 5 ∷ [])) ≡ none)
+repeated-run : (refusalOf value evaluating (toRun base (1 ∷ 1 ∷ []) []) ≡ none) × (refusalOf value visiting (toRun base (1 ∷ 1 ∷ []) (2 ∷ 6 ∷ [])) ≡ none)
     × (refusalOf value reversing (toRun base (1 ∷ 1 ∷ []) (2 ∷ [])) ≡ none) × (refusalOf value eliminating (toEliminate base (1 ∷ 1 ∷ []) both (2 ∷ 2 ∷ [])) ≡ none)
     × (refusalOf value marking (toMark base both (1 ∷ 1 ∷ []) (2 ∷ []) (0 ∷ [])) ≡ none)
 unfolding opened
@@ -286,7 +286,7 @@ paid = (refl, refl)
 
 -- and to no other call
 paid-elsewhere : (refusalOf value cutting (toCut pay both rooms) ≡ none) × (refusalOf value evaluating (toRun pay both []) ≡ none)
-    × (refusalOf value visiting (toRun pay both (2 ∷ 5 ∷ [])) ≡ none) × (refusalOf value marking (toMark pay both both (2 ∷ []) (0 ∷ [])) ≡ none)
+    × (refusalOf value visiting (toRun pay both (2 ∷ 6 ∷ [])) ≡ none) × (refusalOf value marking (toMark pay both both (2 ∷ []) (0 ∷ [])) ≡ none)
 unfolding opened
 paid-elsewhere = (refl, refl, refl, refl)
 

@@ -36,7 +36,7 @@ module _ {F : Type 0} (value : F → Option ℕ) where
 
 -- the room that the violations of a run of n calls need
 abbrev pub violationRoom : ℕ → ℕ
-violationRoom n = n + 3
+violationRoom n = n + 4
 
 -- what tells the calls apart
 pub record Call : Type 0 where

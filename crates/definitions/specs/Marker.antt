@@ -6,6 +6,7 @@ use mathlib.Core.Option.{Option, none, some}
 use lib.ListN.{length}
 use lib.Dec.{ltb, eqb}
 use Rattle.basics.specs.Options.{_>>=_, valueOr, orElse, given}
+use Rattle.definitions.specs.Load.{Load, seated}
 use Rattle.definitions.specs.Sheet.{Break, Sheet, customer, time}
 use Rattle.definitions.specs.Window.{dueOf}
 use Rattle.definitions.specs.Limits.{within}
@@ -36,8 +37,11 @@ pub data Verdict : Type 0 where
   best : Verdict
   dearer : (by : ℕ) → Verdict
   cheaper : (by : ℕ) → Verdict
+  -- the second load
+  wheelchairOverload : (run load capacity : ℕ) → Verdict
 
--- the verdicts in the scope document's order, numbered from 1, and the values of each
+-- The verdicts in the scope document's order, numbered from 1, and the values of each. A verdict of a later request takes the next number,
+-- so that those which programs know stay.
 abbrev pub verdictNumber : Verdict → ℕ
 verdictNumber (otherCalls position) = 1
 verdictNumber (overload run load capacity) = 2
@@ -49,6 +53,7 @@ verdictNumber (tooLong run duration limit) = 7
 verdictNumber best = 8
 verdictNumber (dearer by) = 9
 verdictNumber (cheaper by) = 10
+verdictNumber (wheelchairOverload run load capacity) = 11
 
 abbrev pub verdictValues : Verdict → List ℕ
 verdictValues (otherCalls position) = position ∷ []
@@ -61,6 +66,7 @@ verdictValues (tooLong run duration limit) = run ∷ duration ∷ limit ∷ []
 verdictValues best = []
 verdictValues (dearer by) = by ∷ []
 verdictValues (cheaper by) = by ∷ []
+verdictValues (wheelchairOverload run load capacity) = run ∷ load ∷ capacity ∷ []
 
 -- ---- faults
 
@@ -101,10 +107,17 @@ totalFault s n r t =
     (orElse (given (not (within (s .head .maxDistance) (t .distance))) (tooFar n (t .distance) (valueOr 0 (s .head .maxDistance))))
     (given (not (within (s .head .maxDuration) (t .duration))) (tooLong n (t .duration) (valueOr 0 (s .head .maxDuration)))))
 
+-- the measure in which a load is over what the vehicle holds: seats, and where these are within it wheelchair places
+abbrev pub overloadOf : ℕ → Load → Load → Verdict
+overloadOf n load capacity =
+    cond (seated load capacity)
+    (wheelchairOverload n (load .wheelchairs) (capacity .wheelchairs))
+    (overload n (load .seats) (capacity .seats))
+
 -- the first fault of run n: load, the calls, the totals
 unfoldable pub runFault : Sheet → ℕ → Run → Option Verdict
 runFault s n r =
-    orElse (given (not (fits s (r .calls))) (overload n (load s (r .calls) .seats) (s .head .capacity .seats)))
+    orElse (given (not (fits s (r .calls))) (overloadOf n (load s (r .calls)) (s .head .capacity)))
     (orElse (walkFault s n (r .place) 1 0 start (r .calls))
     (ride s r >>= totalFault s n r))
 

@@ -7,12 +7,13 @@ use mathlib.Core.Option.{none, some}
 use lib.ListN.{length, getD, take}
 use Rattle.basics.specs.Options.{present}
 use Rattle.basics.specs.Lists.{isEmpty}
+use Rattle.definitions.specs.Load.{seated}
 use Rattle.definitions.specs.Sheet.{Window, Break, Sheet, customer, time}
 use Rattle.definitions.specs.Limits.{within}
 use Rattle.definitions.specs.Run.{breakStart, ready, Label, start, Run, breakAt, serveAll, lastOf, Totals, ride, load, fits, placed}
 use Rattle.definitions.specs.Cutting.{joined, legalCutting, cuttingCost}
 use Rattle.definitions.specs.Drop.{splitTw}
-use Rattle.definitions.specs.Marker.{Verdict, otherCalls, overload, breakTooLate, windowMissed, breakMissing, tooFar, tooLong, best, dearer, cheaper}
+use Rattle.definitions.specs.Marker.{Verdict, otherCalls, overload, breakTooLate, windowMissed, breakMissing, tooFar, tooLong, best, dearer, cheaper, wheelchairOverload}
 
 -- ---- the runs that are marked: what refusal 5 leaves
 
@@ -37,10 +38,17 @@ pub record Differs (k : ℕ) (xs ys : List ℕ) (p : ℕ) : Type 0 where
 
 -- ---- the faults of a run, in order: each says that the tests before it hold, and which value is over which limit
 
--- the load is over capacity
+-- the seats are over capacity
 pub record Overloaded (s : Sheet) (r : Run) (value limit : ℕ) : Type 0 where
   pub value-is : load s (r .calls) .seats ≡ value
   pub limit-is : s .head .capacity .seats ≡ limit
+  pub over : limit < value
+
+-- the seats are within it, and the second load is over the second capacity
+pub record WheelchairsOver (s : Sheet) (r : Run) (value limit : ℕ) : Type 0 where
+  pub seats-fit : seated (load s (r .calls)) (s .head .capacity) ≡ true
+  pub value-is : load s (r .calls) .wheelchairs ≡ value
+  pub limit-is : s .head .capacity .wheelchairs ≡ limit
   pub over : limit < value
 
 -- call number k of the run, at customer c, is reached: the load fits, and the calls before it are served, which leaves a label
@@ -115,6 +123,7 @@ pub record Long (s : Sheet) (r : Run) (value limit : ℕ) : Type 0 where
 -- the verdict is a fault of run number n: what it then says
 pub data Fails (s : Sheet) (n : ℕ) (r : Run) : Verdict → Type 0 where
   by-load : {value limit : ℕ} → Overloaded s r value limit → Fails s n r (overload n value limit)
+  by-wheelchairs : {value limit : ℕ} → WheelchairsOver s r value limit → Fails s n r (wheelchairOverload n value limit)
   by-break : {k c value limit : ℕ} → BreakLate s r k c value limit → Fails s n r (breakTooLate n k c value limit)
   by-window : {k c value limit : ℕ} → WindowLate s r k c value limit → Fails s n r (windowMissed n k c value limit)
   by-missing : {value limit : ℕ} → BreakLeftOut s r value limit → Fails s n r (breakMissing n value limit)

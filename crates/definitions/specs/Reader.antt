@@ -7,7 +7,7 @@ use lib.Dec.{ltb, eqb}
 use Rattle.basics.specs.Options.{valueOr}
 use Rattle.basics.specs.Lists.{any}
 use Rattle.definitions.specs.Domain.{mostPlaces, mostCalls, isPlaces, isDemand, isCapacity, isPenalty, isNumber, isCall}
-use Rattle.definitions.specs.Load.{ofSeats}
+use Rattle.definitions.specs.Load.{Load}
 use Rattle.definitions.specs.Sheet.{Window, Break, Customer, Sheet, depot}
 use Rattle.definitions.specs.Words.{Word, word, wordsOf, leftOver}
 use Rattle.definitions.specs.Refusal.{Refusal, refusal, firstFit}
@@ -57,19 +57,24 @@ lookup k (a ∷ rest) = cond (eqb k (a .kind)) (a .kinds) (lookup k rest)
 abbrev pub onward : State → ℕ
 onward s = cond (eqb (s .coming) 0) 0xC 7
 
+-- behind a 0: in the head the fixed cost, in a customer the service
+abbrev pub behindSecond : State → ℕ
+behindSecond s = cond (eqb (suc (s .coming)) (s .places)) 3 8
+
 -- which kinds may stand behind which
 abbrev pub table : State → List After
 table s =
     let on : ℕ = onward s in
     let full : ℕ = s .places * s .places in
     after 16 (1 ∷ [])
+    ∷ after 0 (behindSecond s ∷ [])
     ∷ after 1 (2 ∷ [])
-    ∷ after 2 (3 ∷ [])
+    ∷ after 2 (0 ∷ 3 ∷ [])
     ∷ after 3 (4 ∷ 5 ∷ 6 ∷ on ∷ [])
     ∷ after 4 (5 ∷ 6 ∷ on ∷ [])
     ∷ after 5 (6 ∷ on ∷ [])
     ∷ after 6 (cond (ltb (s .row) 3) (6 ∷ []) (on ∷ []))
-    ∷ after 7 (8 ∷ [])
+    ∷ after 7 (0 ∷ 8 ∷ [])
     ∷ after 8 (9 ∷ 0xB ∷ on ∷ [])
     ∷ after 9 (0xA ∷ [])
     ∷ after 0xA (0xB ∷ on ∷ [])
@@ -100,7 +105,8 @@ unfoldable pub inRange : State → Word → Bool
 inRange s w =
     let v = w .value in
     holdsOr (isNumber v) (w .kind)
-    (range 1 (isPlaces v)
+    (range 0 (cond (eqb (s .last .kind) 2) (isCapacity v) (isDemand v))
+    ∷ range 1 (isPlaces v)
     ∷ range 2 (isCapacity v)
     ∷ range 7 (isDemand v)
     ∷ range 0xB (isPenalty v)
@@ -188,11 +194,15 @@ breakOf (e ∷ []) = none
 breakOf (e ∷ l ∷ []) = none
 breakOf (e ∷ l ∷ d ∷ more) = some (record { earliest = e; latest = l; duration = d })
 
+-- so many seats and, in the words before the next customer, the second capacity or demand; absent it is 0
+abbrev pub loadOf : ℕ → List Word → Load
+loadOf seats ws = record { seats = seats; wheelchairs = valueOr 0 (firstOf (valuesOf 0 (own ws))) }
+
 -- the customer with that demand whose other words are ws
 abbrev pub customerOf : ℕ → List Word → Customer
 customerOf demand ws =
     record {
-      demand = ofSeats demand;
+      demand = loadOf demand ws;
       service = valueOr 0 (firstOf (valuesOf 8 ws));
       window = windowOf (valuesOf 9 ws) (valuesOf 0xA ws);
       penalty = firstOf (valuesOf 0xB ws);
@@ -210,7 +220,7 @@ sheetOf ws =
       head =
           record {
             places = valueOr 0 (firstOf (valuesOf 1 ws));
-            capacity = ofSeats (valueOr 0 (firstOf (valuesOf 2 ws)));
+            capacity = loadOf (valueOr 0 (firstOf (valuesOf 2 ws))) ws;
             fixed = valueOr 0 (firstOf (valuesOf 3 ws));
             maxDistance = firstOf (valuesOf 4 ws);
             maxDuration = firstOf (valuesOf 5 ws);

@@ -22,7 +22,7 @@ pub record BreakOf (F : Type 0) : Type 0 where
   pub latest : F
   pub duration : F
 
--- a customer: the seats asked for, how long the service is, and when it may start; record 0 is the depot's
+-- a customer: the seats and wheelchair places asked for, how long the service is, and when it may start; record 0 is the depot's
 pub record CustomerOf (F : Type 0) : Type 0 where
   pub demand : Load
   pub service : F

@@ -5,8 +5,7 @@ use mathlib.Core.List.{List, [], _∷_, _++_}
 use mathlib.Core.Option.{Option}
 use Rattle.basics.specs.Options.{present, valueOr}
 use Rattle.basics.specs.Lists.{isEmpty}
-use lib.Dec.{leb}
-use Rattle.definitions.specs.Load.{Load, noLoad, plus}
+use Rattle.definitions.specs.Load.{Load, noLoad, plus, seated, wheeled}
 use Rattle.definitions.specs.Sheet.{Break, Sheet, customer, time}
 use Rattle.definitions.specs.Window.{dueOf, begins, Entry, enter}
 use Rattle.definitions.specs.Limits.{within}
@@ -31,14 +30,17 @@ pub data Violation : Type 0 where
   overCapacity : (load capacity : ℕ) → Violation
   overDistance : (distance limit : ℕ) → Violation
   overDuration : (duration limit : ℕ) → Violation
+  -- the second load
+  overWheelchairs : (load capacity : ℕ) → Violation
 
--- the violations in the scope document's order, numbered from 1, and the figures of each
+-- The violations in the scope document's order, numbered from 1, and the figures of each. One of a later request takes the next number.
 abbrev pub violationNumber : Violation → ℕ
 violationNumber (windowShut customer readiness due) = 1
 violationNumber breakNotPlaceable = 2
 violationNumber (overCapacity load capacity) = 3
 violationNumber (overDistance distance limit) = 4
 violationNumber (overDuration duration limit) = 5
+violationNumber (overWheelchairs load capacity) = 6
 
 abbrev pub violationValues : Violation → List ℕ
 violationValues (windowShut customer readiness due) = customer ∷ readiness ∷ due ∷ []
@@ -46,6 +48,7 @@ violationValues breakNotPlaceable = []
 violationValues (overCapacity load capacity) = load ∷ capacity ∷ []
 violationValues (overDistance distance limit) = distance ∷ limit ∷ []
 violationValues (overDuration duration limit) = duration ∷ limit ∷ []
+violationValues (overWheelchairs load capacity) = load ∷ capacity ∷ []
 
 -- ---- the walk
 
@@ -105,9 +108,11 @@ abbrev pub unless : Bool → Violation → List Violation
 unless true v = []
 unless false v = v ∷ []
 
--- each measure in which a load is over what a vehicle holds
+-- each measure in which a load is over what a vehicle holds: seats, then wheelchair places
 abbrev pub overloads : Load → Load → List Violation
-overloads load capacity = unless (leb (load .seats) (capacity .seats)) (overCapacity (load .seats) (capacity .seats))
+overloads load capacity =
+    unless (seated load capacity) (overCapacity (load .seats) (capacity .seats))
+    ++ unless (wheeled load capacity) (overWheelchairs (load .wheelchairs) (capacity .wheelchairs))
 
 -- the break is where the clock puts it; an unplaceable break is left out of the visit times
 unfoldable pub buildRoute : Sheet → List ℕ → Route

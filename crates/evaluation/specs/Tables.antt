@@ -1,5 +1,5 @@
 -- What is looked up for a call: its record, what it asks for, the distance and the travel time. Definitions only.
-use Prim.Native.Nat.{ℕ, zero, suc}
+use Prim.Native.Nat.{ℕ, zero, suc, _+_}
 use mathlib.Core.Bool.{cond}
 use mathlib.Core.Path.{_≡_}
 use mathlib.Core.List.{List, [], _∷_}
@@ -29,9 +29,9 @@ recordF t c = getD (t .customers) (recordIndex c) blank
 unfoldable pub demandF : List (CustomerOf Float) → ℕ → Load
 demandF customers c = getD customers (recordIndex c) blank .demand
 
--- what record k asks for, from a list of numbers
+-- what record k asks for, from a list of numbers: the seats of all 64, then their wheelchair places
 abbrev pub askedAt : List ℕ → ℕ → Load
-askedAt demands k = record { seats = getD demands k 0 }
+askedAt demands k = record { seats = getD demands k 0; wheelchairs = getD demands (64 + k) 0 }
 
 -- what a call asks for
 abbrev pub askedF : List ℕ → ℕ → Load

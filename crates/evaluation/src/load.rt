@@ -10,20 +10,20 @@ use crate::schedule::record_index;
 use models::customer::Customer;
 use models::load::Load;
 use models::load::Space;
-use models::load::seats;
 
-// What each record asks for, as numbers: these can be lent, where records would be copied. Whoever adds a measure makes
-// the list longer, and adds a part of the next two functions.
-pub type Demands = [u32; 64];
+// What each record asks for, as numbers, the seats of all and then their wheelchair places: these can be lent, where
+// records would be copied. Whoever adds a measure makes the list longer, and adds a part of the next two functions.
+pub type Demands = [u32; 128];
 
 pub fn demands_of(customers: [Customer; 64]) -> Demands
-    ensures { λ r. ⌜ (length r ≡ 64) × Asks (map customerOf customers) r ⌝ }
+    ensures { λ r. ⌜ (length r ≡ 128) × Asks (map customerOf customers) r ⌝ }
 {
-    let mut demands = [0u32; 64];
+    let mut demands = [0u32; 128];
     let mut i = 0;
     while i < 64 {
         let customer = customers[i];
         demands[i] = customer.demand.seats;
+        demands[64 + i] = customer.demand.wheelchairs;
         i += 1;
     }
     demands
@@ -34,7 +34,9 @@ pub fn demand_at(demands: &Demands, cid: usize) -> Space
     ensures { λ r. ⌜ spaceOf r ≡ askedF (now (demands .entry)) cid ⌝ }
 {
     let index = record_index(cid);
-    seats(demands[index])
+    let seats = demands[index];
+    let wheelchairs = demands[64 + index];
+    Space { seats, wheelchairs }
 }
 
 // What the calls ask for in all.

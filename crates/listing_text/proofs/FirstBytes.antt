@@ -1,4 +1,4 @@
--- The bytes that the program reads are enough: longer input has the same listing as its first 34,317 bytes. Assumes nothing.
+-- The bytes that the program reads are enough: longer input has the same listing as its first 34,573 bytes. Assumes nothing.
 use Prim.Native.Nat.{ℕ, _≤_, _<_}
 use native.Mathlib.Omega.{arith}
 use mathlib.Core.Path.{_≡_, ap, _∙_}
@@ -24,17 +24,17 @@ first-byte : (bs : List ℕ) → 1 ≤ length bs → SomeByte (take 1 bs)
 first-byte [] h = some-byte [] h
 first-byte (b ∷ bs) h = tt
 
-longer : (bytes : List ℕ) → 34317 ≤ length bytes → read (take 34317 bytes) ≡ read bytes
+longer : (bytes : List ℕ) → 34573 ≤ length bytes → read (take 34573 bytes) ≡ read bytes
 longer bytes h =
-    let whole = take 34316 bytes in
-    let behind = drop 34316 bytes in
-    let many : 1 ≤ length behind = omega (arith, length-drop 34316 bytes) in
-    ap read (take-add 34316 1 bytes)
-    ∙ enough whole (take 1 behind) behind (length-take-le 34316 bytes (omega arith)) (first-byte behind many) (some-byte behind many)
-    ∙ ap read (take-append-drop 34316 bytes)
+    let whole = take 34572 bytes in
+    let behind = drop 34572 bytes in
+    let many : 1 ≤ length behind = omega (arith, length-drop 34572 bytes) in
+    ap read (take-add 34572 1 bytes)
+    ∙ enough whole (take 1 behind) behind (length-take-le 34572 bytes (omega arith)) (first-byte behind many) (some-byte behind many)
+    ∙ ap read (take-append-drop 34572 bytes)
 
-pub first-bytes : (bytes : List ℕ) → listing (take 34317 bytes) ≡ listing bytes
+pub first-bytes : (bytes : List ℕ) → listing (take 34573 bytes) ≡ listing bytes
 unfolding listing
 first-bytes bytes =
-    by-test (leb 34317 (length bytes)) (λ y. ap readingText (longer bytes (leb-true 34317 (length bytes) y)))
-    (λ n. let h : length bytes < 34317 = leb-false 34317 (length bytes) n in ap (λ (l : List ℕ). readingText (read l)) (take-all 34317 bytes (omega arith)))
+    by-test (leb 34573 (length bytes)) (λ y. ap readingText (longer bytes (leb-true 34573 (length bytes) y)))
+    (λ n. let h : length bytes < 34573 = leb-false 34573 (length bytes) n in ap (λ (l : List ℕ). readingText (read l)) (take-all 34573 bytes (omega arith)))

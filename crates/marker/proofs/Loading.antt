@@ -9,17 +9,16 @@ use Rattle.definitions.proofs.LoadLaws.{load-by}
 use Rattle.whole.specs.Whole.{fl}
 use Rattle.clock.specs.Serving.{startLabel}
 use Rattle.evaluation.specs.Tables.{askedF, demandF, Asks, loadF}
-use Rattle.marker.specs.declared.verdict.Verdict.the-variants.{Overload}
 use Rattle.marker.specs.declared.run.Marked.the-variants.{Faulty}
 use Rattle.marker.specs.Walking.{walkF}
-use Rattle.marker.specs.RunMark.{Ground, walkMarkF, loadMarkF, runMarkF}
+use Rattle.marker.specs.RunMark.{Ground, overloadF, walkMarkF, loadMarkF, runMarkF}
 
 module _ (G : Ground) (n place : ℕ) (calls demands : List ℕ) (A : Asks (G .tables .customers) demands) (load : Load) (e : load ≡ loadF demands calls) where
   by-load : runMarkF G n calls place ≡ loadMarkF G n calls place load
   unfolding loadF runMarkF
   by-load = ap (loadMarkF G n calls place) (sym (e ∙ load-by (askedF demands) (demandF (G .tables .customers)) calls A))
 
-  pub over : carried load (G .capacity) ≡ false → Faulty (Overload n (load .seats) (G .capacity .seats)) ≡ runMarkF G n calls place
+  pub over : carried load (G .capacity) ≡ false → Faulty (overloadF n load (G .capacity)) ≡ runMarkF G n calls place
   over h = sym (by-load ∙ rw h)
 
   pub carries : carried load (G .capacity) ≡ true

@@ -6,16 +6,17 @@ use mathlib.Core.Path.{_≡_, refl, ap, ap₂, _∙_}
 use mathlib.Core.List.{List, [], _∷_}
 use mathlib.Core.Option.{Option, none, some, Option·map}
 use lib.ListN.{length}
+use Rattle.marker.specs.declared.run.Marked.the-variants.{Faulty}
 use Rattle.basics.proofs.TestLaws.{by-test}
 use Rattle.basics.specs.Options.{_>>=_, Holds, orElse}
 use Rattle.basics.specs.Lists.{All}
 use Rattle.definitions.specs.Domain.{mostCalls}
-use Rattle.definitions.specs.Load.{loadBy, plus}
+use Rattle.definitions.specs.Load.{loadBy, plus, seated}
 use Rattle.definitions.specs.Sheet.{Break, Sheet, time}
 use Rattle.definitions.specs.Limits.{within}
 use Rattle.definitions.specs.Run as Whole
 use Rattle.definitions.specs.Run.{Run, start, serveAll, lastOf, distanceFrom, Totals, home, ride, load, fits, placed, price, runCost}
-use Rattle.definitions.specs.Marker.{walkFault, totalFault, runFault}
+use Rattle.definitions.specs.Marker.{walkFault, totalFault, runFault, overloadOf}
 use Rattle.bounds.specs.Sized as Inside
 use Rattle.bounds.specs.Sized.{SmallBreak, Sized, Place}
 use Rattle.bounds.proofs.Inside.{depot-inside}
@@ -34,8 +35,8 @@ use Rattle.evaluation.proofs.ClockExact.{demand-exact}
 use Rattle.marker.specs.declared.walk.Walked.{Walked}
 use Rattle.marker.specs.declared.run.Marked.{Marked}
 use Rattle.marker.specs.Walking.{walkF}
-use Rattle.marker.specs.RunMark.{Ground, placedF, totalsMarkF, walkMarkF, loadMarkF, runMarkF}
-use Rattle.marker.specs.Image.{flMarked, Image}
+use Rattle.marker.specs.RunMark.{Ground, placedF, totalsMarkF, walkMarkF, loadMarkF, runMarkF, overloadF}
+use Rattle.marker.specs.Image.{flMarked, Image, flVerdict}
 use Rattle.marker.proofs.WalkExact.{break-or-exact, Walks, stops, arrives, walk-exact}
 
 -- the calls as a run with this break place
@@ -119,4 +120,8 @@ module _ (s : Sheet) (S : Sized s) (G : Ground) (I : Image s G) (n place : ℕ) 
   unfolding runMarkF runFault
   run-exact =
       ap (loadMarkF G n calls place) (load-exact s S G I calls inside)
-      ∙ rw (I .capacity-holds, I .limits-hold, I .fixed-holds) (by-test (fits s calls) (λ y. rw y walk-mark-exact) (λ y. rw y))
+      ∙ rw (I .capacity-holds, I .limits-hold, I .fixed-holds) (by-test (fits s calls) (λ y. rw y walk-mark-exact) (λ y. rw y by-measure))
+    where
+      -- each measure has its verdict
+      by-measure : Faulty (overloadF n (load s calls) (s .head .capacity)) ≡ Faulty (flVerdict (overloadOf n (load s calls) (s .head .capacity)))
+      by-measure = by-test (seated (load s calls) (s .head .capacity)) (λ t. rw t) (λ f. rw f)

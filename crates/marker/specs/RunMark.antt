@@ -7,7 +7,7 @@ use lib.Dec.{leb, eqb}
 use lib.ListN.{length}
 use lib.Ieee as Ieee
 use lib.Ieee.{Float, binary64}
-use Rattle.definitions.specs.Load.{Load, carried, loadBy}
+use Rattle.definitions.specs.Load.{Load, seated, carried, loadBy}
 use Rattle.definitions.specs.Sheet.{BreakOf}
 use Rattle.whole.specs.Whole.{fl}
 use Rattle.models.specs.declared.customer.Customer.{Customer}
@@ -19,7 +19,8 @@ use Rattle.clock.specs.Serving.{startLabel}
 use Rattle.clock.specs.Clock.{excusedF}
 use Rattle.evaluation.specs.Records.{Tables, LimitsF, lent, limitsOf}
 use Rattle.evaluation.specs.Tables.{demandF}
-use Rattle.marker.specs.declared.verdict.Verdict.the-variants.{Overload, BreakMissing, TooFar, TooLong}
+use Rattle.marker.specs.declared.verdict.Verdict.{Verdict}
+use Rattle.marker.specs.declared.verdict.Verdict.the-variants.{Overload, BreakMissing, TooFar, TooLong, WheelchairOverload}
 use Rattle.marker.specs.declared.walk.Walked.{Walked}
 use Rattle.marker.specs.declared.walk.Walked.the-variants.{Stopped, Home}
 use Rattle.marker.specs.declared.run.Marked.{Marked}
@@ -65,12 +66,19 @@ abbrev pub walkMarkF : LimitsF → Float → (n place calls : ℕ) → Walked �
 walkMarkF limits fixed n place calls (Stopped v) = Faulty v
 walkMarkF limits fixed n place calls (Home t) = totalsMarkF limits fixed n place calls t
 
+-- the measure in which a load is over what the vehicle holds: seats, and where these are within it wheelchair places
+abbrev pub overloadF : ℕ → Load → Load → Verdict
+overloadF n load capacity =
+    cond (seated load capacity)
+    (WheelchairOverload n (load .wheelchairs) (capacity .wheelchairs))
+    (Overload n (load .seats) (capacity .seats))
+
 -- run n with this load: the load, the calls, the totals
 abbrev pub loadMarkF : Ground → ℕ → List ℕ → ℕ → Load → Marked
 loadMarkF G n calls place load =
     cond (carried load (G .capacity))
     (walkMarkF (G .limits) (G .fixed) n place (length calls) (walkF (G .tables) (G .limits .rest) n place 1 (fl 0) 0 startLabel calls))
-    (Faulty (Overload n (load .seats) (G .capacity .seats)))
+    (Faulty (overloadF n load (G .capacity)))
 
 unfoldable pub runMarkF : Ground → ℕ → List ℕ → ℕ → Marked
 runMarkF G n calls place = loadMarkF G n calls place (loadBy (demandF (G .tables .customers)) calls)

@@ -3,10 +3,11 @@ ghost use mathlib.Core.Path.{_≡_};
 ghost use mathlib.Core.List.{map};
 ghost use Prim.Native.Nat.{_≤_};
 ghost use lib.ListN.{length};
+ghost use Rattle.models.specs.Load.{spaceOf, loadOf};
 ghost use Rattle.models.specs.Records.{customerOf, restOf};
 ghost use Rattle.evaluation.specs.Records.{limitsOf};
 ghost use Rattle.evaluation.specs.Tables.{Asks};
-ghost use Rattle.marker.specs.RunMark.{groundOf, placedF, totalsMarkF, runMarkF};
+ghost use Rattle.marker.specs.RunMark.{groundOf, placedF, totalsMarkF, overloadF, runMarkF};
 use crate::verdict::Verdict;
 use crate::walk::Walked;
 use crate::walk::break_or;
@@ -19,6 +20,8 @@ use models::customer::Customer;
 use models::head::Head;
 use models::limits::RouteLimits;
 use models::limits::limit_or_zero;
+use models::load::Load;
+use models::load::Space;
 use models::vehicle::Rest;
 
 // The first fault, or what is marked costs so much.
@@ -81,6 +84,25 @@ pub fn mark_totals(
     Marked::Costs(fixed + distance + totals.cost)
 }
 
+// The measure in which a load that does not fit is over what the vehicle holds: seats, and where these are within it
+// wheelchair places.
+pub fn overload(run: usize, load: Load, capacity: Space) -> Verdict
+    ensures { λ r. ⌜ r ≡ overloadF run (loadOf load) (spaceOf capacity) ⌝ }
+{
+    if load.seated(capacity) {
+        return Verdict::WheelchairOverload {
+            run,
+            load: load.wheelchairs,
+            capacity: capacity.wheelchairs,
+        };
+    }
+    Verdict::Overload {
+        run,
+        load: load.seats,
+        capacity: capacity.seats,
+    }
+}
+
 // The first fault of run number `run` with its break place, or its cost. The demands are what the customers ask for.
 pub fn mark_run(
     run: usize,
@@ -101,11 +123,7 @@ pub fn mark_run(
     let load = load_of(calls, demands);
     let capacity = head.capacity;
     if !load.fits(capacity) {
-        return Marked::Faulty(Verdict::Overload {
-            run,
-            load: load.seats,
-            capacity: capacity.seats,
-        });
+        return Marked::Faulty(overload(run, load, capacity));
     }
     let limits = head.limits;
     let rest = limits.rest;

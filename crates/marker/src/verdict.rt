@@ -48,4 +48,10 @@ pub enum Verdict {
     Cheaper {
         by: f64,
     },
+    // The second load.
+    WheelchairOverload {
+        run: usize,
+        load: u64,
+        capacity: u32,
+    },
 }

@@ -8,13 +8,13 @@ use Rattle.models.specs.declared.load.Load as Code
 
 -- so many seats, and nothing else
 abbrev pub seatSpace : ℕ → Space
-seatSpace n = record { seats = n }
+seatSpace n = record { seats = n; wheelchairs = 0 }
 
 abbrev pub spaceOf : Space → Load
-spaceOf x = record { seats = x .seats }
+spaceOf x = record { seats = x .seats; wheelchairs = x .wheelchairs }
 
 abbrev pub loadOf : Code.Load → Load
-loadOf x = record { seats = x .seats }
+loadOf x = record { seats = x .seats; wheelchairs = x .wheelchairs }
 
 -- at most what so many calls may ask for
 abbrev pub UpTo : ℕ → Load → Type 0

@@ -19,6 +19,7 @@ use denote.Struct.Struct.{Struct}
 use denote.Struct.Laws as LL
 use denote.Enum.Laws as EL
 use Rattle.lending.proofs.ArrayRows.{Rs, all-makes}
+use Rattle.visits.specs.Visiting.{mostViolations}
 use Rattle.visits.proofs.visit.Visit as Vt
 use Rattle.visits.proofs.visit.Visit.Laws as Vt′
 use Rattle.visits.proofs.visit.Violation as Wt
@@ -47,7 +48,7 @@ abbrev pub AllVisits : RattleType
 AllVisits = Rs Vt.the-type Vt′.the-laws 128
 
 abbrev pub AllViolations : RattleType
-AllViolations = Rs Wt.the-type Wt′.the-laws 131
+AllViolations = Rs Wt.the-type Wt′.the-laws mostViolations
 
 pub route-makes : {M : Type 1} (𝓤 : URA M) (H : Heap 𝓤) (A : Atoms 𝓤) → Makes 𝓤 H A RouteRow (Is RouteRow)
 route-makes = EL.makes Rt.the-type Rt′.the-plain
@@ -63,7 +64,7 @@ module _ {M : Type 1} (𝓤 : URA M) (H : Heap 𝓤) (A : Atoms 𝓤) (W : Given
   visits-make = all-makes Vt.the-type Vt′.the-laws 128 𝓤 H A W Vt′.the-plain
 
   pub violations-make : Makes 𝓤 H A AllViolations (Is AllViolations)
-  violations-make = all-makes Wt.the-type Wt′.the-laws 131 𝓤 H A W Wt′.the-plain
+  violations-make = all-makes Wt.the-type Wt′.the-laws mostViolations 𝓤 H A W Wt′.the-plain
 
 -- ---- an array of records that is a field holds their tuples
 
@@ -119,7 +120,7 @@ module _ (r : Listed) where
     count-holds = LL.owed Lt.the-type Lt′.the-laws r (mach ∷ []) is .1 .1 .0
 
     pub violations-hold : Is AllViolations (r .violations) (violations-val ∷ [])
-    violations-hold = records Wt.the-type 131 (r .violations) _ (LL.owed Lt.the-type Lt′.the-laws r (mach ∷ []) is .1 .1 .1 .0)
+    violations-hold = records Wt.the-type mostViolations (r .violations) _ (LL.owed Lt.the-type Lt′.the-laws r (mach ∷ []) is .1 .1 .1 .0)
 
     pub found-holds : Is usize (r .found) (found-val ∷ [])
     found-holds = LL.owed Lt.the-type Lt′.the-laws r (mach ∷ []) is .1 .1 .1 .1 .0

@@ -5,7 +5,7 @@ pub enum Results {
     Nothing,
     // Served customers, run ends and dropped positions, each as long as the tour.
     Cut,
-    // Visits as many as the calls, and violations three more.
+    // Visits as many as the calls, and violations four more.
     Visits,
     // Calls, as many as are lent.
     Run,

@@ -44,7 +44,7 @@ pub fn results_short(
             short(&needs, rooms)
         }
         Results::Visits => {
-            let needs = [n, n + 3];
+            let needs = [n, n + 4];
             short(&needs, rooms)
         }
         Results::Run => {

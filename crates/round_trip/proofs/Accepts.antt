@@ -3,24 +3,24 @@ use Prim.Native.Nat.{ℕ, suc, pred, _+_, _*_, _≤_, _<_}
 use native.Mathlib.Omega.{arith}
 use native.Mathlib.Nat.{mul-le-mul}
 use mathlib.Core.Path.{_≡_, refl, sym, ap, subst, _∙_}
-use mathlib.Core.Bool.{Bool, true, false, not}
-use mathlib.Core.List.{List, [], _∷_, _++_, append-assoc, cons≢nil}
+use mathlib.Core.Bool.{Bool, true, false, cond, not}
+use mathlib.Core.List.{List, [], _∷_, _++_, append-assoc, cons≢nil, tail}
 use mathlib.Core.Option.{Option, none, some}
 use mathlib.Core.Logic.{inl, inr}
 use lib.ListN.{length, drop, length-append}
 use lib.Dec.{eqb, ltb, leb, eqb·suc-zero}
-use borrow.Author.Tests.{leb-true, eq-eqb, lt-ltb, le-ltb}
-use Rattle.basics.proofs.TestLaws.{by-test, and-left, or-left, or-right}
+use borrow.Author.Tests.{leb-true, eq-eqb, ne-eqb, lt-ltb, le-ltb}
+use Rattle.basics.proofs.TestLaws.{by-test, both, and-left, or-left, or-right}
 use Rattle.basics.specs.Options.{Holds, IfAny}
 use Rattle.basics.specs.Lists.{All, Passes}
-use Rattle.definitions.specs.Domain.{isPenalty, isNumber, isCall}
+use Rattle.definitions.specs.Domain.{isDemand, isCapacity, isPenalty, isNumber, isCall}
 use Rattle.definitions.specs.Sheet.{Window, Break, Customer, Sheet}
 use Rattle.definitions.specs.Words.{Word, word}
-use Rattle.definitions.specs.Encoding.{optional, breakWords, windowWords, customerWords}
+use Rattle.definitions.specs.Encoding.{optional, isSaid, secondWords, breakWords, windowWords, customerWords}
 use Rattle.definitions.specs.Refusal.{firstFit}
-use Rattle.definitions.specs.Reader.{State, start, next, onward, mayStand, inRange, pairFalls, among, faults, faultAt, accepted, behind, walk}
+use Rattle.definitions.specs.Reader.{State, start, next, onward, behindSecond, mayStand, inRange, pairFalls, among, faults, faultAt, accepted, behind, walk}
+use Rattle.round_trip.proofs.Says.{second, second-is, second-any, callWords, timeWords, tableWords, limitWords, fromCustomers, fromLimits, behindSeats, allWords, others}
 use Rattle.theorems.proofs.Again.{again, again-repeats}
-use Rattle.round_trip.proofs.Says.{callWords, timeWords, tableWords, limitWords, allWords, others}
 use Rattle.round_trip.proofs.Good.{GoodWindow, GoodBreak, GoodCustomer, AsMany, GoodSheet, GoodTour}
 
 -- the state behind the word of kind k and value v, the r-th of its kind in a row, where the tour has these calls
@@ -107,6 +107,54 @@ distances-ok v r n d i (c ∷ ds) ts tour f z a h at m C e =
     (record { stands = rw (lt-ltb r (n * n) (omega arith)) refl; ranged = a .0; others = refl })
     ∙ distances-ok c (suc r) n d (suc i) ds ts tour f z (a .1) (omega arith) at m C (omega arith)
 
+-- ---- a second capacity or demand
+
+-- behind a word of kind k a 0 or a word of kind j may stand, and that kind behind the 0
+pub record Seconds (j k v r n d : ℕ) : Type 0 where
+  pub either : mayStand (behindWord k v r n d) ≡ 0 ∷ j ∷ []
+  pub follows : behindSecond (behindWord k v r n d) ≡ j
+  pub apart : eqb j k ≡ false
+  pub apart-0 : eqb j 0 ≡ false
+
+-- in the head, where all customers are to come, and in a customer
+pub seconds-head : (v r n : ℕ) → 1 ≤ n → Seconds 3 2 v r n (pred n)
+unfolding mayStand
+seconds-head v r n h = record { either = refl; follows = rw (eq-eqb (suc (pred n)) n (omega arith)) refl; apart = refl; apart-0 = refl }
+
+pub seconds-customer : (v r n d : ℕ) → suc d < n → Seconds 8 7 v r n d
+unfolding mayStand
+seconds-customer v r n d h = record { either = refl; follows = rw (ne-eqb (suc d) n fewer) refl; apart = refl; apart-0 = refl }
+  where
+    fewer : suc d ≡ n → ⊥
+    fewer e = omega arith
+
+-- the range of the second, behind a word of kind k
+abbrev pub secondRange : ℕ → ℕ → Bool
+secondRange k m = cond (eqb k 2) (isCapacity m) (isDemand m)
+
+-- what is left to show: the rest, which begins with a word of kind j, is accepted wherever that kind may stand
+record Follows (j n d i : ℕ) (rest : List Word) : Type 0 where
+  from : (k v r : ℕ) → eqb j k ≡ false → among j (mayStand (behindWord k v r n d)) ≡ true → Accepted (behindWord k v r n d) i rest
+
+-- the same index, written otherwise
+follows-at : {j n d a b : ℕ} {rest : List Word} → Follows j n d a rest → a ≡ b → Follows j n d b rest
+follows-at {j} {n} {d} {rest} on e = subst (λ (q : ℕ). Follows j n d q rest) e on
+
+second-ok : (b : Bool) (m j k v r n d i : ℕ) (rest : List Word) → Seconds j k v r n d → secondRange k m ≡ true
+    → Follows j n d (i + length (secondWords b m)) rest → Accepted (behindWord k v r n d) i (secondWords b m ++ rest)
+unfolding mayStand inRange pairFalls
+second-ok b m j k v r n d i rest S g on =
+    rw (second-is b m) (go (second b m) (second-any (secondRange k) b m g) (subst (λ (l : List Word). Follows j n d (i + length l) rest) (second-is b m) on))
+  where
+    same : eqb j j ≡ true
+    same = eq-eqb j j refl
+
+    go : (o : Option ℕ) → IfAny (secondRange k) o → Follows j n d (i + length (optional 0 o)) rest → Accepted (behindWord k v r n d) i (optional 0 o ++ rest)
+    go none p F = follows-at {b = i} F (omega arith) .from k v r (S .apart) (rw (S .either, S .apart-0, same))
+    go (some x) p F =
+        step (behindWord k v r n d) i 0 x rest false refl (record { stands = rw (S .either) refl; ranged = p; others = refl })
+        ∙ follows-at {b = suc i} F (omega arith) .from 0 x (cond (eqb 0 k) (suc r) 1) (S .apart-0) (ap (λ (q : ℕ). among j (q ∷ [])) (S .follows) ∙ rw same refl)
+
 -- ---- the customers
 
 -- a kind, and how many of it in a row, behind which the next customer or the distances stand
@@ -178,32 +226,59 @@ seven-next k v r n d E =
     let seven : onward s ≡ 7 = rw (eqb·suc-zero d) refl in
     sym (ap (λ (j : ℕ). among j (mayStand s)) seven) ∙ E .on v n (suc d)
 
-customers-ok : (cs : List Customer) (k v r n i : ℕ) (rest : List Word) → All GoodCustomer cs → Ends k r
-    → Onward n 0 (i + length (customerWords cs)) rest → Accepted (behindWord k v r n (length cs)) i (customerWords cs ++ rest)
+-- the words of a customer and the rest; and the index of the rest, where they begin at index i
+abbrev pub customerThen : Bool → Customer → List Word → List Word
+customerThen b c rest =
+    word 7 (c .demand .seats) ∷ (secondWords b (c .demand .wheelchairs) ++ (word 8 (c .service) ∷ (windowWords (c .window) ++ (optional 0xB (c .penalty) ++ rest))))
+
+abbrev pub behindCustomer : Bool → Customer → ℕ → ℕ
+behindCustomer b c i = suc (suc i + length (secondWords b (c .demand .wheelchairs))) + length (windowWords (c .window)) + length (optional 0xB (c .penalty))
+
+pub customer-then : (said : List Bool) (c : Customer) (cs : List Customer) (rest : List Word)
+    → customerWords said (c ∷ cs) ++ rest ≡ customerThen (isSaid said) c (customerWords (tail said) cs ++ rest)
+customer-then said c cs rest = simp append-assoc
+
+pub behind-customer : (said : List Bool) (c : Customer) (cs : List Customer) (i : ℕ)
+    → i + length (customerWords said (c ∷ cs)) ≡ behindCustomer (isSaid said) c i + length (customerWords (tail said) cs)
+behind-customer said c cs i = simp length-append (omega arith)
+
+customer-ok : (b : Bool) (c : Customer) (k v r n d i : ℕ) (rest : List Word) → suc d < n → GoodCustomer c → Ends k r
+    → Onward n d (behindCustomer b c i) rest → Accepted (behindWord k v r n (suc d)) i (customerThen b c rest)
 unfolding mayStand inRange pairFalls
-customers-ok [] k v r n i rest g E on = at-index {j = i} on (omega arith) .from k v r E
-customers-ok (c ∷ cs) k v r n i rest g E on =
-    ap (λ (l : List Word). walk (behindWord k v r n (suc (length cs))) i l false) split
-    ∙ step (behindWord k v r n (suc (length cs))) i 7 (c .demand .seats) (word 8 (c .service) ∷ (inner ++ (customerWords cs ++ rest))) false refl
-    (record { stands = seven-next k v r n (length cs) E; ranged = g .0 .demand; others = refl })
-    ∙ step (next (behindWord k v r n (suc (length cs))) (word 7 (c .demand .seats))) (suc i) 8 (c .service) (inner ++ (customerWords cs ++ rest)) false refl
-    (record { stands = refl; ranged = g .0 .service; others = refl })
-    ∙ ap (λ (l : List Word). walk (behindWord 8 (c .service) 1 n (length cs)) (suc (suc i)) l false) (append-assoc (windowWords (c .window)) (optional 0xB (c .penalty)) (customerWords cs ++ rest))
-    ∙ inner-ok (c .window) (c .penalty) (c .service) n (length cs) (suc (suc i)) (customerWords cs ++ rest) (g .0 .window) (g .0 .penalty)
-    (record { from = λ k' v' r' E'. customers-ok cs k' v' r' n j rest (g .1) E' (at-index on total) })
+customer-ok b c k v r n d i rest l g E on =
+    step (behindWord k v r n (suc d)) i 7 (c .demand .seats) (secondWords b (c .demand .wheelchairs) ++ serviced) false refl
+    (record { stands = seven-next k v r n d E; ranged = demand .0; others = refl })
+    ∙ second-ok b (c .demand .wheelchairs) 8 7 (c .demand .seats) row n d (suc i) serviced
+    (seconds-customer (c .demand .seats) row n d l) (demand .1) (record { from = from-service })
   where
+    demand : (isDemand (c .demand .seats) ≡ true) × (isDemand (c .demand .wheelchairs) ≡ true)
+    demand = both (isDemand (c .demand .seats)) (isDemand (c .demand .wheelchairs)) (g .demand)
+
+    row : ℕ
+    row = cond (eqb 7 k) (suc r) 1
+
     inner : List Word
-    inner = windowWords (c .window) ++ optional 0xB (c .penalty)
+    inner = windowWords (c .window) ++ (optional 0xB (c .penalty) ++ rest)
 
-    j : ℕ
-    j = suc (suc i) + length (windowWords (c .window)) + length (optional 0xB (c .penalty))
+    serviced : List Word
+    serviced = word 8 (c .service) ∷ inner
 
-    split : customerWords (c ∷ cs) ++ rest ≡ word 7 (c .demand .seats) ∷ word 8 (c .service) ∷ (inner ++ (customerWords cs ++ rest))
-    split = simp append-assoc
+    -- the index of the 8
+    at8 : ℕ
+    at8 = suc i + length (secondWords b (c .demand .wheelchairs))
 
-    total : i + length (customerWords (c ∷ cs)) ≡ j + length (customerWords cs)
-    total =
-        omega (arith, length-append (windowWords (c .window) ++ optional 0xB (c .penalty)) (customerWords cs), length-append (windowWords (c .window)) (optional 0xB (c .penalty)))
+    from-service : (k v r : ℕ) → eqb 8 k ≡ false → among 8 (mayStand (behindWord k v r n d)) ≡ true → Accepted (behindWord k v r n d) at8 serviced
+    from-service k v r h m =
+        step (behindWord k v r n d) at8 8 (c .service) inner false refl (record { stands = m; ranged = g .service; others = refl })
+        ∙ rw h (inner-ok (c .window) (c .penalty) (c .service) n d (suc at8) rest (g .window) (g .penalty) on)
+
+customers-ok : (said : List Bool) (cs : List Customer) (k v r n i : ℕ) (rest : List Word) → length cs < n → All GoodCustomer cs → Ends k r
+    → Onward n 0 (i + length (customerWords said cs)) rest → Accepted (behindWord k v r n (length cs)) i (customerWords said cs ++ rest)
+customers-ok said [] k v r n i rest l g E on = at-index {j = i} on (omega arith) .from k v r E
+customers-ok said (c ∷ cs) k v r n i rest l g E on =
+    ap (λ (ws : List Word). walk (behindWord k v r n (suc (length cs))) i ws false) (customer-then said c cs rest)
+    ∙ customer-ok (isSaid said) c k v r n (length cs) i (customerWords (tail said) cs ++ rest) l (g .0) E
+    (record { from = λ k' v' r' E'. customers-ok (tail said) cs k' v' r' n (behindCustomer (isSaid said) c i) rest (omega arith) (g .1) E' (at-index on (behind-customer said c cs i)) })
 
 -- ---- all but the three first words
 
@@ -246,49 +321,64 @@ limits-ok (some l) (some t) br v n d i rest a b g on =
 
 -- ---- the whole sheet
 
--- how many words stand before the customers' words, and before F
-abbrev limitsEnd : Sheet → ℕ
-limitsEnd s = 3 + length (optional 4 (s .head .maxDistance)) + length (optional 5 (s .head .maxDuration)) + length (breakWords (s .head .rest))
+-- how many words stand before the 3, before the customers' words, before the tables, and before F
+abbrev fixedAt : List Bool → Sheet → ℕ
+fixedAt said s = 2 + length (secondWords (isSaid said) (s .head .capacity .wheelchairs))
 
-abbrev pub wordCount : Sheet → List ℕ → ℕ
-wordCount s tour = limitsEnd s + length (customerWords (others s)) + length (s .legs .distances) + length (s .legs .times) + length tour
+abbrev limitsEnd : List Bool → Sheet → ℕ
+limitsEnd said s = suc (fixedAt said s) + length (optional 4 (s .head .maxDistance)) + length (optional 5 (s .head .maxDuration)) + length (breakWords (s .head .rest))
 
-pub all-ok : (s : Sheet) (tour : List ℕ) → GoodSheet s → GoodTour (s .head .places) tour → walk start 0 (allWords s tour (wordCount s tour)) false ≡ accepted
+abbrev customersEnd : List Bool → Sheet → ℕ
+customersEnd said s = limitsEnd said s + length (customerWords (tail said) (others s))
+
+abbrev pub wordCount : List Bool → Sheet → List ℕ → ℕ
+wordCount said s tour = customersEnd said s + length (s .legs .distances) + length (s .legs .times) + length tour
+
+pub all-ok : (said : List Bool) (s : Sheet) (tour : List ℕ) → GoodSheet s → GoodTour (s .head .places) tour
+    → walk start 0 (allWords said s tour (wordCount said s tour)) false ≡ accepted
 unfolding mayStand inRange pairFalls
-all-ok s tour G C =
-    step start 0 1 n (word 2 (s .head .capacity .seats) ∷ word 3 (s .head .fixed) ∷ rest) false refl (record { stands = refl; ranged = G .places; others = refl })
-    ∙ step (behindWord 1 n 1 n (pred n)) 1 2 (s .head .capacity .seats) (word 3 (s .head .fixed) ∷ rest) false refl (record { stands = refl; ranged = G .capacity; others = refl })
-    ∙ step (behindWord 2 (s .head .capacity .seats) 1 n (pred n)) 2 3 (s .head .fixed) rest false refl (record { stands = refl; ranged = G .fixed; others = refl })
-    ∙ limits-ok (s .head .maxDistance) (s .head .maxDuration) (s .head .rest) (s .head .fixed) n (pred n) 3 behind (G .maxDistance) (G .maxDuration) (G .rest) from-customers
+all-ok said s tour G C =
+    step start 0 1 n (word 2 (s .head .capacity .seats) ∷ behindSeats said s tour f) false refl (record { stands = refl; ranged = G .places; others = refl })
+    ∙ step (behindWord 1 n 1 n (pred n)) 1 2 (s .head .capacity .seats) (behindSeats said s tour f) false refl (record { stands = refl; ranged = capacity .0; others = refl })
+    ∙ second-ok (isSaid said) (s .head .capacity .wheelchairs) 3 2 (s .head .capacity .seats) 1 n (pred n) 2 fixed
+    (seconds-head (s .head .capacity .seats) 1 n some-place) (capacity .1) (record { from = from-fixed })
   where
     n : ℕ
     n = s .head .places
 
-    tables : List Word
-    tables = tableWords (s .legs .distances) (s .legs .times) tour (wordCount s tour)
+    f : ℕ
+    f = wordCount said s tour
 
-    behind : List Word
-    behind = customerWords (others s) ++ tables
+    capacity : (isCapacity (s .head .capacity .seats) ≡ true) × (isCapacity (s .head .capacity .wheelchairs) ≡ true)
+    capacity = both (isCapacity (s .head .capacity .seats)) (isCapacity (s .head .capacity .wheelchairs)) (G .capacity)
 
-    rest : List Word
-    rest = limitWords (s .head .maxDistance) (s .head .maxDuration) (s .head .rest) behind
+    fixed : List Word
+    fixed = word 3 (s .head .fixed) ∷ fromLimits said s tour f
 
     some-place : 1 ≤ n
     some-place = leb-true 1 n (and-left (leb 1 n) (leb n 64) (G .places))
 
-    from-tables : Onward n 0 (limitsEnd s + length (customerWords (others s))) tables
+    from-tables : Onward n 0 (customersEnd said s) (tableWords (s .legs .distances) (s .legs .times) tour f)
     from-tables = record {
       from = λ k v r E.
-          tables-ok k v r n (limitsEnd s + length (customerWords (others s))) (s .legs .distances) (s .legs .times) tour (wordCount s tour)
+          tables-ok k v r n (customersEnd said s) (s .legs .distances) (s .legs .times) tour f
           E (mul-le-mul some-place some-place) (G .distances) (G .square) (G .times) (G .as-many) C refl;
     }
 
     others-counted : length (others s) ≡ pred n
     others-counted = omega (arith, G .counted, ap length (G .first))
 
-    from-customers : Onward n (pred n) (limitsEnd s) behind
+    from-customers : Onward n (pred n) (limitsEnd said s) (fromCustomers said s tour f)
     from-customers = record {
       from = λ k v r E.
-          subst (λ (d : ℕ). Accepted (behindWord k v r n d) (limitsEnd s) behind) others-counted
-          (customers-ok (others s) k v r n (limitsEnd s) tables (G .customers) E from-tables);
+          subst (λ (d : ℕ). Accepted (behindWord k v r n d) (limitsEnd said s) (fromCustomers said s tour f)) others-counted
+          (customers-ok (tail said) (others s) k v r n (limitsEnd said s) (tableWords (s .legs .distances) (s .legs .times) tour f)
+          (omega (arith, others-counted, some-place)) (G .customers) E from-tables);
     }
+
+    from-fixed : (k v r : ℕ) → eqb 3 k ≡ false → among 3 (mayStand (behindWord k v r n (pred n))) ≡ true
+        → Accepted (behindWord k v r n (pred n)) (fixedAt said s) fixed
+    from-fixed k v r h m =
+        step (behindWord k v r n (pred n)) (fixedAt said s) 3 (s .head .fixed) (fromLimits said s tour f) false refl (record { stands = m; ranged = G .fixed; others = refl })
+        ∙ rw h (limits-ok (s .head .maxDistance) (s .head .maxDuration) (s .head .rest) (s .head .fixed) n (pred n) (suc (fixedAt said s)) (fromCustomers said s tour f)
+        (G .maxDistance) (G .maxDuration) (G .rest) from-customers)

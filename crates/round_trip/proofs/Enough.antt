@@ -1,4 +1,4 @@
--- The longest sheet has 8,579 words, and of a longer file no more than one byte behind them is needed to answer.
+-- The longest sheet has 8,643 words, and of a longer file no more than one byte behind them is needed to answer.
 use Prim.Native.Nat.{ℕ, zero, suc, _+_, _-_, _*_, pred, _≤_, _<_}
 use native.Mathlib.Omega.{arith}
 use native.Mathlib.Nat.{mul-le-mul}
@@ -9,11 +9,11 @@ use mathlib.Core.Option.{Option, none, some}
 use mathlib.Core.Logic.{_⊎_, inl, inr}
 use lib.ListN.{length}
 use lib.Dec.{eqb, ltb, leb}
-use borrow.Author.Tests.{eqb-true, eqb-false, ltb-true, leb-true}
+use borrow.Author.Tests.{eqb-true, eqb-false, ne-eqb, ltb-true, leb-true}
 use Rattle.basics.proofs.TestLaws.{by-test, and-left, and-right, or-false, not-false}
 use Rattle.definitions.specs.Domain.{isCall}
 use Rattle.definitions.specs.Words.{Word, word, wordOf, littleEndian, wordsOf, leftOver}
-use Rattle.definitions.specs.Reader.{State, start, next, After, lookup, onward, table, mayStand, inRange, among, repeated, faults, faultAt, Outcome, refused, behind, unless, walk, read, readWords}
+use Rattle.definitions.specs.Reader.{State, start, next, After, lookup, onward, behindSecond, table, mayStand, inRange, among, repeated, faults, faultAt, Outcome, refused, behind, unless, walk, read, readWords}
 use Rattle.definitions.specs.Refusals.{repeats}
 use Rattle.theorems.proofs.InOrder.{none-fits}
 use Rattle.theorems.proofs.Repeats.{UpTo, up-to-few, call-up-to}
@@ -22,7 +22,11 @@ use Rattle.round_trip.proofs.ByKind.{ByKind, no-other, _or_, by-kind}
 
 -- how many words may come before F, from the next customer on
 abbrev rest : ℕ → ℕ → ℕ
-rest n d = 5 * d + (n * n + n * n) + 63
+rest n d = 6 * d + (n * n + n * n) + 63
+
+-- and before that, behind a second capacity or demand: in the head the fixed cost, the limits and the break, in a customer the service, the window and the penalty
+abbrev behind0 : ℕ → ℕ → ℕ
+behind0 n d = cond (eqb (suc d) n) 6 4
 
 -- a line of the table below: behind a word of this kind so many words may come before F
 record Most : Type 0 where
@@ -40,14 +44,15 @@ wordsOr n k (m ∷ more) = cond (eqb k (m .kind)) (m .words) (wordsOr n k more)
 abbrev most : ℕ → ℕ → ℕ → ℕ → ℕ → ℕ
 most k r n d m =
     wordsOr (63 - m) k
-    (most-of 16 8578
-    ∷ most-of 1 (7 + rest n d)
-    ∷ most-of 2 (6 + rest n d)
+    (most-of 16 8642
+    ∷ most-of 0 (behind0 n d + rest n d)
+    ∷ most-of 1 (8 + rest n d)
+    ∷ most-of 2 (7 + rest n d)
     ∷ most-of 3 (5 + rest n d)
     ∷ most-of 4 (4 + rest n d)
     ∷ most-of 5 (3 + rest n d)
     ∷ most-of 6 ((3 - r) + rest n d)
-    ∷ most-of 7 (4 + rest n d)
+    ∷ most-of 7 (suc (behind0 n d) + rest n d)
     ∷ most-of 8 (3 + rest n d)
     ∷ most-of 9 (2 + rest n d)
     ∷ most-of 0xA (1 + rest n d)
@@ -103,41 +108,57 @@ module _ (cs : List ℕ) (v r n d u : ℕ) where
   unfolding inRange
   places-line = (λ g o f. few u (leb-true u 64 (and-right (leb 1 u) (leb u 64) g))) or no-other
     where
-      few : (u : ℕ) → u ≤ 64 → 7 + rest u (pred u) < 8578
+      few : (u : ℕ) → u ≤ 64 → 8 + rest u (pred u) < 8642
       few u h = omega (arith, mul-le-mul h h)
 
   -- words before the next customer
   fewer : {A B C : Type 0} (a b : ℕ) → a < b → A → B → C → a + rest n d < b + rest n d
   fewer a b h g o f = omega arith
 
+  -- behind a 0, a 2 and a 7
+  second-line : ByKind (Lower 0) (behindSecond (behindCalls cs 0 0 r n d) ∷ [])
+  second-line = by-cond (Lower 0) (eqb (suc d) n) 3 8 (λ t. rw t (fewer 5 6 (omega arith))) (λ t. rw t (fewer 3 4 (omega arith))) or no-other
+
+  capacity-line : ByKind (Lower 2) (0 ∷ 3 ∷ [])
+  capacity-line = fewer (behind0 n d) 7 (by-cond (λ (b : ℕ). b < 7) (eqb (suc d) n) 6 4 (λ t. omega arith) (λ t. omega arith)) or fewer 5 7 (omega arith) or no-other
+
+  demand-line : ByKind (Lower 7) (0 ∷ 8 ∷ [])
+  demand-line =
+      fewer (behind0 n d) (suc (behind0 n d)) (omega arith)
+      or fewer 3 (suc (behind0 n d)) (by-cond (λ (b : ℕ). 3 < suc b) (eqb (suc d) n) 6 4 (λ t. omega arith) (λ t. omega arith))
+      or no-other
+
   -- the next customer's first word, or the first distance
-  onwards : 1 ≤ n → (k : ℕ) → eqb 0xC k ≡ false → rest n d ≤ most k r n d (length cs) → ByKind (Lower k) (on ∷ [])
+  onwards : d < n → (k : ℕ) → eqb 0xC k ≡ false → rest n d ≤ most k r n d (length cs) → ByKind (Lower k) (on ∷ [])
   onwards z k c m =
       by-cond (Lower k) (eqb d 0) 0xC 7
-      (λ t g o f. rw c (omega (arith, square n z, eqb-true d 0 t)))
+      (λ t g o f. rw c (omega (arith, square n (omega arith), eqb-true d 0 t)))
       (λ t g o f. next-customer (eqb-false d 0 t))
       or no-other
     where
       some-coming : (d ≡ 0 → ⊥) → 1 ≤ d
       some-coming h = omega arith
 
-      next-customer : (d ≡ 0 → ⊥) → 4 + rest n (pred d) < most k r n d (length cs)
-      next-customer h = omega (arith, some-coming h)
+      in-customer : 1 ≤ d → suc (pred d) ≡ n → ⊥
+      in-customer h e = omega arith
+
+      next-customer : (d ≡ 0 → ⊥) → suc (behind0 n (pred d)) + rest n (pred d) < most k r n d (length cs)
+      next-customer h = rw (ne-eqb (suc (pred d)) n (in-customer (some-coming h))) (omega (arith, some-coming h))
 
   at-least : (a : ℕ) → rest n d ≤ a + rest n d
   at-least a = omega arith
 
-  break-line : 1 ≤ n → ByKind (Lower 6) (cond (ltb r 3) (6 ∷ []) (on ∷ []))
+  break-line : d < n → ByKind (Lower 6) (cond (ltb r 3) (6 ∷ []) (on ∷ []))
   break-line z =
       by-cond (ByKind (Lower 6)) (ltb r 3) (6 ∷ []) (on ∷ [])
       (λ t. fewer (3 - suc r) (3 - r) (omega (arith, ltb-true r 3 t)) or no-other)
       (λ t. onwards z 6 refl (at-least (3 - r)))
 
-  distance-line : 1 ≤ n → ByKind (Lower 0xC) (cond (ltb r (n * n)) (0xC ∷ []) (0xD ∷ 0xE ∷ 0xF ∷ []))
+  distance-line : d < n → ByKind (Lower 0xC) (cond (ltb r (n * n)) (0xC ∷ []) (0xD ∷ 0xE ∷ 0xF ∷ []))
   distance-line z =
       by-cond (ByKind (Lower 0xC)) (ltb r (n * n)) (0xC ∷ []) (0xD ∷ 0xE ∷ 0xF ∷ [])
       (λ t. (λ g o f. omega (arith, ltb-true r (n * n) t)) or no-other)
-      (λ t. (λ g o f. omega (arith, square n z)) or (λ g o f. omega arith) or (λ g o f. absurd (true≢false f)) or no-other)
+      (λ t. (λ g o f. omega (arith, square n (omega arith))) or (λ g o f. omega arith) or (λ g o f. absurd (true≢false f)) or no-other)
 
   time-line : ByKind (Lower 0xD) (cond (ltb r (n * n)) (0xD ∷ []) (0xE ∷ 0xF ∷ []))
   time-line =
@@ -152,16 +173,17 @@ module _ (cs : List ℕ) (v r n d u : ℕ) where
       next-call : Called n (u ∷ cs) → 63 - suc (length cs) < 63 - length cs
       next-call M = omega (arith, up-to-few 63 (u ∷ cs) (M .each) (M .once))
 
-  lines : 1 ≤ n → Called n cs → ByLine (λ k ks. ByKind (Lower k) ks) (table (behindCalls cs 0 0 r n d))
+  lines : d < n → Called n cs → ByLine (λ k ks. ByKind (Lower k) ks) (table (behindCalls cs 0 0 r n d))
   lines z C =
       places-line
-      then (fewer 6 7 (omega arith) or no-other)
-      then (fewer 5 6 (omega arith) or no-other)
+      then second-line
+      then (fewer 7 8 (omega arith) or no-other)
+      then capacity-line
       then (fewer 4 5 (omega arith) or fewer 3 5 (omega arith) or fewer 2 5 (omega arith) or onwards z 3 refl (at-least 5))
       then (fewer 3 4 (omega arith) or fewer 2 4 (omega arith) or onwards z 4 refl (at-least 4))
       then (fewer 2 3 (omega arith) or onwards z 5 refl (at-least 3))
       then break-line z
-      then (fewer 3 4 (omega arith) or no-other)
+      then demand-line
       then (fewer 2 3 (omega arith) or fewer 0 3 (omega arith) or onwards z 8 refl (at-least 3))
       then (fewer 1 2 (omega arith) or no-other)
       then (fewer 0 1 (omega arith) or onwards z 0xA refl (at-least 1))
@@ -171,9 +193,9 @@ module _ (cs : List ℕ) (v r n d u : ℕ) where
       then call-line C
       then no-line
 
--- no word yet, or some place
+-- no word yet, or fewer customers to come than places
 abbrev Begun : State → Type 0
-Begun s = (s .last .kind ≡ 16) ⊎ (1 ≤ s .places)
+Begun s = (s .last .kind ≡ 16) ⊎ (s .coming < s .places)
 
 -- a good word that is not F lowers it
 lowers : (s : State) (w : Word) → Begun s → Called (s .places) (s .called) → among (w .kind) (mayStand s) ≡ true → inRange s w ≡ true → repeated s w ≡ false
@@ -215,18 +237,24 @@ fine s i w h =
     let N = none-fits (faults s i w) h in
     (not-false (among (w .kind) (mayStand s)) (N 11), not-false (inRange s w) (N 1), N 21)
 
-begun-next : (s : State) (w : Word) → Begun s → among (w .kind) (mayStand s) ≡ true → inRange s w ≡ true → 1 ≤ next s w .places
+begun-next : (s : State) (w : Word) → Begun s → among (w .kind) (mayStand s) ≡ true → inRange s w ≡ true → next s w .coming < next s w .places
 unfolding mayStand inRange
 begun-next s w b m g =
     by-test (eqb (w .kind) 1)
-    (λ t. rw t (leb-true 1 (w .value) (and-left (leb 1 (w .value)) (leb (w .value) 64)
-    (subst (λ (k : ℕ). inRange s (word k (w .value)) ≡ true) (eqb-true (w .kind) 1 t) g))))
-    (λ f. rw f (go b f))
+    (λ t. rw t (all-to-come (leb-true 1 (w .value) (and-left (leb 1 (w .value)) (leb (w .value) 64)
+    (subst (λ (k : ℕ). inRange s (word k (w .value)) ≡ true) (eqb-true (w .kind) 1 t) g)))))
+    (λ f. rw f (by-cond (λ (d : ℕ). d < s .places) (eqb (w .kind) 7) (pred (s .coming)) (s .coming) (λ t. one-came (go b f)) (λ t. go b f)))
   where
-    go : Begun s → eqb (w .kind) 1 ≡ false → 1 ≤ s .places
+    all-to-come : 1 ≤ w .value → pred (w .value) < w .value
+    all-to-come h = omega arith
+
+    one-came : s .coming < s .places → pred (s .coming) < s .places
+    one-came h = omega arith
+
+    go : Begun s → eqb (w .kind) 1 ≡ false → s .coming < s .places
     go (inr h) f = h
     go (inl e) f =
-        by-kind (λ (j : ℕ). eqb j 1 ≡ false → 1 ≤ s .places) (1 ∷ []) (w .kind) ((λ x. absurd (true≢false x)) or no-other)
+        by-kind (λ (j : ℕ). eqb j 1 ≡ false → s .coming < s .places) (1 ∷ []) (w .kind) ((λ x. absurd (true≢false x)) or no-other)
         (subst (λ (k : ℕ). among (w .kind) (lookup k (table s)) ≡ true) e m) f
 
 called-next : (s : State) (w : Word) → Called (s .places) (s .called) → inRange s w ≡ true → repeated s w ≡ false → Called (next s w .places) (next s w .called)
@@ -325,12 +353,12 @@ further-bytes (a ∷ b ∷ []) h = refl
 further-bytes (a ∷ b ∷ c ∷ []) h = refl
 further-bytes (a ∷ b ∷ c ∷ d ∷ bs) h = tt
 
--- behind the first 34,316 bytes, which are 8,579 words, one byte is as good as any others
-pub enough : (xs bs cs : List ℕ) → length xs ≡ 34316 → SomeByte bs → SomeByte cs → read (xs ++ bs) ≡ read (xs ++ cs)
+-- behind the first 34,572 bytes, which are 8,643 words, one byte is as good as any others
+pub enough : (xs bs cs : List ℕ) → length xs ≡ 34572 → SomeByte bs → SomeByte cs → read (xs ++ bs) ≡ read (xs ++ cs)
 unfolding read readWords
 enough xs bs cs e p q =
-    let B = split 8579 xs bs e in
-    let C = split 8579 xs cs e in
+    let B = split 8643 xs bs e in
+    let C = split 8643 xs cs e in
     let none-called : Called 0 [] = record { places = omega arith; each = tt; once = refl } in
     let D = decided start 0 (wordsOf xs) (wordsOf bs) (wordsOf cs) (leftOver bs) (leftOver cs) (inl refl) none-called (omega (arith, B .many)) (further-bytes bs p) (further-bytes cs q) in
     rw (B .words, B .left, C .words, C .left, D .2, D .3)

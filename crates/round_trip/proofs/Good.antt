@@ -10,7 +10,7 @@ use lib.ListN.{length}
 use lib.Seq.{take-all}
 use lib.Dec.{eqb, ltb, leb}
 use borrow.Author.Tests.{eqb-true, eq-eqb, leb-true, le-ltb}
-use Rattle.basics.proofs.TestLaws.{and-left, not-false, not-of-true}
+use Rattle.basics.proofs.TestLaws.{both, and-left, not-false, not-of-true}
 use Rattle.basics.specs.Options.{present, Holds, IfAny}
 use Rattle.basics.specs.Lists.{All, Passes, Fails, isEmpty}
 use Rattle.basics.proofs.ListLaws.{all-imp, any-fails, fails-any, fails-not, not-fails}
@@ -109,7 +109,9 @@ absent none h = refl
 absent (some x) h = absurd (true≢false h)
 
 none-asked : (a : Load) → eachOf (λ (n : ℕ). eqb n 0) a ≡ true → a ≡ noLoad
-none-asked a h = λ i. record { seats = eqb-true (a .seats) 0 h i }
+none-asked a h =
+    let zero-each = both (eqb (a .seats) 0) (eqb (a .wheelchairs) 0) h in
+    λ i. record { seats = eqb-true (a .seats) 0 (zero-each .0) i; wheelchairs = eqb-true (a .wheelchairs) 0 (zero-each .1) i }
 
 -- the first record is the depot's
 first-good : (cs : List Customer) → 1 ≤ length cs → badDepot some cs ≡ false → cs ≡ depot ∷ tail cs

@@ -4,26 +4,25 @@ use native.Mathlib.Omega.{arith}
 use native.Mathlib.Nat.{mul-le-mul}
 use mathlib.Core.Path.{_≡_, refl, sym, ap, subst, _∙_}
 use mathlib.Core.Bool.{Bool, true, false, cond, _&&_, not}
-use mathlib.Core.List.{List, [], _∷_, _++_, append-assoc}
+use mathlib.Core.List.{List, [], _∷_, _++_}
 use mathlib.Core.Option.{Option, none, some}
 use mathlib.Core.Logic.{inl, inr}
-use lib.ListN.{length, length-append}
+use lib.ListN.{length}
 use lib.Dec.{eqb, ltb, leb, eqb·suc-zero}
 use borrow.Author.Tests.{eqb-true, ltb-true, ltb-false, leb-true}
-use Rattle.basics.proofs.TestLaws.{by-test, not-false, and-left, or-false}
+use Rattle.basics.proofs.TestLaws.{by-test, not-false, and-left, and-true, or-false}
 use Rattle.basics.specs.Options.{Holds, IfAny}
 use Rattle.basics.specs.Lists.{All, Passes}
 use Rattle.definitions.specs.Domain.{isPlaces, isCapacity, isDemand, isPenalty, isNumber, isCall}
-use Rattle.definitions.specs.Load.{ofSeats}
 use Rattle.definitions.specs.Sheet.{Customer, Sheet, depot}
 use Rattle.definitions.specs.Words.{Word, word}
-use Rattle.definitions.specs.Encoding.{optional, breakWords, windowWords, customerWords}
+use Rattle.definitions.specs.Encoding.{optional, secondWords, breakWords, windowWords, customerWords}
 use Rattle.definitions.specs.Reader.{State, start, next, onward, mayStand, inRange, repeated, pairFalls, among, faults, faultAt, accepted, refused, behind, unless, walk}
 use Rattle.theorems.proofs.InOrder.{none-fits}
 use Rattle.theorems.proofs.Again.{again, again-repeats}
 use Rattle.round_trip.proofs.Says.{callWords, timeWords, tableWords, allWords}
 use Rattle.round_trip.proofs.Good.{GoodWindow, GoodBreak, GoodCustomer, AsMany, GoodSheet, GoodTour}
-use Rattle.round_trip.proofs.Accepts.{behindCalls, behindWord, wordCount}
+use Rattle.round_trip.proofs.Accepts.{behindCalls, behindWord, Seconds, seconds-head, seconds-customer, secondRange, customerThen, behindCustomer, customer-then, behind-customer, wordCount}
 use Rattle.round_trip.proofs.ByKind.{ByKind, no-other, _or_, by-kind, map-kinds}
 
 -- ---- a word that is taken
@@ -249,11 +248,13 @@ distances-inv v r n d i (w ∷ ws) left h z a =
 -- ---- what stands from the next customer on, where d customers are to come
 
 record Rest (n d : ℕ) (left : Bool) (i : ℕ) (ws : List Word) : Type 0 where
+  -- which second demands that are 0 have a word
+  said : List Bool
   cs : List Customer
   ds : List ℕ
   ts : List ℕ
   tour : List ℕ
-  is : ws ≡ customerWords cs ++ tableWords ds ts tour (i + length (customerWords cs) + length ds + length ts + length tour)
+  is : ws ≡ customerWords said cs ++ tableWords ds ts tour (i + length (customerWords said cs) + length ds + length ts + length tour)
   counted : length cs ≡ d
   customers : All GoodCustomer cs
   tables : GoodTables n 0 ds ts tour
@@ -264,6 +265,7 @@ from-distances : (n i : ℕ) (ws : List Word) (left : Bool) → TablesEnd n 0 le
 from-distances n i ws left E =
     let same : i + length (E .ds) + length (E .ts) + length (E .tour) ≡ i + 0 + length (E .ds) + length (E .ts) + length (E .tour) = omega arith in
     record {
+      said = [];
       cs = [];
       ds = E .ds;
       ts = E .ts;
@@ -299,6 +301,47 @@ absent {words} {Next} {i} {ws} x e g N =
 skipping : {X : Type 0} (words : X → List Word) (Good : X → Type 0) (Next : ℕ → List Word → Type 0) (s : State) (i : ℕ) (left : Bool) (v : ℕ) (ws : List Word) (ks : List ℕ) (x : X)
     → words x ≡ [] → Good x → ByKind (Case Next s i left v ws) ks → ByKind (Case (Begins words Good Next) s i left v ws) ks
 skipping words Good Next s i left v ws ks x e g cases = map-kinds cases (λ k c T. absent x e g (c T))
+
+-- ---- a second capacity or demand
+
+-- a word of kind j that holds a number, and what is behind it
+record Following (j : ℕ) (Next : ℕ → List Word → Type 0) (i : ℕ) (ws : List Word) : Type 0 where
+  value : ℕ
+  rest : List Word
+  is : ws ≡ word j value ∷ rest
+  number : isNumber value ≡ true
+  beyond : Next (suc i) rest
+
+-- whether a second capacity or demand that is 0 has a word, and how much it is: its words, and that it is in range behind a word of kind k
+abbrev saidWords : Bool × ℕ → List Word
+saidWords o = secondWords (o .0) (o .1)
+
+abbrev Ranged : ℕ → Bool × ℕ → Type 0
+Ranged k o = secondRange k (o .1) ≡ true
+
+abbrev Seconded : ℕ → ℕ → (ℕ → List Word → Type 0) → ℕ → List Word → Type 0
+Seconded k j Next = Begins saidWords (Ranged k) (Following j Next)
+
+second-inv : (Next : ℕ → List Word → Type 0) (j k v r n d : ℕ) (left : Bool) → Seconds j k v r n d
+    → ((k' v' r' i u : ℕ) (ws : List Word) → eqb j k' ≡ false → Case (Following j Next) (behindWord k' v' r' n d) i left u ws j)
+    → (i : ℕ) (ws : List Word) → walk (behindWord k v r n d) i ws left ≡ accepted → Seconded k j Next i ws
+unfolding mayStand inRange
+second-inv Next j k v r n d left S J i ws a = by-first (Seconded k j Next) s i left ws (0 ∷ j ∷ []) (S .either) cases a
+  where
+    s : State
+    s = behindWord k v r n d
+
+    row : ℕ
+    row = cond (eqb 0 k) (suc r) 1
+
+    none-ranged : secondRange k 0 ≡ true
+    none-ranged = by-test (eqb k 2) (λ t. rw t refl) (λ f. rw f refl)
+
+    cases : (u : ℕ) (rest : List Word) → ByKind (Case (Seconded k j Next) s i left u rest) (0 ∷ j ∷ [])
+    cases u rest =
+        (λ T. there (true, u) rest (suc i) (omega arith) (T .ranged)
+        (by-first (Following j Next) (behindWord 0 u row n d) (suc i) left rest (j ∷ []) (ap (λ (q : ℕ). q ∷ []) (S .follows)) (λ x more. J 0 u row (suc i) x more (S .apart-0) or no-other) (T .on)))
+        or skipping saidWords (Ranged k) (Following j Next) s i left u rest (j ∷ []) (false, 0) refl none-ranged (J k v r i u rest (S .apart) or no-other)
 
 module _ (n d : ℕ) (left : Bool) where
   -- what is to be shown of the word that begins the next customer or the distances
@@ -351,6 +394,12 @@ module _ (n d : ℕ) (left : Bool) (H : FromHere n d left) where
           there (some (record { ready = a; due = b })) rest (suc (suc i)) (omega arith) (record { ready = g; due = T .ranged; rises = T .paired })
           (by-first (Penalised n d left) A (suc (suc i)) left rest (0xB ∷ onward A ∷ []) refl (λ x more. penalty-cases 0xA b 1 (suc (suc i)) x more refl refl) (T .on))
 
+  service-case : (k v r i u : ℕ) (ws : List Word) → eqb 8 k ≡ false → Case (Following 8 (Windowed n d left)) (behindWord k v r n d) i left u ws 8
+  unfolding mayStand inRange
+  service-case k v r i u ws h T =
+      let S = behindWord 8 u 1 n d in
+      record { value = u; rest = ws; is = refl; number = T .ranged; beyond = by-first (Windowed n d left) S (suc i) left ws (9 ∷ 0xB ∷ onward S ∷ []) refl (window-cases u (suc i)) (rw h at (T .on)) }
+
   -- ---- the break and the limits
 
   break-cases : (k v r i u : ℕ) (ws : List Word) → eqb 0xC k ≡ false → eqb 6 k ≡ false
@@ -393,111 +442,112 @@ module _ (n d : ℕ) (left : Bool) (H : FromHere n d left) where
       (by-first (Timed n d left) L (suc i) left ws (5 ∷ 6 ∷ onward L ∷ []) refl (λ x rest. duration-cases 4 u 1 (suc i) x rest refl refl refl) (T .on)))
       or skipping (optional 4) (IfAny isNumber) (Timed n d left) s i left u ws (5 ∷ 6 ∷ onward s ∷ []) none refl tt (duration-cases 3 v 1 i u ws refl refl refl)
 
+  fixed-case : (k v r i u : ℕ) (ws : List Word) → eqb 3 k ≡ false → Case (Following 3 (Limited n d left)) (behindWord k v r n d) i left u ws 3
+  unfolding mayStand inRange
+  fixed-case k v r i u ws h T =
+      let S = behindWord 3 u 1 n d in
+      record { value = u; rest = ws; is = refl; number = T .ranged; beyond = by-first (Limited n d left) S (suc i) left ws (4 ∷ 5 ∷ 6 ∷ onward S ∷ []) refl (limit-cases u (suc i)) (rw h at (T .on)) }
+
 -- ---- the customers
 
-with-customer : (n d : ℕ) (left : Bool) (i demand service : ℕ) (ws : List Word) → isDemand demand ≡ true → isNumber service ≡ true → Windowed n d left (suc (suc i)) ws
-    → Rest n (suc d) left i (word 7 demand ∷ word 8 service ∷ ws)
-with-customer n d left i demand service ws h g W =
+with-customer : (n d : ℕ) (left : Bool) (i seats : ℕ) (ws : List Word) → isDemand seats ≡ true → Seconded 7 8 (Windowed n d left) (suc i) ws → Rest n (suc d) left i (word 7 seats ∷ ws)
+with-customer n d left i seats ws h S =
+    let F = S .beyond in
+    let W = F .beyond in
+    let P = W .beyond in
+    let R = P .beyond in
+    let b = S .item .0 in
+    let c : Customer = record { demand = record { seats = seats; wheelchairs = S .item .1 }; service = F .value; window = W .item; penalty = P .item } in
+    -- where the tables begin, counted word by word, and all words where F has the value f
+    let begin = behindCustomer b c i + length (customerWords (R .said) (R .cs)) in
+    let words : ℕ → List Word = λ f. customerThen b c (customerWords (R .said) (R .cs) ++ tableWords (R .ds) (R .ts) (R .tour) f) in
+    let whole : word 7 seats ∷ ws ≡ words (begin + length (R .ds) + length (R .ts) + length (R .tour)) =
+    ap (λ (l : List Word). word 7 seats ∷ l)
+    (S .is ∙ ap (λ (l : List Word). secondWords b (S .item .1) ++ l)
+    (F .is ∙ ap (λ (l : List Word). word 8 (F .value) ∷ l)
+    (W .is ∙ ap (λ (l : List Word). windowWords (W .item) ++ l) (P .is ∙ ap (λ (l : List Word). optional 0xB (P .item) ++ l) (R .is))))) in
+    let same = sym (behind-customer (b ∷ R .said) c (R .cs) i) in
     record {
+      said = b ∷ R .said;
       cs = c ∷ R .cs;
       ds = R .ds;
       ts = R .ts;
       tour = R .tour;
-      is = ap (λ (l : List Word). word 7 demand ∷ word 8 service ∷ l) (inner ∙ ap (λ (n : ℕ). windowed ++ (penalised ++ behind n)) same ∙ regroup);
+      is = whole ∙ ap (λ (q : ℕ). words (q + length (R .ds) + length (R .ts) + length (R .tour))) same ∙ sym (customer-then (b ∷ R .said) c (R .cs) (tableWords (R .ds) (R .ts) (R .tour) _));
       counted = ap suc (R .counted);
-      customers = (record { demand = h; service = g; window = W .good; penalty = P .good }, R .customers);
+      customers = (record { demand = and-true (isDemand seats) (isDemand (S .item .1)) h (S .good); service = F .number; window = W .good; penalty = P .good }, R .customers);
       tables = R .tables;
       nothing-left = R .nothing-left;
     }
-  where
-    P : Penalised n d left (suc (suc i) + length (windowWords (W .item))) (W .rest)
-    P = W .beyond
-
-    R : Rest n d left (suc (suc i) + length (windowWords (W .item)) + length (optional 0xB (P .item))) (P .rest)
-    R = P .beyond
-
-    c : Customer
-    c = record { demand = ofSeats demand; service = service; window = W .item; penalty = P .item }
-
-    windowed : List Word
-    windowed = windowWords (W .item)
-
-    penalised : List Word
-    penalised = optional 0xB (P .item)
-
-    -- the words behind this customer's, where F has the value n
-    behind : ℕ → List Word
-    behind n = customerWords (R .cs) ++ tableWords (R .ds) (R .ts) (R .tour) n
-
-    f : ℕ
-    f = i + length (customerWords (c ∷ R .cs)) + length (R .ds) + length (R .ts) + length (R .tour)
-
-    -- the same, counted word by word
-    f' : ℕ
-    f' = suc (suc i) + length windowed + length penalised + length (customerWords (R .cs)) + length (R .ds) + length (R .ts) + length (R .tour)
-
-    inner : ws ≡ windowed ++ (penalised ++ behind f')
-    inner = W .is ∙ ap (λ (l : List Word). windowed ++ l) (P .is ∙ ap (λ (l : List Word). penalised ++ l) (R .is))
-
-    same : f' ≡ f
-    same = omega (arith, length-append (windowed ++ penalised) (customerWords (R .cs)), length-append windowed penalised)
-
-    regroup : windowed ++ (penalised ++ behind f) ≡ windowed ++ penalised ++ customerWords (R .cs) ++ tableWords (R .ds) (R .ts) (R .tour) f
-    regroup = simp append-assoc
 
 onward-seven : (k v r n d : ℕ) → onward (behindWord k v r n (suc d)) ≡ 7
 onward-seven k v r n d = rw (eqb·suc-zero d) refl
 
-customer-case : (n d : ℕ) (left : Bool) → FromHere n d left → (k v r i u : ℕ) (ws : List Word) → Case (Rest n (suc d) left) (behindWord k v r n (suc d)) i left u ws 7
+customer-case : (n d : ℕ) (left : Bool) → suc d < n → FromHere n d left → (k v r i u : ℕ) (ws : List Word) → Case (Rest n (suc d) left) (behindWord k v r n (suc d)) i left u ws 7
 unfolding mayStand inRange
-customer-case n d left H k v r i u ws T =
-    by-first (λ j rest. Rest n (suc d) left i (word 7 u ∷ rest)) (behindWord 7 u (cond (eqb 7 k) (suc r) 1) n d) (suc i) left ws (8 ∷ []) refl
-    (λ b rest. (λ U. with-customer n d left i u b rest (T .ranged) (U .ranged)
-    (by-first (Windowed n d left) (behindWord 8 b 1 n d) (suc (suc i)) left rest (9 ∷ 0xB ∷ onward (behindWord 8 b 1 n d) ∷ []) refl (window-cases n d left H b (suc (suc i))) (U .on)))
-    or no-other)
-    (T .on)
+customer-case n d left h H k v r i u ws T =
+    let row = cond (eqb 7 k) (suc r) 1 in
+    with-customer n d left i u ws (T .ranged)
+    (second-inv (Windowed n d left) 8 7 u row n d left (seconds-customer u row n d h) (service-case n d left H) (suc i) ws (T .on))
 
-from-here : (n d : ℕ) (left : Bool) → 0 < n * n → FromHere n d left
+from-here : (n d : ℕ) (left : Bool) → d < n → FromHere n d left
 unfolding mayStand inRange
-from-here n zero left z = record {
+from-here n zero left h = record {
   on = λ k v r i u ws c T.
+      let z = mul-le-mul h h in
       from-distances n i (word 0xC u ∷ ws) left (distances-more n 0 i u ws left (T .ranged) (distances-inv u 1 n 0 (suc i) ws left z z (rw c at (T .on))));
 }
-from-here n (suc d) left z = record {
+from-here n (suc d) left h = record {
   on = λ k v r i u ws c.
-      subst (Case (Rest n (suc d) left) (behindWord k v r n (suc d)) i left u ws) (sym (onward-seven k v r n d)) (customer-case n d left (from-here n d left z) k v r i u ws);
+      subst (Case (Rest n (suc d) left) (behindWord k v r n (suc d)) i left u ws) (sym (onward-seven k v r n d))
+      (customer-case n d left h (from-here n d left (omega arith)) k v r i u ws);
 }
 
 -- ---- the whole
 
 -- the words are those of a good sheet and tour, and nothing is left over
 pub record IsSheet (left : Bool) (ws : List Word) : Type 0 where
+  -- which second capacity and demands that are 0 have a word
+  pub said : List Bool
   pub sheet : Sheet
   pub tour : List ℕ
-  pub is : ws ≡ allWords sheet tour (wordCount sheet tour)
+  pub is : ws ≡ allWords said sheet tour (wordCount said sheet tour)
   pub good : GoodSheet sheet
   pub calls : GoodTour (sheet .head .places) tour
   pub nothing-left : left ≡ false
 
-is-sheet : (n capacity fixed : ℕ) (left : Bool) (ws : List Word) → isPlaces n ≡ true → isCapacity capacity ≡ true → isNumber fixed ≡ true → Limited n (pred n) left 3 ws
-    → IsSheet left (word 1 n ∷ word 2 capacity ∷ word 3 fixed ∷ ws)
-is-sheet n capacity fixed left ws p c f L =
+is-sheet : (n seats : ℕ) (left : Bool) (ws : List Word) → isPlaces n ≡ true → isCapacity seats ≡ true → Seconded 2 3 (Limited n (pred n) left) 2 ws
+    → IsSheet left (word 1 n ∷ word 2 seats ∷ ws)
+is-sheet n seats left ws p c S =
+    let F = S .beyond in
+    let L = F .beyond in
     let A = L .beyond in
     let B = A .beyond in
     let R = B .beyond in
     record {
+      said = S .item .0 ∷ R .said;
       sheet = record {
-        head = record { places = n; capacity = ofSeats capacity; fixed = fixed; maxDistance = L .item; maxDuration = A .item; rest = B .item };
+        head = record {
+          places = n;
+          capacity = record { seats = seats; wheelchairs = S .item .1 };
+          fixed = F .value;
+          maxDistance = L .item;
+          maxDuration = A .item;
+          rest = B .item;
+        };
         customers = depot ∷ R .cs;
         legs = record { distances = R .ds; times = R .ts };
       };
       tour = R .tour;
-      is = ap (λ (l : List Word). word 1 n ∷ word 2 capacity ∷ word 3 fixed ∷ l)
-          (L .is ∙ ap (λ (l : List Word). optional 4 (L .item) ++ l) (A .is ∙ ap (λ (l : List Word). optional 5 (A .item) ++ l) (B .is ∙ ap (λ (l : List Word). breakWords (B .item) ++ l) (R .is))));
+      is = ap (λ (l : List Word). word 1 n ∷ word 2 seats ∷ l)
+          (S .is ∙ ap (λ (l : List Word). secondWords (S .item .0) (S .item .1) ++ l)
+          (F .is ∙ ap (λ (l : List Word). word 3 (F .value) ∷ l)
+          (L .is ∙ ap (λ (l : List Word). optional 4 (L .item) ++ l)
+          (A .is ∙ ap (λ (l : List Word). optional 5 (A .item) ++ l) (B .is ∙ ap (λ (l : List Word). breakWords (B .item) ++ l) (R .is))))));
       good = record {
         places = p;
-        capacity = c;
-        fixed = f;
+        capacity = and-true (isCapacity seats) (isCapacity (S .item .1)) c (S .good);
+        fixed = F .number;
         maxDistance = L .good;
         maxDuration = A .good;
         rest = B .good;
@@ -519,21 +569,15 @@ accepted-is ws left a =
     by-first (λ i rest. IsSheet left rest) start 0 left ws (1 ∷ []) refl
     (λ n rest. (λ T. behind-1 n rest (T .ranged) (T .on)) or no-other) a
   where
-    squared : (n : ℕ) → isPlaces n ≡ true → 0 < n * n
-    squared n p = let some-place = leb-true 1 n (and-left (leb 1 n) (leb n 64) p) in mul-le-mul some-place some-place
-
-    behind-3 : (n c f : ℕ) (rest : List Word) → isPlaces n ≡ true → isCapacity c ≡ true → isNumber f ≡ true → walk (behindWord 3 f 1 n (pred n)) 3 rest left ≡ accepted
-        → IsSheet left (word 1 n ∷ word 2 c ∷ word 3 f ∷ rest)
-    behind-3 n c f rest p g h b =
-        let s = behindWord 3 f 1 n (pred n) in
-        is-sheet n c f left rest p g h
-        (by-first (Limited n (pred n) left) s 3 left rest (4 ∷ 5 ∷ 6 ∷ onward s ∷ []) refl (limit-cases n (pred n) left (from-here n (pred n) left (squared n p)) f 3) b)
+    some-place : (n : ℕ) → isPlaces n ≡ true → 1 ≤ n
+    some-place n p = leb-true 1 n (and-left (leb 1 n) (leb n 64) p)
 
     behind-2 : (n c : ℕ) (rest : List Word) → isPlaces n ≡ true → isCapacity c ≡ true → walk (behindWord 2 c 1 n (pred n)) 2 rest left ≡ accepted
         → IsSheet left (word 1 n ∷ word 2 c ∷ rest)
     behind-2 n c rest p g b =
-        by-first (λ i more. IsSheet left (word 1 n ∷ word 2 c ∷ more)) (behindWord 2 c 1 n (pred n)) 2 left rest (3 ∷ []) refl
-        (λ f more. (λ T. behind-3 n c f more p g (T .ranged) (T .on)) or no-other) b
+        is-sheet n c left rest p g
+        (second-inv (Limited n (pred n) left) 3 2 c 1 n (pred n) left (seconds-head c 1 n (some-place n p))
+        (fixed-case n (pred n) left (from-here n (pred n) left (omega (arith, some-place n p)))) 2 rest b)
 
     behind-1 : (n : ℕ) (rest : List Word) → isPlaces n ≡ true → walk (behindWord 1 n 1 n (pred n)) 1 rest left ≡ accepted → IsSheet left (word 1 n ∷ rest)
     behind-1 n rest p b =

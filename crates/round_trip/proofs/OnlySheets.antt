@@ -16,7 +16,9 @@ use Rattle.round_trip.proofs.ReadsBack.{encode-counted}
 use Rattle.round_trip.proofs.Inverts.{IsSheet, accepted-is}
 
 pub record Is (ws : List Word) (left : Bool) (s : Sheet) (tour : List ℕ) : Type 0 where
-  pub words : ws ≡ encode s tour
+  -- which second capacity and demands that are 0 have a word
+  pub said : List Bool
+  pub words : ws ≡ encode said s tour
   pub nothing-left : left ≡ false
   pub within : Within s
   pub calls : WithinCalls s tour
@@ -24,15 +26,16 @@ pub record Is (ws : List Word) (left : Bool) (s : Sheet) (tour : List ℕ) : Typ
 
 is-by : (ws : List Word) (left : Bool) → IsSheet left ws → Is ws left (sheetOf ws) (tourOf ws)
 is-by ws left I =
-    let f = wordCount (I .sheet) (I .tour) in
-    let same-sheet = ap sheetOf (I .is) ∙ sheet-said (I .sheet) (I .tour) f (I .good .first) in
-    let same-tour = ap tourOf (I .is) ∙ tour-said (I .sheet) (I .tour) f in
+    let f = wordCount (I .said) (I .sheet) (I .tour) in
+    let same-sheet = ap sheetOf (I .is) ∙ sheet-said (I .said) (I .sheet) (I .tour) f (I .good .first) in
+    let same-tour = ap tourOf (I .is) ∙ tour-said (I .said) (I .sheet) (I .tour) f in
     subst (λ (s : Sheet). Is ws left s (tourOf ws)) (sym same-sheet) (subst (Is ws left (I .sheet)) (sym same-tour) is)
   where
     is : Is ws left (I .sheet) (I .tour)
     is =
         record {
-          words = I .is ∙ sym (encode-counted (I .sheet) (I .tour));
+          said = I .said;
+          words = I .is ∙ sym (encode-counted (I .said) (I .sheet) (I .tour));
           nothing-left = I .nothing-left;
           within = good-within (I .sheet) (I .good);
           calls = good-within-tour (I .sheet .head .places) (I .tour) (I .good .places) (I .calls);

@@ -2,7 +2,7 @@
 use Prim.Native.Nat.{ℕ}
 use native.Mathlib.Omega.{arith}
 use mathlib.Core.Path.{_≡_, ap, _∙_}
-use mathlib.Core.Bool.{false}
+use mathlib.Core.Bool.{Bool, false}
 use mathlib.Core.List.{List}
 use lib.ListN.{length, length-append, length-map}
 use Rattle.definitions.specs.Sheet.{Sheet}
@@ -14,17 +14,17 @@ use Rattle.round_trip.proofs.Good.{good-sheet, good-tour}
 use Rattle.round_trip.proofs.Accepts.{wordCount, all-ok}
 
 -- how many words stand before F
-pub body-length : (s : Sheet) (tour : List ℕ) → length (bodyWords s tour) ≡ wordCount s tour
+pub body-length : (said : List Bool) (s : Sheet) (tour : List ℕ) → length (bodyWords said s tour) ≡ wordCount said s tour
 unfolding bodyWords
-body-length s tour = simp (length-append, length-map) (omega arith)
+body-length said s tour = simp (length-append, length-map) (omega arith)
 
-pub encode-counted : (s : Sheet) (tour : List ℕ) → encode s tour ≡ allWords s tour (wordCount s tour)
-encode-counted s tour = encode-is s tour ∙ ap (allWords s tour) (body-length s tour)
+pub encode-counted : (said : List Bool) (s : Sheet) (tour : List ℕ) → encode said s tour ≡ allWords said s tour (wordCount said s tour)
+encode-counted said s tour = encode-is said s tour ∙ ap (allWords said s tour) (body-length said s tour)
 
--- for every sheet within the limits and tour of it without a repeat, reading their words gives them back
-pub reads-back : (s : Sheet) (tour : List ℕ) → Within s → WithinCalls s tour → repeats tour ≡ false → readWords (encode s tour) false ≡ sheet s tour
+-- for every sheet within the limits and tour of it without a repeat, reading their words gives them back, whichever zeros are said
+pub reads-back : (said : List Bool) (s : Sheet) (tour : List ℕ) → Within s → WithinCalls s tour → repeats tour ≡ false → readWords (encode said s tour) false ≡ sheet s tour
 unfolding readWords
-reads-back s tour W C o =
+reads-back said s tour W C o =
     let G = good-sheet s W in
-    let f = wordCount s tour in
-    rw (encode-counted s tour, all-ok s tour G (good-tour (s .head .places) tour C o), sheet-said s tour f (G .first), tour-said s tour f)
+    let f = wordCount said s tour in
+    rw (encode-counted said s tour, all-ok said s tour G (good-tour (s .head .places) tour C o), sheet-said said s tour f (G .first), tour-said said s tour f)

@@ -1,10 +1,11 @@
 -- The loads of runs: worked out run by run, read for a run, and with one call more. Assumes nothing.
-use Prim.Native.Nat.{ℕ, zero, suc, _+_, _<_, _≤_}
+use Prim.Native.Nat.{ℕ, zero, suc, _+_, _*_, _<_, _≤_}
 use native.Mathlib.Omega.{arith}
 use native.Mathlib.Nat.{not-suc-le-zero}
 use mathlib.Core.Path.{_≡_, refl, sym, ap, ap₂, subst, _∙_}
 use mathlib.Core.List.{List, [], _∷_, _++_}
-use lib.ListN.{length, getD, take, drop, take-append-drop}
+use lib.ListN.{length, getD, set, take, drop, take-append-drop, length-set}
+use lib.Seq.{getD-set-same, getD-set-other}
 use lib.Dec.{eqb, ltb}
 use borrow.Author.Tests.{eqb-true, eqb-false, ltb-true, ltb-false}
 use Rattle.basics.proofs.TestLaws.{by-test}
@@ -16,10 +17,44 @@ use Rattle.models.specs.Load.{UpTo, up-to-more}
 use Rattle.evaluation.specs.Tables.{askedF, loadF}
 use Rattle.improve_runs.specs.RunLists.{room, runAt, insertAt, putIn}
 use Rattle.improve_runs.proofs.RunParts.{put-run, length-put}
-use Rattle.route_elimination.specs.Loads.{roomF, loadIn, Written, Loaded}
+use Rattle.route_elimination.specs.Loads.{roomF, measures, allLoads, loadIn, Written, Loaded}
 
 pub loaded-more : (demand : ℕ → Load) (rs : List (List ℕ)) (m n : ℕ) (loads : List ℕ) → m ≤ n → Loaded demand rs m loads → Loaded demand rs n loads
 loaded-more demand rs m n loads h L = record { long = L .long; are = L .are; few = λ k b. up-to-more m n (loadIn loads k) h (L .few k b) }
+
+-- a load is written, measure by measure
+module _ (old : List ℕ) (k : ℕ) (load : Load) where
+  abbrev seats-in : List ℕ
+  seats-in = set old (measures * k) (load .seats)
+
+  abbrev load-in : List ℕ
+  load-in = set seats-in (measures * k + 1) (load .wheelchairs)
+
+  others-stay : (n : ℕ) → (n ≡ measures * k → ⊥) → (n ≡ measures * k + 1 → ⊥) → getD load-in n 0 ≡ getD old n 0
+  others-stay n p q =
+      getD-set-other seats-in (measures * k + 1) n (load .wheelchairs) 0 q ∙ getD-set-other old (measures * k) n (load .seats) 0 p
+
+  pub load-written : length old ≡ allLoads → k < room → Written old k load load-in
+  load-written long h =
+      let seats-long = length-set old (measures * k) (load .seats) in
+      record {
+        long = length-set seats-in (measures * k + 1) (load .wheelchairs) ∙ seats-long;
+        here =
+            λ i.
+            record {
+              seats =
+                  (getD-set-other seats-in (measures * k + 1) (measures * k) (load .wheelchairs) 0 (λ q. omega arith)
+                  ∙ getD-set-same old (measures * k) (load .seats) 0 (omega (arith, long)))
+                  i;
+              wheelchairs = getD-set-same seats-in (measures * k + 1) (load .wheelchairs) 0 (omega (arith, long, seats-long)) i;
+            };
+        there =
+            λ j h i.
+            record {
+              seats = others-stay (measures * j) (λ q. h (omega arith)) (λ q. omega arith) i;
+              wheelchairs = others-stay (measures * j + 1) (λ q. omega arith) (λ q. h (omega arith)) i;
+            };
+      }
 
 -- whether run k has room for c, by its load
 pub room-is : (demand : ℕ → Load) (rs : List (List ℕ)) (n : ℕ) (loads : List ℕ) → Loaded demand rs n loads → (k : ℕ) → k < length rs
@@ -36,11 +71,11 @@ run-load demands part run e load el = el ∙ ap (loadBy (askedF demands)) e
 
 -- the loads of the first k runs are in
 pub record LoadedTo (demand : ℕ → Load) (rs : List (List ℕ)) (loads : List ℕ) (k : ℕ) : Type 0 where
-  pub long : length loads ≡ room
+  pub long : length loads ≡ allLoads
   pub are : (j : ℕ) → j < k → loadIn loads j ≡ loadBy demand (runAt rs j)
   pub few : (j : ℕ) → j < k → UpTo 128 (loadIn loads j)
 
-pub loaded-none : (demand : ℕ → Load) (rs : List (List ℕ)) (loads : List ℕ) → length loads ≡ room → LoadedTo demand rs loads 0
+pub loaded-none : (demand : ℕ → Load) (rs : List (List ℕ)) (loads : List ℕ) → length loads ≡ allLoads → LoadedTo demand rs loads 0
 loaded-none demand rs loads long = record { long = long; are = λ j h. absurd (not-suc-le-zero h); few = λ j h. absurd (not-suc-le-zero h) }
 
 pub loaded-next : (demand : ℕ → Load) (rs : List (List ℕ)) (old new : List ℕ) (k : ℕ) (load : Load) → LoadedTo demand rs old k

@@ -6,30 +6,41 @@ ghost use Rattle.definitions.specs.Load.{plus, carried};
 ghost use Rattle.models.specs.Load.{spaceOf, loadOf, UpTo, Countable};
 ghost use Rattle.evaluation.specs.Tables.{askedF};
 ghost use Rattle.improve_runs.specs.RunLists.{room, Sound, runs, runsIn};
-ghost use Rattle.route_elimination.specs.Loads.{loadIn, Written, Loaded};
+ghost use Rattle.route_elimination.specs.Loads.{allLoads, loadIn, Written, Loaded};
 use evaluation::load::Demands;
 use evaluation::load::load_of;
 use models::load::Load;
 use models::load::Space;
 
-// The load of each run, as numbers: these can be lent, where structs would be copied. Whoever adds a measure makes the
-// list longer, and adds a part of the next two functions.
-pub type Loads = [u64; 128];
+// So many numbers has the load of a run, and so many have those of all runs that there is room for.
+const MEASURES: usize = 2;
+
+pub const ALL_LOADS: usize = 128 * MEASURES;
+
+// The load of each run, as numbers, its seats and then its wheelchair places: these can be lent, where structs would
+// be copied. Whoever adds a measure adds a part of the next two functions.
+pub type Loads = [u64; ALL_LOADS];
 
 // The load of run k.
 pub fn load_at(loads: &Loads, k: usize) -> Load
     requires { ⌜ k < room ⌝ }
     ensures { λ r. ⌜ loadOf r ≡ loadIn (now (loads .entry)) k ⌝ }
 {
-    Load { seats: loads[k] }
+    let n = MEASURES * k;
+    Load {
+        seats: loads[n],
+        wheelchairs: loads[n + 1],
+    }
 }
 
 // Writes the load of run k.
 pub fn put_load(loads: &mut Loads, k: usize, load: Load)
-    requires { ⌜ (length (now loads) ≡ room) × (k < room) ⌝ }
+    requires { ⌜ (length (now loads) ≡ allLoads) × (k < room) ⌝ }
     ensures { λ _. ⌜ Written (now (loads .entry)) k (loadOf load) (now (loads .exit)) ⌝ }
 {
-    loads[k] = load.seats;
+    let n = MEASURES * k;
+    loads[n] = load.seats;
+    loads[n + 1] = load.wheelchairs;
 }
 
 // Works out the loads of the runs.
@@ -41,7 +52,7 @@ pub fn loads_of(
     demands: &Demands,
     loads: &mut Loads,
 )
-    requires { ⌜ Sound (runs (now calls) (now ends) many count) × (length (now loads) ≡ room) ⌝ }
+    requires { ⌜ Sound (runs (now calls) (now ends) many count) × (length (now loads) ≡ allLoads) ⌝ }
     ensures { λ _.
         let rest = runsIn (runs (now (calls .entry)) (now (ends .entry)) many count) in
         ⌜ Loaded (askedF (now (demands .entry))) rest 128 (now (loads .exit)) ⌝ }
@@ -68,7 +79,7 @@ pub fn has_room(load: Load, asked: Space, capacity: Space) -> bool
 
 // Adds what a call asks to the load of run k.
 pub fn add_load(loads: &mut Loads, k: usize, asked: Space)
-    requires { ⌜ (length (now loads) ≡ room) × (k < room) × Countable (loadIn (now loads) k) ⌝ }
+    requires { ⌜ (length (now loads) ≡ allLoads) × (k < room) × Countable (loadIn (now loads) k) ⌝ }
     ensures { λ _.
         let more = plus (loadIn (now (loads .entry)) k) (spaceOf asked) in
         ⌜ Written (now (loads .entry)) k more (now (loads .exit)) ⌝ }

@@ -6,8 +6,9 @@ use mathlib.Core.List.{List, [], _∷_}
 use mathlib.Core.Option.{Option, none, some}
 use lib.ListN.{length, drop, getD, drop-of-length-le}
 use lib.Dec.{eqb}
+use Rattle.basics.proofs.TestLaws.{by-test}
 use Rattle.definitions.specs.Words.{Word}
-use Rattle.definitions.specs.Reader.{valuesOf, firstOf, own, windowOf}
+use Rattle.definitions.specs.Reader.{valuesOf, firstOf, own, loadOf, windowOf}
 use Rattle.sheet_words.specs.Held.{noWord}
 use Rattle.sheet_words.proofs.ByIndex.{words-from}
 use Rattle.sheet_read.specs.Parts.{windowFrom}
@@ -29,6 +30,14 @@ module _ (k : ℕ) (ws : List Word) (i : ℕ) where
 
     pub own-on : eqb (w .kind) 7 ≡ false → eqb (w .kind) k ≡ false → ownFirst k (drop (suc i) ws) ≡ ownFirst k (drop i ws)
     own-on s t = rw (words-from ws i w h e, s, t)
+
+-- they are the same words of themselves, and so have the same second capacity or demand
+own-own : (ws : List Word) → own (own ws) ≡ own ws
+own-own [] = refl
+own-own (w ∷ ws) = by-test (eqb (w .kind) 7) (λ t. rw t) (λ f. rw f (rw (f, own-own ws) refl))
+
+pub load-own : (seats : ℕ) (ws : List Word) → loadOf seats (own ws) ≡ loadOf seats ws
+load-own seats ws = rw (own-own ws)
 
 -- a window by the first of each end
 pub window-firsts : (rs ds : List ℕ) → windowFrom (firstOf rs) (firstOf ds) ≡ windowOf rs ds

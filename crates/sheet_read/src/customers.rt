@@ -9,6 +9,7 @@ ghost use Rattle.definitions.specs.Words.{wordsOf};
 ghost use Rattle.definitions.specs.Reader as Reader;
 ghost use Rattle.definitions.specs.Reader.{valuesOf, firstOf, own, sheetOf};
 ghost use Rattle.definitions.specs.Room.{written};
+ghost use Rattle.models.specs.Load.{spaceOf};
 ghost use Rattle.models.specs.Records.{openingOf, penaltyOf, customerOf};
 ghost use Rattle.models.specs.Image.{flWindow, flCustomer};
 ghost use Rattle.sheet_words.specs.Held.{noWord};
@@ -46,6 +47,14 @@ pub fn own_value(bytes: &[u8], kind: u32, from: usize) -> Value
     Value::Missing
 }
 
+// So many seats, and the second capacity or demand among the words from `from` on and before the next customer.
+pub fn load_from(bytes: &[u8], seats: u32, from: usize) -> Space
+    ensures { λ r. ⌜ spaceOf r ≡ Reader.loadOf seats (drop from (wordsOf (now (bytes .entry)))) ⌝ }
+{
+    let wheelchairs = or_zero(own_value(bytes, 0, from));
+    Space { seats, wheelchairs }
+}
+
 // A window needs both its ends.
 pub fn opening_of(ready: Value, due: Value) -> Opening
     ensures { λ r. ⌜ openingOf r ≡ Option·map flWindow (windowFrom (valueOf ready) (valueOf due)) ⌝ }
@@ -79,8 +88,8 @@ pub fn customer_at(bytes: &[u8], i: usize) -> Customer
         ⌜ customerOf r ≡ flCustomer (Reader.customerOf (getD ws i noWord .value) (own (drop (suc i) ws))) ⌝ }
 {
     let w = word_at(bytes, i);
-    let demand = Space { seats: w.value };
     let from = i + 1;
+    let demand = load_from(bytes, w.value, from);
     let service_duration = or_zero(own_value(bytes, 8, from)) as f64;
     let ready = own_value(bytes, 9, from);
     let due = own_value(bytes, 0xA, from);

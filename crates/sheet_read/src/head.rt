@@ -8,6 +8,7 @@ ghost use Rattle.models.specs.Records.{limitOf, restOf};
 ghost use Rattle.models.specs.Image.{flBreak, flSheet};
 ghost use Rattle.sheet_read.specs.Parts.{valueOf};
 ghost use Rattle.sheet_read.specs.Head.{heldHead};
+use crate::customers::load_from;
 use crate::values::Value;
 use crate::values::find;
 use crate::values::first_value;
@@ -16,7 +17,6 @@ use crate::values::or_zero;
 use models::head::Head;
 use models::limits::Limit;
 use models::limits::RouteLimits;
-use models::load::Space;
 use models::vehicle::Rest;
 use models::vehicle::VehicleBreak;
 use sheet_words::word_count;
@@ -60,7 +60,7 @@ pub fn head_of(bytes: &[u8]) -> Head
 {
     let places = or_zero(first_value(bytes, 1)) as usize;
     let seats = or_zero(first_value(bytes, 2));
-    let capacity = Space { seats };
+    let capacity = load_from(bytes, seats, 0);
     let fixed_cost = or_zero(first_value(bytes, 3)) as f64;
     let max_distance = limit_of(first_value(bytes, 4));
     let max_duration = limit_of(first_value(bytes, 5));

@@ -5,8 +5,9 @@ ghost use mathlib.Core.List.{List, [], _∷_};
 ghost use Prim.Native.Nat.{ℕ, suc, pred, _*_, _^_, _<_};
 ghost use lib.Dec.{eqb, ltb};
 ghost use Rattle.basics.specs.Options.{valueOr};
+ghost use Rattle.definitions.specs.Domain.{isCapacity, isDemand};
 ghost use Rattle.definitions.specs.Reader as Reader;
-ghost use Rattle.definitions.specs.Reader.{among, onward, mayStand, inRange, repeated, pairFalls, faultAt};
+ghost use Rattle.definitions.specs.Reader.{among, onward, behindSecond, mayStand, inRange, repeated, pairFalls, faultAt};
 ghost use Rattle.sheet_words.specs.Held.{heldWord, stateWith, stateOf, faultOf};
 use crate::Word;
 use models::domain::is_call;
@@ -137,6 +138,18 @@ impl State {
         if self.coming == 0 { 0xC } else { 7 }
     }
 
+    // What stands behind a 0: the fixed cost in the head, where all customers are yet to come, and else a service.
+    pub fn behind_second(self) -> u32
+        ensures { λ r. ⌜ r ≡ behindSecond (stateOf self) ⌝ }
+    {
+        let with_depot = self.coming as u64 + 1;
+        if with_depot == self.places as u64 {
+            3
+        } else {
+            8
+        }
+    }
+
     // How many distances there are.
     pub fn full(self) -> usize
         ensures { λ r. ⌜ r ≡ self .places * self .places ⌝ }
@@ -187,16 +200,17 @@ impl State {
         ensures { λ r. ⌜ r ≡ among kind (mayStand (stateOf self)) ⌝ }
     {
         let on = self.onward();
+        let second = self.behind_second();
         let last = self.last.kind;
         match last {
             16 => among1(kind, 1),
             1 => among1(kind, 2),
-            2 => among1(kind, 3),
+            2 => among2(kind, 0, 3),
             3 => among4(kind, 4, 5, 6, on),
             4 => among3(kind, 5, 6, on),
             5 => among2(kind, 6, on),
             6 => self.behind_break(kind),
-            7 => among1(kind, 8),
+            7 => among2(kind, 0, 8),
             8 => among3(kind, 9, 0xB, on),
             9 => among1(kind, 0xA),
             0xA => among2(kind, 0xB, on),
@@ -204,7 +218,19 @@ impl State {
             0xC => self.behind_distance(kind),
             0xD => self.behind_time(kind),
             0xE => among2(kind, 0xE, 0xF),
+            0 => among1(kind, second),
             _ => false,
+        }
+    }
+
+    // A second capacity, or a second demand, has the range of the first.
+    pub fn second_in_range(self, value: u32) -> bool
+        ensures { λ r. ⌜ r ≡ cond (eqb (self .last .kind) 2) (isCapacity value) (isDemand value) ⌝ }
+    {
+        if self.last.kind == 2 {
+            is_capacity(value)
+        } else {
+            is_demand(value)
         }
     }
 
@@ -219,6 +245,7 @@ impl State {
             0xB => is_penalty(w.value),
             0xE => is_call(self.places as usize, w.value as usize),
             0xF => true,
+            0 => self.second_in_range(w.value),
             _ => is_number(w.value),
         }
     }

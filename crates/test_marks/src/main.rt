@@ -96,6 +96,11 @@ fn show_fault(verdict: Verdict) {
             load,
             capacity,
         } => over(b"overload", run, load, wide(capacity)),
+        Verdict::WheelchairOverload {
+            run,
+            load,
+            capacity,
+        } => over(b"wheelchair overload", run, load, wide(capacity)),
         Verdict::BreakMissing {
             run,
             duration,
@@ -236,6 +241,8 @@ fn costs() {
     run(b"q", Change::BreakAtPrice, 12, 2);
     run(b"best", Change::Nothing, 12, 0);
     cut(b"dearer", Change::Nothing, 12, 12, 12, 0);
+    run(b"both measures full", Change::Wheelchairs(4, 2), 12, 0);
+    cut(b"a bay each", Change::Wheelchairs(4, 1), 12, 12, 12, 0);
 }
 
 // A call changed, one left out, none at all, one too many.
@@ -249,12 +256,20 @@ fn calls() {
 // Sheets on which calls are dropped.
 fn drops() {
     cut(b"nothing", Change::Capacity(1), 12, 0, 0, 0);
+    cut(b"no bay", Change::Wheelchairs(4, 0), 12, 0, 0, 0);
     cut(b"served", Change::Due(9.0), 12, 2, 1, 0);
     run(b"dropped", Change::Due(9.0), 12, 0);
 }
 
 fn faults() {
     run(b"load", Change::Capacity(3), 12, 0);
+    run(b"wheelchairs", Change::Wheelchairs(4, 1), 12, 0);
+    run(
+        b"seats before wheelchairs",
+        Change::Wheelchairs(3, 1),
+        12,
+        0,
+    );
     run(b"window", Change::Due(14.0), 21, 0);
     run(b"break", Change::Break(5.0, 10.0), 12, 2);
     run(b"missing", Change::Break(20.0, 30.0), 12, 0);

@@ -62,10 +62,10 @@ fn seen(question: &[u8], recorded: &[u8]) -> Seen
 }
 
 // Reads a question and its recorded answer, and compares. A question has a byte for its kind, and a sheet of at most
-// 34,316 bytes behind at most 258 bytes for run ends and calls, or alone with as many bytes too many; an answer has
+// 34,572 bytes behind at most 258 bytes for run ends and calls, or alone with as many bytes too many; an answer has
 // fewer than 65,536. No contract can say what is read.
 fn next() -> Seen {
-    let mut question = [0u8; 34706];
+    let mut question = [0u8; 34962];
     let mut recorded = [0u8; 65535];
     match read(&mut question, &mut recorded) {
         Record::Whole(n, m) => seen(&question[..n], &recorded[..m]),

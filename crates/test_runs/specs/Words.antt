@@ -5,11 +5,13 @@ use mathlib.Core.Bool.{Bool, cond, false}
 use mathlib.Core.List.{List, [], _∷_, _++_}
 use mathlib.Core.Option.{Option, none, some}
 use lib.Ieee.{Float, inf, lt}
+use Rattle.definitions.specs.Load.{Load}
 use Rattle.definitions.specs.Listing.{text, spaced, endOfLine}
+use Rattle.models.specs.Load.{loadOf}
 use Rattle.listing_lines.specs.Number.{wholePart}
 use Rattle.visits.specs.declared.visit.Visit.{Visit}
 use Rattle.visits.specs.declared.visit.ViolationType.{ViolationType}
-use Rattle.visits.specs.declared.visit.ViolationType.the-variants.{TimeWindowViolated, BreakNotPlaceable, CapacityExceeded, MaxDistanceExceeded, MaxDurationExceeded}
+use Rattle.visits.specs.declared.visit.ViolationType.the-variants.{TimeWindowViolated, BreakNotPlaceable, CapacityExceeded, MaxDistanceExceeded, MaxDurationExceeded, WheelchairsExceeded}
 use Rattle.visits.specs.declared.visit.Violation.{Violation}
 use Rattle.visits.specs.Building.{RouteF}
 
@@ -36,19 +38,28 @@ numbers ns = each (λ n. spaced n ∷ []) ns
 
 -- ---- a run that is built
 
+-- seats, then wheelchair places
+abbrev pub loadFigures : Load → Words
+loadFigures load = spaced (load .seats) ∷ spaced (load .wheelchairs) ∷ []
+
 -- a customer, the times of arrival and departure, and the load
 abbrev pub visitLine : Visit → Words
 visitLine v =
     line "visit"
-    (spaced (v .«customer_id») ∷ figure (v .«arrival_time») ∷ figure (v .«departure_time») ∷ spaced (v .«load_after») ∷ [])
+    (spaced (v .«customer_id») ∷ figure (v .«arrival_time») ∷ figure (v .«departure_time») ∷ loadFigures (loadOf (v .«load_after»)))
+
+-- the number of a violation in a measure, what is carried and what the vehicle holds
+abbrev pub overFigures : ℕ → ℕ → ℕ → Words
+overFigures n load capacity = spaced n ∷ spaced load ∷ spaced capacity ∷ []
 
 -- the number of a violation, and its figures
 abbrev pub violationFigures : ViolationType → Words
 violationFigures (TimeWindowViolated customer arrival due) = spaced 1 ∷ spaced customer ∷ figure arrival ∷ figure due ∷ []
 violationFigures BreakNotPlaceable = spaced 2 ∷ []
-violationFigures (CapacityExceeded load capacity) = spaced 3 ∷ spaced load ∷ spaced capacity ∷ []
+violationFigures (CapacityExceeded load capacity) = overFigures 3 load capacity
 violationFigures (MaxDistanceExceeded distance most) = spaced 4 ∷ figure distance ∷ figure most ∷ []
 violationFigures (MaxDurationExceeded duration most) = spaced 5 ∷ figure duration ∷ figure most ∷ []
+violationFigures (WheelchairsExceeded load capacity) = overFigures 6 load capacity
 
 abbrev pub violationLine : Violation → Words
 violationLine v = line "violation" (violationFigures (v .kind))
@@ -62,7 +73,7 @@ breakFigures place (some start) = spaced place ∷ figure start ∷ []
 abbrev pub totalFigures : RouteF → Words
 totalFigures r =
     let t = r .totals in
-    figure (t .distance) ∷ figure (t .duration) ∷ figure (t .lateness) ∷ figure (t .cost) ∷ spaced (r .load) ∷ []
+    figure (t .distance) ∷ figure (t .duration) ∷ figure (t .lateness) ∷ figure (t .cost) ∷ loadFigures (r .load)
 
 -- the visits and the violations, then the totals and the break
 abbrev pub builtLines : RouteF → Words

@@ -3,17 +3,20 @@ ghost use mathlib.Core.Path.{_≡_};
 ghost use mathlib.Core.List.{[], _∷_};
 ghost use lib.ListN.{take};
 ghost use Rattle.definitions.specs.Listing.{spaced};
+ghost use Rattle.models.specs.Load.{loadOf};
 ghost use Rattle.evaluation.specs.Records.{startOf};
 ghost use Rattle.visits.specs.Building.{builtOf};
 ghost use Rattle.test_runs.specs.Along.{follows};
 ghost use Rattle.test_runs.specs.Words as Words;
-ghost use Rattle.test_runs.specs.Words.{each, visitLine, violationFigures, violationLine, breakFigures, totalFigures, builtLines};
+ghost use Rattle.test_runs.specs.Words.{each, loadFigures, visitLine, overFigures, violationFigures, violationLine, breakFigures, totalFigures, builtLines};
 use crate::recorded::figure;
 use crate::recorded::number;
 use crate::recorded::word;
 use evaluation::route::Start;
 use models::count::fewer;
+use models::load::Load;
 use visits::evaluator::Built;
+use visits::visit::MOST_VIOLATIONS;
 use visits::visit::Violation;
 use visits::visit::ViolationType;
 use visits::visit::Visit;
@@ -28,11 +31,20 @@ fn number_and_two(recorded: &[u8], at: usize, n: u64, first: f64, second: f64) -
     figure(recorded, end, second)
 }
 
+// Seats, then wheelchair places.
+fn load_figures(recorded: &[u8], at: usize, load: Load) -> usize
+    ensures { λ r. ⌜ r ≡ follows (now (recorded .entry)) at (loadFigures (loadOf load)) ⌝ }
+{
+    let end = number(recorded, at, load.seats);
+    number(recorded, end, load.wheelchairs)
+}
+
 // A customer, the times of arrival and departure, and the load.
 fn visit_line(recorded: &[u8], at: usize, visit: Visit) -> usize
     ensures { λ r. ⌜ r ≡ follows (now (recorded .entry)) at (visitLine visit) ⌝ }
 {
     let customer = visit.customer_id as u64;
+    let load = visit.load_after;
     let mut end = word(recorded, at, b"visit");
     end = number_and_two(
         recorded,
@@ -41,8 +53,17 @@ fn visit_line(recorded: &[u8], at: usize, visit: Visit) -> usize
         visit.arrival_time,
         visit.departure_time,
     );
-    end = number(recorded, end, visit.load_after);
+    end = load_figures(recorded, end, load);
     word(recorded, end, b"\n")
+}
+
+// The number of a violation in a measure, what is carried and what the vehicle holds.
+fn over_figures(recorded: &[u8], at: usize, n: u64, load: u64, capacity: u32) -> usize
+    ensures { λ r. ⌜ r ≡ follows (now (recorded .entry)) at (overFigures n load capacity) ⌝ }
+{
+    let mut end = number(recorded, at, n);
+    end = number(recorded, end, load);
+    number(recorded, end, capacity as u64)
 }
 
 // The number of a violation, and its figures.
@@ -60,9 +81,7 @@ fn violation_figures(recorded: &[u8], at: usize, kind: ViolationType) -> usize
         }
         ViolationType::BreakNotPlaceable => number(recorded, at, 2),
         ViolationType::CapacityExceeded { load, capacity } => {
-            let mut end = number(recorded, at, 3);
-            end = number(recorded, end, load);
-            number(recorded, end, capacity as u64)
+            over_figures(recorded, at, 3, load, capacity)
         }
         ViolationType::MaxDistanceExceeded {
             distance,
@@ -72,6 +91,9 @@ fn violation_figures(recorded: &[u8], at: usize, kind: ViolationType) -> usize
             duration,
             max_duration,
         } => number_and_two(recorded, at, 5, duration, max_duration),
+        ViolationType::WheelchairsExceeded { load, capacity } => {
+            over_figures(recorded, at, 6, load, capacity)
+        }
     }
 }
 
@@ -100,10 +122,15 @@ fn visit_lines(recorded: &[u8], at: usize, visits: [Visit; 128], count: usize) -
 }
 
 // The first violations of an array.
-fn violation_lines(recorded: &[u8], at: usize, violations: [Violation; 131], count: usize) -> usize
+fn violation_lines(
+    recorded: &[u8],
+    at: usize,
+    violations: [Violation; MOST_VIOLATIONS],
+    count: usize,
+) -> usize
     ensures { λ r. ⌜ r ≡ follows (now (recorded .entry)) at (each violationLine (take count violations)) ⌝ }
 {
-    let n = fewer(count, 131);
+    let n = fewer(count, MOST_VIOLATIONS);
     let mut end = at;
     let mut k = 0;
     while k < n {
@@ -130,11 +157,12 @@ fn break_figures(recorded: &[u8], at: usize, place: usize, start: Start) -> usiz
 fn total_figures(recorded: &[u8], at: usize, built: Built) -> usize
     ensures { λ r. ⌜ r ≡ follows (now (recorded .entry)) at (totalFigures (builtOf built)) ⌝ }
 {
+    let load = built.load;
     let mut end = figure(recorded, at, built.distance);
     end = figure(recorded, end, built.duration);
     end = figure(recorded, end, built.lateness);
     end = figure(recorded, end, built.lateness_cost);
-    number(recorded, end, built.load)
+    load_figures(recorded, end, load)
 }
 
 // All lines of the run: the visits and the violations, then the totals and the break.

@@ -3,10 +3,13 @@ ghost use mathlib.Core.Path.{_≡_};
 use crate::sheets::Sheet;
 use crate::sheets::base;
 use models::customer::Penalty;
+use models::load::Space;
 
 pub enum Change {
     Nothing,
     Capacity(u32),
+    // A wheelchair place for each customer; the seats and the wheelchair places that a bus has.
+    Wheelchairs(u32, u32),
     // The legs between the customers, both ways.
     Between(f64),
     // When customer 1 is due, who is there from time 0 on and can't be served late.
@@ -29,6 +32,7 @@ pub fn changed(change: Change) -> Sheet
     match change {
         Change::Nothing => sheet,
         Change::Capacity(most) => sheet.capacity(most),
+        Change::Wheelchairs(seats, wheelchairs) => sheet.wheelchairs(Space { seats, wheelchairs }),
         Change::Between(leg) => sheet.leg(1, 2, leg).leg(2, 1, leg),
         Change::Due(due) => sheet.window(0.0, due, Penalty::Hard),
         Change::DueAtPrice(due, price) => sheet.window(0.0, due, Penalty::Soft(price)),

@@ -11,6 +11,7 @@ use models::customer::depots;
 use models::head::Head;
 use models::limits::Limit;
 use models::limits::RouteLimits;
+use models::load::Space;
 use models::load::seats;
 use models::vehicle::Rest;
 use models::vehicle::VehicleBreak;
@@ -21,9 +22,9 @@ pub struct Sheet {
     pub distances: [f64; 9],
 }
 
-fn customer(time_window: Opening, lateness_penalty: Penalty) -> Customer {
+fn customer(demand: Space, time_window: Opening, lateness_penalty: Penalty) -> Customer {
     Customer {
-        demand: seats(2),
+        demand,
         service_duration: 0.0,
         time_window,
         lateness_penalty,
@@ -48,7 +49,7 @@ pub fn base() -> Sheet
         fixed_cost: 0.0,
         limits: limits(Limit::Unlimited, Rest::Unbroken),
     };
-    let c = customer(Opening::Always, Penalty::Hard);
+    let c = customer(seats(2), Opening::Always, Penalty::Hard);
     let mut customers = depots();
     customers[1] = c;
     customers[2] = c;
@@ -73,6 +74,25 @@ impl Sheet {
         self
     }
 
+    // A wheelchair place for each customer beside the seats, and what a vehicle then holds.
+    pub fn wheelchairs(mut self, capacity: Space) -> Sheet
+        ensures { λ r.
+            ⌜ (r .head .capacity ≡ capacity) × (r .head .places ≡ self .head .places)
+            × (r .distances ≡ self .distances) ⌝ }
+    {
+        let demand = Space {
+            seats: 2,
+            wheelchairs: 1,
+        };
+        let c = customer(demand, Opening::Always, Penalty::Hard);
+        self.customers[1] = c;
+        self.customers[2] = c;
+        let mut head = self.head;
+        head.capacity = capacity;
+        self.head = head;
+        self
+    }
+
     // The leg between two places, one way.
     pub fn leg(mut self, from: usize, to: usize, distance: f64) -> Sheet
         requires { ⌜ from < 3 ⌝ }
@@ -89,7 +109,11 @@ impl Sheet {
     pub fn window(mut self, ready: f64, due: f64, penalty: Penalty) -> Sheet
         ensures { λ r. ⌜ (r .head ≡ self .head) × (r .distances ≡ self .distances) ⌝ }
     {
-        let first = customer(Opening::Window(TimeWindow { ready, due }), penalty);
+        let first = customer(
+            seats(2),
+            Opening::Window(TimeWindow { ready, due }),
+            penalty,
+        );
         self.customers[1] = first;
         self
     }

@@ -12,14 +12,15 @@ use Rattle.basics.proofs.TestLaws.{by-test, not-both, and-true}
 use Rattle.basics.specs.Options.{_>>=_, present, valueOr, orElse, given}
 use Rattle.basics.proofs.OptionLaws.{same, clash, bound}
 use Rattle.basics.specs.Lists.{isEmpty, all, All}
+use Rattle.definitions.specs.Load.{seated}
 use Rattle.definitions.specs.Sheet.{Window, Break, Sheet}
 use Rattle.definitions.specs.Window.{dueOf, enter}
 use Rattle.definitions.specs.Limits.{within}
 use Rattle.definitions.specs.Run.{breakStart, tooLate, ready, serveAt, Label, start, serve, Run, breakAt, serveAll, lastOf, Totals, ride, load, fits, placed}
 use Rattle.definitions.specs.Cutting.{joined, cuttingCost}
 use Rattle.definitions.specs.Drop.{splitTw}
-use Rattle.definitions.specs.Marker.{Verdict, otherCalls, breakMissing, tooFar, tooLong, differ, breakOr, callFault, walkFault, totalFault, runFault, firstFault, against, mark}
-use Rattle.definitions.specs.Marks.{Placeable, Proper, Differs, Reached, arrival, Home, Fails, by-load, by-break, by-window, by-missing, by-distance, by-duration, FirstFails, plannerCost, Says, other, fault, priced}
+use Rattle.definitions.specs.Marker.{Verdict, otherCalls, overloadOf, breakMissing, tooFar, tooLong, differ, breakOr, callFault, walkFault, totalFault, runFault, firstFault, against, mark}
+use Rattle.definitions.specs.Marks.{Placeable, Proper, Differs, Reached, arrival, Home, Fails, by-load, by-wheelchairs, by-break, by-window, by-missing, by-distance, by-duration, FirstFails, plannerCost, Says, other, fault, priced}
 use Rattle.theorems.proofs.Marking.{nothing-mapped, unmarked-legal, unmarked-runs, differ-same, compared, mark-other, mark-same}
 
 -- ---- the walk
@@ -157,12 +158,21 @@ module _ (s : Sheet) (n : ℕ) (r : Run) (proper : Placeable s r) where
       (λ p h. first-of (within (s .head .maxDistance) (t .distance)) _ _ v h (λ d e. becomes v (far-fails t home p d) e)
       (λ d h. first-of (within (s .head .maxDuration) (t .duration)) _ none v (rw h refl) (λ l e. becomes v (long-fails t home p d l) e) (λ l h. clash h)))
 
+  -- the load does not fit: it is over in seats, or within these and over in wheelchair places
+  overloaded : fits s (r .calls) ≡ false → Fails s n r (overloadOf n (load s (r .calls)) (s .head .capacity))
+  overloaded f =
+      let l = load s (r .calls) in
+      let k = s .head .capacity in
+      by-test (seated l k)
+      (λ t. rw t (by-wheelchairs (record { seats-fit = t; value-is = refl; limit-is = refl; over = leb-false (l .wheelchairs) (k .wheelchairs) (rw t at f) })))
+      (λ o. rw o (by-load (record { value-is = refl; limit-is = refl; over = leb-false (l .seats) (k .seats) o })))
+
   -- a fault names a test that fails, and every test before it holds
   pub fault-fails : (v : Verdict) → runFault s n r ≡ some v → Fails s n r v
   unfolding runFault
   fault-fails v h =
       first-of (fits s (r .calls)) _ _ v h
-      (λ f e. becomes v (by-load (record { value-is = refl; limit-is = refl; over = leb-false (load s (r .calls) .seats) (s .head .capacity .seats) f })) e)
+      (λ f e. becomes v (overloaded f) e)
       (λ room h. walked room (walkFault s n (r .place) 1 0 start (r .calls)) refl h)
     where
       walked : fits s (r .calls) ≡ true → (o : Option Verdict) → walkFault s n (r .place) 1 0 start (r .calls) ≡ o → orElse o (ride s r >>= totalFault s n r) ≡ some v → Fails s n r v

@@ -19,6 +19,8 @@ pub mod Sentences
 pub mod Plain
 pub mod Agreement
 pub mod Bare
+-- Without wheelchair places.
+pub mod SeatsAlone
 -- Refusals in order, whatever stands in the list.
 pub mod InOrder
 -- What an accepted call is known to be; a tour with a customer twice; the reader's leftmost bad word, and the one that it names by 21; a number as text.

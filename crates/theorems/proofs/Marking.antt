@@ -14,12 +14,13 @@ use Rattle.basics.proofs.TestLaws.{by-test, not-both, both, and-true}
 use Rattle.basics.specs.Options.{_>>=_, holds, present, valueOr, orElse, given}
 use Rattle.basics.proofs.OptionLaws.{neither, passed, same, clash}
 use Rattle.basics.specs.Lists.{isEmpty, all}
+use Rattle.definitions.specs.Load.{Load, seated}
 use Rattle.definitions.specs.Sheet.{Break, Sheet, time, latenessPay}
 use Rattle.definitions.specs.Limits.{within}
 use Rattle.definitions.specs.Run.{ready, Label, start, serve, breakAt, serveAll, Totals, home, Run, ride, load, fits, placed, legal}
 use Rattle.definitions.specs.Cutting.{joined, legalCutting, cuttingCost}
 use Rattle.definitions.specs.Drop.{splitTw}
-use Rattle.definitions.specs.Marker.{markAgainst, Verdict, otherCalls, overload, breakTooLate, windowMissed, breakMissing, tooFar, tooLong, best, dearer, cheaper, differ, breakOr, callFault, walkFault, totalFault, runFault, firstFault, against, mark}
+use Rattle.definitions.specs.Marker.{markAgainst, Verdict, otherCalls, overload, overloadOf, breakTooLate, windowMissed, breakMissing, tooFar, tooLong, best, dearer, cheaper, wheelchairOverload, differ, breakOr, callFault, walkFault, totalFault, runFault, firstFault, against, mark}
 use Rattle.definitions.specs.Marks.{Cuts, plannerCost, Compared, equal, above, below}
 use Rattle.theorems.proofs.Legality.{legal-has, has-legal, legal-arc, arc-clock}
 use Rattle.theorems.proofs.Promised.{byClock, Promise, clock-runs, promised}
@@ -131,6 +132,7 @@ isPriced (tooLong n d l) = false
 isPriced best = true
 isPriced (dearer k) = true
 isPriced (cheaper k) = true
+isPriced (wheelchairOverload n l c) = false
 
 abbrev Fault : Option Verdict → Type 0
 Fault o = (v : Verdict) → o ≡ some v → isPriced v ≡ false
@@ -169,13 +171,16 @@ total-fault s n r t =
     let z = tooLong n (t .duration) (valueOr 0 (s .head .maxDuration)) in
     fault-or (given A x) (orElse (given B y) (given C z)) (fault-one x refl A) (fault-or (given B y) (given C z) (fault-one y refl B) (fault-one z refl C))
 
+load-fault : (n : ℕ) (l k : Load) → isPriced (overloadOf n l k) ≡ false
+load-fault n l k = by-test (seated l k) (λ t. rw t refl) (λ f. rw f refl)
+
 run-fault : (s : Sheet) (n : ℕ) (r : Run) → Fault (runFault s n r)
 unfolding runFault
 run-fault s n r =
-    let x = overload n (load s (r .calls) .seats) (s .head .capacity .seats) in
+    let x = overloadOf n (load s (r .calls)) (s .head .capacity) in
     let A = not (fits s (r .calls)) in
     let w = walkFault s n (r .place) 1 0 start (r .calls) in
-    fault-or (given A x) (orElse w (ride s r >>= totalFault s n r)) (fault-one x refl A)
+    fault-or (given A x) (orElse w (ride s r >>= totalFault s n r)) (fault-one x (load-fault n (load s (r .calls)) (s .head .capacity)) A)
     (fault-or w (ride s r >>= totalFault s n r) (walk-fault s n (r .place) 1 0 start (r .calls)) (go (ride s r)))
   where
     go : (o : Option Totals) → Fault (o >>= totalFault s n r)

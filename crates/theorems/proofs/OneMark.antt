@@ -12,15 +12,16 @@ use Rattle.basics.proofs.TestLaws.{by-test, not-both, both}
 use Rattle.basics.specs.Options.{_>>=_, present, valueOr, orElse, given}
 use Rattle.basics.proofs.OptionLaws.{same, clash}
 use Rattle.basics.specs.Lists.{isEmpty}
+use Rattle.definitions.specs.Load.{seated, wheeled}
 use Rattle.definitions.specs.Sheet.{Window, Break, Customer, Sheet, customer, time}
 use Rattle.definitions.specs.Window.{enter, late, dueOf}
 use Rattle.definitions.specs.Limits.{within, excused}
 use Rattle.definitions.specs.Run.{breakStart, tooLate, ready, Label, start, serve, serveAt, Run, breakAt, serveAll, lastOf, Totals, ride, load, fits, placed, legal}
 use Rattle.definitions.specs.Cutting.{joined, legalCutting, cuttingCost}
 use Rattle.definitions.specs.Drop.{splitTw}
-use Rattle.definitions.specs.Marker.{Verdict, otherCalls, overload, breakTooLate, windowMissed, breakMissing, tooFar, tooLong, best, dearer, cheaper, differ, breakOr, callFault, walkFault, totalFault, runFault, firstFault, against, mark}
+use Rattle.definitions.specs.Marker.{Verdict, otherCalls, overload, breakTooLate, windowMissed, breakMissing, tooFar, tooLong, best, dearer, cheaper, wheelchairOverload, differ, breakOr, callFault, walkFault, totalFault, runFault, firstFault, against, mark}
 use Rattle.definitions.specs.Marks as Marks
-use Rattle.definitions.specs.Marks.{Differs, Overloaded, Reached, arrival, BreakLate, WindowLate, Home, BreakLeftOut, Far, Long, Fails, by-load, by-break, by-window, by-missing, by-distance, by-duration, FirstFails, Cuts, plannerCost, Compared, equal, above, below, Says, other, fault, priced}
+use Rattle.definitions.specs.Marks.{Differs, Overloaded, WheelchairsOver, Reached, arrival, BreakLate, WindowLate, Home, BreakLeftOut, Far, Long, Fails, by-load, by-wheelchairs, by-break, by-window, by-missing, by-distance, by-duration, FirstFails, Cuts, plannerCost, Compared, equal, above, below, Says, other, fault, priced}
 use Rattle.theorems.proofs.Marking.{served-none, legal-unmarked, same-differ, mark-other, mark-same, mark-legal}
 
 -- ---- other calls
@@ -140,10 +141,19 @@ module _ (s : Sheet) (n : ℕ) (r : Run) where
   over-load : (value limit : ℕ) → Overloaded s r value limit → runFault s n r ≡ some (overload n value limit)
   unfolding runFault
   over-load value limit x =
-      by-test (fits s (r .calls)) (λ t. absurd (too-much (leb-true (load s (r .calls) .seats) (s .head .capacity .seats) t)))
+      by-test (seated (load s (r .calls)) (s .head .capacity)) (λ t. absurd (too-much (leb-true (load s (r .calls) .seats) (s .head .capacity .seats) t)))
       (λ f. rw f (ap₂ (λ (a b : ℕ). some (overload n a b)) (x .value-is) (x .limit-is)))
     where
       too-much : load s (r .calls) .seats ≤ s .head .capacity .seats → ⊥
+      too-much h = omega (arith, h, x .value-is, x .limit-is, x .over)
+
+  over-wheelchairs : (value limit : ℕ) → WheelchairsOver s r value limit → runFault s n r ≡ some (wheelchairOverload n value limit)
+  unfolding runFault
+  over-wheelchairs value limit x =
+      by-test (wheeled (load s (r .calls)) (s .head .capacity)) (λ t. absurd (too-much (leb-true (load s (r .calls) .wheelchairs) (s .head .capacity .wheelchairs) t)))
+      (λ f. rw (x .seats-fit, f) (ap₂ (λ (a b : ℕ). some (wheelchairOverload n a b)) (x .value-is) (x .limit-is)))
+    where
+      too-much : load s (r .calls) .wheelchairs ≤ s .head .capacity .wheelchairs → ⊥
       too-much h = omega (arith, h, x .value-is, x .limit-is, x .over)
 
   -- the call that is reached fails, and says so
@@ -160,6 +170,7 @@ module _ (s : Sheet) (n : ℕ) (r : Run) where
   pub fails-run : (v : Verdict) → Fails s n r v → runFault s n r ≡ some v
   unfolding placed
   fails-run v (by-load {value} {limit} x) = over-load value limit x
+  fails-run v (by-wheelchairs {value} {limit} x) = over-wheelchairs value limit x
   fails-run v (by-break {k} {c} {value} {limit} x) =
       reached-fails k c (breakTooLate n k c value limit) (x .reached)
       (subst

@@ -4,7 +4,7 @@ use native.Mathlib.Omega.{arith}
 use native.Mathlib.Nat.{le-refl}
 use mathlib.Core.Path.{_≡_, refl, sym, ap, subst, _∙_}
 use mathlib.Core.Bool.{Bool, true, false, not, _&&_, _||_, and-true, and-false, and-assoc, or-false, Bool·not-not}
-use mathlib.Core.List.{List, [], _∷_, _++_}
+use mathlib.Core.List.{List, [], _∷_, _++_, append-assoc}
 use mathlib.Core.Option.{Option, none, some}
 use lib.ListN.{length, length-append}
 use lib.Dec.{leb, eqb}
@@ -14,14 +14,14 @@ use Rattle.basics.specs.Options.{present, valueOr}
 use Rattle.basics.proofs.OptionLaws.{clash}
 use Rattle.basics.proofs.ListLaws.{any-append, empty-append}
 use Rattle.basics.specs.Lists.{isEmpty, any}
-use Rattle.definitions.specs.Load.{Load, noLoad}
+use Rattle.definitions.specs.Load.{Load, noLoad, seated, wheeled}
 use Rattle.definitions.specs.Sheet.{Break, Sheet, time}
 use Rattle.definitions.specs.Window.{Entry}
 use Rattle.definitions.specs.Limits.{within}
 use Rattle.definitions.specs.Run.{serveAt, ready, Label, start, serve, breakAt, serveAll, Totals, home, load, fits, allowed}
 use Rattle.definitions.specs.Clock.{clock, counts, placeOr}
 use Rattle.definitions.specs.Evaluation.{routeEval, routeFeasible}
-use Rattle.definitions.specs.Visits.{Violation, windowShut, breakNotPlaceable, overCapacity, overDistance, overDuration, readyFor, entered, visited, windowsFrom, lastLabel, unless, overloads, buildRoute}
+use Rattle.definitions.specs.Visits.{Violation, windowShut, breakNotPlaceable, overCapacity, overDistance, overDuration, overWheelchairs, readyFor, entered, visited, windowsFrom, lastLabel, unless, overloads, buildRoute}
 use Rattle.definitions.specs.Lent.{violationRoom}
 use Rattle.theorems.proofs.Legality.{plain, clocked, end, back, labelOf}
 use Rattle.theorems.proofs.Marking.{nothing-mapped}
@@ -33,6 +33,7 @@ isWindow breakNotPlaceable = false
 isWindow (overCapacity l c) = false
 isWindow (overDistance d l) = false
 isWindow (overDuration d l) = false
+isWindow (overWheelchairs l c) = false
 
 abbrev pub isBreak : Violation → Bool
 isBreak (windowShut c r d) = false
@@ -40,6 +41,7 @@ isBreak breakNotPlaceable = true
 isBreak (overCapacity l c) = false
 isBreak (overDistance d l) = false
 isBreak (overDuration d l) = false
+isBreak (overWheelchairs l c) = false
 
 -- a violation of another kind, if it is there, changes nothing
 quiet : (p : Violation → Bool) (l : List Violation) (b : Bool) (v : Violation) → p v ≡ false → any p (l ++ unless b v) ≡ any p l
@@ -105,17 +107,23 @@ break-room (x ∷ w) p n h = rw (and-false p) (omega arith)
 
 -- how many measures there are
 abbrev measures : ℕ
-measures = 1
+measures = 2
 
-quiet-load : (p : Violation → Bool) (b : List Violation) (l k : Load) → ((n m : ℕ) → p (overCapacity n m) ≡ false) → any p (b ++ overloads l k) ≡ any p b
-quiet-load p b l k h = quiet p b (leb (l .seats) (k .seats)) _ (h _ _)
+quiet-load : (p : Violation → Bool) (b : List Violation) (l k : Load)
+    → ((n m : ℕ) → (p (overCapacity n m) ≡ false) × (p (overWheelchairs n m) ≡ false)) → any p (b ++ overloads l k) ≡ any p b
+quiet-load p b l k h =
+    let c = b ++ unless (seated l k) (overCapacity (l .seats) (k .seats)) in
+    ap (any p) (sym (append-assoc b _ _)) ∙ quiet p c (wheeled l k) _ (h _ _ .1) ∙ quiet p b (seated l k) _ (h _ _ .0)
 
 few-overloads : (l k : Load) → length (overloads l k) ≤ measures
-few-overloads l k = one (leb (l .seats) (k .seats)) (overCapacity (l .seats) (k .seats))
+few-overloads l k =
+    let seats = one (seated l k) (overCapacity (l .seats) (k .seats)) in
+    let wheelchairs = one (wheeled l k) (overWheelchairs (l .wheelchairs) (k .wheelchairs)) in
+    rw (length-append (unless (seated l k) (overCapacity (l .seats) (k .seats))) (unless (wheeled l k) (overWheelchairs (l .wheelchairs) (k .wheelchairs)))) (omega arith)
 
 -- an empty vehicle has none
 none-overloads : (k : Load) → length (overloads noLoad k) ≤ 0
-none-overloads k = rw (le-leb 0 (k .seats) (omega arith)) (le-refl 0)
+none-overloads k = rw (le-leb 0 (k .seats) (omega arith), le-leb 0 (k .wheelchairs) (omega arith)) (le-refl 0)
 
 module _ (s : Sheet) (calls : List ℕ) where
   -- the violations of a run in their order, from the windows missed, whether the break is reported, and the totals
@@ -127,7 +135,7 @@ module _ (s : Sheet) (calls : List ℕ) where
       ++ unless (within (s .head .maxDistance) (t .distance)) (overDistance (t .distance) (valueOr 0 (s .head .maxDistance)))
       ++ unless (within (s .head .maxDuration) (t .duration)) (overDuration (t .duration) (valueOr 0 (s .head .maxDuration)))
 
-  any-ordered : (p : Violation → Bool) → ((n m : ℕ) → (p (overCapacity n m) ≡ false) × (p (overDistance n m) ≡ false) × (p (overDuration n m) ≡ false))
+  any-ordered : (p : Violation → Bool) → ((n m : ℕ) → ((p (overCapacity n m) ≡ false) × (p (overWheelchairs n m) ≡ false)) × (p (overDistance n m) ≡ false) × (p (overDuration n m) ≡ false))
       → (w : List Violation) (q : Bool) (t : Totals) → any p (ordered w q t) ≡ any p w || (q && p breakNotPlaceable)
   any-ordered p h w q t =
       let b = w ++ unless (not q) breakNotPlaceable in
@@ -170,8 +178,8 @@ module _ (s : Sheet) (calls : List ℕ) where
       go : (o : Option Totals) → any isBreak (violationsBy o) ≡ (present (s .head .rest) && not (present o) && not (any isWindow (violationsBy o)))
       go o =
           let w = only-windows s (placeOr o) 1 0 start calls in
-          let b = any-ordered isBreak (λ n m. (refl, refl, refl)) (missedBy o) (reportedBy o) (totalsBy o) in
-          let a = any-ordered isWindow (λ n m. (refl, refl, refl)) (missedBy o) (reportedBy o) (totalsBy o) in
+          let b = any-ordered isBreak (λ n m. ((refl, refl), refl, refl)) (missedBy o) (reportedBy o) (totalsBy o) in
+          let a = any-ordered isWindow (λ n m. ((refl, refl), refl, refl)) (missedBy o) (reportedBy o) (totalsBy o) in
           let e = isEmpty (missedBy o) in
           rw (b, a, w .0, w .1, and-true (reportedBy o), and-false (reportedBy o), or-false (not e), Bool·not-not e) refl
 

@@ -37,7 +37,7 @@ module _ (t : Tables) (capacity : Load) (limits : LimitsF) (calls : List ℕ) (a
         duration = duration;
         lateness = w .trip .label .lateness;
         «lateness_cost» = w .trip .label .cost;
-        load = w .trip .load .seats;
+        load = w .trip .load;
         place = at .place;
         start = at .start;
       }

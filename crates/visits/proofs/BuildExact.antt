@@ -2,7 +2,7 @@
 use Prim.Native.Nat.{ℕ, suc, _≤_}
 use native.Mathlib.Omega.{arith}
 use native.Mathlib.Nat.{zero-add}
-use mathlib.Core.Path.{_≡_, refl, sym, ap, _∙_}
+use mathlib.Core.Path.{_≡_, refl, sym, ap, ap₂, _∙_}
 use mathlib.Core.Bool.{Bool, true, false, not, _&&_, Bool·not-not}
 use mathlib.Core.List.{List, [], _∷_, _++_, map, map-append}
 use mathlib.Core.Option.{Option, none, some, Option·map}
@@ -13,13 +13,13 @@ use lib.Ieee.{binary64}
 use Rattle.basics.specs.Options.{Holds, present, valueOr}
 use Rattle.basics.specs.Lists.{All, isEmpty}
 use Rattle.definitions.specs.Domain.{mostCalls}
-use Rattle.definitions.specs.Load.{Load, noLoad, carried}
+use Rattle.definitions.specs.Load.{Load, noLoad, seated, wheeled}
 use Rattle.definitions.specs.Sheet.{Break, Sheet, time}
 use Rattle.definitions.specs.Limits.{within}
 use Rattle.definitions.specs.Run as Whole
 use Rattle.definitions.specs.Run.{start, placeAfter, lastOf, distanceFrom, Totals, home, load}
 use Rattle.definitions.specs.Clock.{clock, placeOr, startOf}
-use Rattle.definitions.specs.Visits.{Violation, breakNotPlaceable, overCapacity, overDistance, overDuration, visited, windowsFrom, lastLabel, unless, overloads, buildRoute}
+use Rattle.definitions.specs.Visits.{Violation, breakNotPlaceable, overCapacity, overDistance, overDuration, overWheelchairs, visited, windowsFrom, lastLabel, unless, overloads, buildRoute}
 use Rattle.definitions.specs.Refusals.{Within, WithinCalls}
 use Rattle.definitions.proofs.LoadLaws.{none-plus}
 use Rattle.theorems.proofs.Visiting.{visits-clock}
@@ -39,8 +39,9 @@ use Rattle.evaluation.specs.Schedule.{distanceFromF}
 use Rattle.evaluation.specs.Image.{flLimits, Image}
 use Rattle.evaluation.proofs.ClockExact.{distance-from-exact, time-exact, schedule-exact}
 use Rattle.evaluation.proofs.RouteExact.{start-exact}
+use Rattle.visits.specs.declared.visit.Violation as Held
 use Rattle.visits.specs.Visiting.{placedF, placeOf, durationF, missingF, restAtF, startTrip, tripF}
-use Rattle.visits.specs.Violations.{overF, when, checkedF}
+use Rattle.visits.specs.Violations.{overF, when, overloadsF, checkedF}
 use Rattle.visits.specs.Building.{builtF, buildRouteF}
 use Rattle.visits.specs.Image.{flViolation, flRoute}
 use Rattle.visits.proofs.Resting.{lengthOf, nowhere, no-place, agrees}
@@ -54,12 +55,21 @@ over-exact (some m) n h i = rw (fl-lt m n (omega arith) i) (rw (← not-ltb m n)
 
 -- a violation where a test holds is one where the opposite test fails
 when-exact : (b c : Bool) (v : Violation) → b ≡ not c → when b (flViolation v) ≡ map flViolation (unless c v)
+unfolding when
 when-exact b true v e = rw e
 when-exact b false v e = rw e
 
 empty-map : (l : List Violation) → isEmpty (map flViolation l) ≡ isEmpty l
 empty-map [] = refl
 empty-map (v ∷ l) = refl
+
+overloads-exact : (load capacity : Load) → overloadsF load capacity ≡ map flViolation (overloads load capacity)
+unfolding overloadsF
+overloads-exact load capacity =
+    let v = overCapacity (load .seats) (capacity .seats) in
+    let w = overWheelchairs (load .wheelchairs) (capacity .wheelchairs) in
+    ap₂ (λ (vs ws : List Held.Violation). vs ++ ws) (when-exact _ (seated load capacity) v refl) (when-exact _ (wheeled load capacity) w refl)
+    ∙ sym (map-append flViolation (unless (seated load capacity) v) (unless (wheeled load capacity) w))
 
 module _ (s : Sheet) (S : Sized s) (windows : List Violation) (missing : Bool) (load : Load) (distance duration : ℕ) (far : distance ≤ limit) (long : duration ≤ limit) where
   checked-exact : checkedF (map flViolation windows) missing load (s .head .capacity) (flLimits s) (fl distance) (fl duration)
@@ -75,7 +85,7 @@ module _ (s : Sheet) (S : Sized s) (windows : List Violation) (missing : Bool) (
         limit-exact (s .head .maxDistance),
         limit-exact (s .head .maxDuration),
         when-exact (missing && isEmpty windows) (not (missing && isEmpty windows)) breakNotPlaceable (sym (Bool·not-not (missing && isEmpty windows))),
-        when-exact _ (carried load (s .head .capacity)) (overCapacity (load .seats) (s .head .capacity .seats)) refl,
+        overloads-exact load (s .head .capacity),
         when-exact _ (within (s .head .maxDistance) distance) (overDistance distance (valueOr 0 (s .head .maxDistance))) (over-exact (s .head .maxDistance) distance (S .far-small) far),
         when-exact _ (within (s .head .maxDuration) duration) (overDuration duration (valueOr 0 (s .head .maxDuration))) (over-exact (s .head .maxDuration) duration (S .long-small) long),
       )

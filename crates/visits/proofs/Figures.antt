@@ -2,7 +2,7 @@
 use mathlib.Core.Path.{_≡_, refl}
 use mathlib.Core.List.{map}
 use Rattle.whole.specs.Whole.{fl}
-use Rattle.definitions.specs.Visits.{Violation, windowShut, breakNotPlaceable, overCapacity, overDistance, overDuration, violationNumber, violationValues}
+use Rattle.definitions.specs.Visits.{Violation, windowShut, breakNotPlaceable, overCapacity, overDistance, overDuration, overWheelchairs, violationNumber, violationValues}
 use Rattle.visits.specs.Image.{flViolation}
 use Rattle.visits.specs.Figures.{numberIn, valuesIn}
 
@@ -12,6 +12,7 @@ same-number breakNotPlaceable = refl
 same-number (overCapacity load capacity) = refl
 same-number (overDistance distance max) = refl
 same-number (overDuration duration max) = refl
+same-number (overWheelchairs load capacity) = refl
 
 pub same-values : (v : Violation) → valuesIn (flViolation v .kind) ≡ map fl (violationValues v)
 same-values (windowShut customer readiness due) = refl
@@ -19,3 +20,4 @@ same-values breakNotPlaceable = refl
 same-values (overCapacity load capacity) = refl
 same-values (overDistance distance max) = refl
 same-values (overDuration duration max) = refl
+same-values (overWheelchairs load capacity) = refl

@@ -22,7 +22,7 @@ use Rattle.visits.specs.declared.visit.ViolationType.the-variants.{TimeW
 use Rattle.visits.specs.declared.visit.Violation.{Violation}
 use Rattle.visits.specs.declared.trip.Served.{Served}
 use Rattle.visits.specs.declared.evaluator.VisitedRun.{VisitedRun}
-use Rattle.visits.specs.Visiting.{RestF, TripF, tripOf, startTrip, VisitedF, readyAtF, servedF, visitF, visitAtF, visitsF, windowsF, tripF, Walks}
+use Rattle.visits.specs.Visiting.{RestF, TripF, tripOf, startTrip, VisitedF, readyAtF, servedF, visitF, visitAtF, visitsF, windowsF, tripF, loadIn, mostViolations, Walks}
 
 -- an element written after the first n counts only where the test holds
 pub written-some : {A : Type 0} (l : List A) (n m : ℕ) (a : A) (b : Bool) → n < length l → m ≡ n + cond b 1 0 → take m (set l n a) ≡ take n l ++ cond b (a ∷ []) []
@@ -42,7 +42,7 @@ module _ (x : TripF) (r : RestF) (k cid : ℕ) (c : CustomerOf Float) (distance 
               «customer_id» = cid;
               «arrival_time» = Ieee.add binary64 (x .label .time) travel;
               «departure_time» = m .label .time;
-              «load_after» = load .seats;
+              «load_after» = loadIn load;
             };
         violation = record { kind = TimeWindowViolated cid ready due };
         shut = m .shut;
@@ -64,11 +64,11 @@ pub record Underway (t : Tables) (r : RestF) (calls : List ℕ) (visits : List V
   pub few : count ≤ i
   pub load-most : UpTo i (x .load)
   pub visits-long : length visits ≡ 128
-  pub list-long : length list ≡ 131
+  pub list-long : length list ≡ mostViolations
 
 module _ (t : Tables) (r : RestF) (calls : List ℕ) where
   pub set-out : (visits : List Visit) (list : List Violation) (x : TripF)
-      → length calls ≤ 128 → length visits ≡ 128 → length list ≡ 131 → x ≡ startTrip → Underway t r calls visits list 0 x 0
+      → length calls ≤ 128 → length visits ≡ 128 → length list ≡ mostViolations → x ≡ startTrip → Underway t r calls visits list 0 x 0
   set-out visits list x s v l e =
       rw e
       (record {

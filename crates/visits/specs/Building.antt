@@ -7,6 +7,7 @@ use lib.ListN.{length, take}
 use lib.Ieee as Ieee
 use lib.Ieee.{Float, binary64}
 use Rattle.definitions.specs.Load.{Load}
+use Rattle.models.specs.Load.{loadOf}
 use Rattle.clock.specs.declared.schedule.Scheduled.{Scheduled}
 use Rattle.evaluation.specs.Records.{Tables, LimitsF, startOf}
 use Rattle.evaluation.specs.Tables.{distanceF, timeF}
@@ -16,11 +17,11 @@ use Rattle.visits.specs.declared.evaluator.Built.{Built}
 use Rattle.visits.specs.Visiting.{RestF, restAtF, TripF, startTrip, visitsF, windowsF, tripF}
 use Rattle.visits.specs.Violations.{checkedF}
 
--- the visits, the totals with the break's place, the load as it is reported, the break's start, and the violations
+-- the visits, the totals with the break's place, the load, the break's start, and the violations
 pub record RouteF : Type 0 where
   pub visits : List Visit
   pub totals : Scheduled
-  pub load : ℕ
+  pub load : Load
   pub start : Option Float
   pub violations : List Violation
 
@@ -43,7 +44,7 @@ builtF t capacity limits calls r =
     record {
       visits = visitsF t r 1 startTrip calls;
       totals = totals;
-      load = x .load .seats;
+      load = x .load;
       start = r .start;
       violations =
           checkedF (windowsF t r 1 startTrip calls) (r .missing) (x .load) capacity limits (totals .distance) (totals .duration);
@@ -66,7 +67,7 @@ builtOf b =
             cost = b .«lateness_cost»;
             place = b .place;
           };
-      load = b .load;
+      load = loadOf (b .load);
       start = startOf (b .start);
       violations = take (b .found) (b .violations);
     }

@@ -4,7 +4,7 @@ use mathlib.Core.List.{List, [], _∷_}
 use lib.Ieee.{Float}
 use Rattle.whole.specs.Whole.{fl}
 use Rattle.visits.specs.declared.visit.ViolationType.{ViolationType}
-use Rattle.visits.specs.declared.visit.ViolationType.the-variants.{TimeWindowViolated, BreakNotPlaceable, CapacityExceeded, MaxDistanceExceeded, MaxDurationExceeded}
+use Rattle.visits.specs.declared.visit.ViolationType.the-variants.{TimeWindowViolated, BreakNotPlaceable, CapacityExceeded, MaxDistanceExceeded, MaxDurationExceeded, WheelchairsExceeded}
 
 abbrev pub numberIn : ViolationType → ℕ
 numberIn (TimeWindowViolated customer arrival due) = 1
@@ -12,6 +12,7 @@ numberIn BreakNotPlaceable = 2
 numberIn (CapacityExceeded load capacity) = 3
 numberIn (MaxDistanceExceeded distance max) = 4
 numberIn (MaxDurationExceeded duration max) = 5
+numberIn (WheelchairsExceeded load capacity) = 6
 
 abbrev pub valuesIn : ViolationType → List Float
 valuesIn (TimeWindowViolated customer arrival due) = fl customer ∷ arrival ∷ due ∷ []
@@ -19,3 +20,4 @@ valuesIn BreakNotPlaceable = []
 valuesIn (CapacityExceeded load capacity) = fl load ∷ fl capacity ∷ []
 valuesIn (MaxDistanceExceeded distance max) = distance ∷ max ∷ []
 valuesIn (MaxDurationExceeded duration max) = duration ∷ max ∷ []
+valuesIn (WheelchairsExceeded load capacity) = fl load ∷ fl capacity ∷ []

@@ -2,13 +2,14 @@
 use mathlib.Core.List.{map}
 use mathlib.Core.Option.{Option·map}
 use Rattle.definitions.specs.Visits as Whole
-use Rattle.definitions.specs.Visits.{Route, windowShut, breakNotPlaceable, overCapacity, overDistance, overDuration}
+use Rattle.definitions.specs.Visits.{Route, windowShut, breakNotPlaceable, overCapacity, overDistance, overDuration, overWheelchairs}
 use Rattle.whole.specs.Whole.{fl}
 use Rattle.clock.specs.Image.{flTotals}
 use Rattle.visits.specs.declared.visit.Visit.{Visit}
 use Rattle.visits.specs.declared.visit.ViolationType.{ViolationType}
-use Rattle.visits.specs.declared.visit.ViolationType.the-variants.{TimeWindowViolated, BreakNotPlaceable, CapacityExceeded, MaxDistanceExceeded, MaxDurationExceeded}
+use Rattle.visits.specs.declared.visit.ViolationType.the-variants.{TimeWindowViolated, BreakNotPlaceable, CapacityExceeded, MaxDistanceExceeded, MaxDurationExceeded, WheelchairsExceeded}
 use Rattle.visits.specs.declared.visit.Violation.{Violation}
+use Rattle.visits.specs.Visiting.{loadIn}
 use Rattle.visits.specs.Building.{RouteF}
 
 abbrev pub flVisit : Whole.Visit → Visit
@@ -17,7 +18,7 @@ flVisit v =
       «customer_id» = v .customer;
       «arrival_time» = fl (v .arrival);
       «departure_time» = fl (v .departure);
-      «load_after» = v .load .seats;
+      «load_after» = loadIn (v .load);
     }
 
 abbrev pub flKind : Whole.Violation → ViolationType
@@ -26,6 +27,7 @@ flKind breakNotPlaceable = BreakNotPlaceable
 flKind (overCapacity load capacity) = CapacityExceeded load capacity
 flKind (overDistance distance limit) = MaxDistanceExceeded (fl distance) (fl limit)
 flKind (overDuration duration limit) = MaxDurationExceeded (fl duration) (fl limit)
+flKind (overWheelchairs load capacity) = WheelchairsExceeded load capacity
 
 abbrev pub flViolation : Whole.Violation → Violation
 flViolation v = record { kind = flKind v }
@@ -35,7 +37,7 @@ flRoute r =
     record {
       visits = map flVisit (r .visits);
       totals = flTotals (r .totals);
-      load = r .load .seats;
+      load = r .load;
       start = Option·map fl (r .start);
       violations = map flViolation (r .violations);
     }

@@ -9,9 +9,12 @@ use lib.ListN.{length, take}
 use lib.Ieee as Ieee
 use lib.Ieee.{Float, binary64}
 use Rattle.basics.specs.Options.{_>>=_, present, valueOr}
+use Rattle.definitions.specs.Domain.{mostCalls}
+use Rattle.definitions.specs.Lent.{violationRoom}
 use Rattle.definitions.specs.Load.{Load, noLoad, plus}
 use Rattle.definitions.specs.Sheet.{WindowOf, BreakOf, CustomerOf}
 use Rattle.whole.specs.Whole.{fl}
+use Rattle.models.specs.declared.load.Load as Code
 use Rattle.models.specs.Load.{loadOf}
 use Rattle.models.specs.Window.{waitingF, dueF}
 use Rattle.clock.specs.declared.schedule.Label.{Label}
@@ -119,12 +122,16 @@ pub record VisitedF : Type 0 where
 abbrev pub visitedOf : VisitedCall → VisitedF
 visitedOf v = record { trip = tripOf (v .trip); visit = v .visit; violation = v .violation; shut = v .shut }
 
+-- the load as a visit has it
+abbrev pub loadIn : Load → Code.Load
+loadIn load = record { seats = load .seats; wheelchairs = load .wheelchairs }
+
 -- customer cid, reached at `arrival`, ready from `readiness` on and left as served, with this load
 abbrev pub visitBy : TripF → ℕ → CustomerOf Float → Float → Float → Float → Served → Load → VisitedF
 visitBy x cid c distance arrival readiness m load =
     record {
       trip = record { label = m .label; distance = Ieee.add binary64 (x .distance) distance; load = load; prev = cid };
-      visit = record { «customer_id» = cid; «arrival_time» = arrival; «departure_time» = m .label .time; «load_after» = load .seats };
+      visit = record { «customer_id» = cid; «arrival_time» = arrival; «departure_time» = m .label .time; «load_after» = loadIn load };
       violation = record { kind = TimeWindowViolated cid readiness (dueF (c .window)) };
       shut = m .shut;
     }
@@ -162,18 +169,22 @@ module _ (t : Tables) (r : RestF) where
 abbrev pub listed : Violations → List Violation
 listed f = take (f .count) (f .list)
 
+-- what the list has room for
+abbrev pub mostViolations : ℕ
+mostViolations = violationRoom mostCalls
+
 -- what the code has of the walk
 pub record Walks (t : Tables) (r : RestF) (calls : List ℕ) (w : VisitedRun) : Type 0 where
   pub visits-are : take (length calls) (w .visits) ≡ visitsF t r 1 startTrip calls
   pub windows-are : listed (w .windows) ≡ windowsF t r 1 startTrip calls
   pub trip-is : tripOf (w .trip) ≡ tripF t r 1 startTrip calls
   pub few : w .windows .count ≤ length calls
-  pub long : length (w .windows .list) ≡ 131
+  pub long : length (w .windows .list) ≡ mostViolations
 
 -- ---- what stands in the arrays where nothing is written
 
 abbrev pub blankVisit : Visit
-blankVisit = record { «customer_id» = 0; «arrival_time» = fl 0; «departure_time» = fl 0; «load_after» = 0 }
+blankVisit = record { «customer_id» = 0; «arrival_time» = fl 0; «departure_time» = fl 0; «load_after» = loadIn noLoad }
 
 abbrev pub blankViolation : Violation
 blankViolation = record { kind = BreakNotPlaceable }

@@ -5,12 +5,13 @@ ghost use Prim.Native.Nat.{_+_, _≤_};
 ghost use lib.ListN.{length, replicate};
 ghost use Rattle.models.specs.Load.{spaceOf};
 ghost use Rattle.evaluation.specs.Records.{lent, limitsOf};
-ghost use Rattle.visits.specs.Visiting.{restAtOf, Walks, blankVisit, blankViolation};
+ghost use Rattle.visits.specs.Visiting.{restAtOf, Walks, mostViolations, blankVisit, blankViolation};
 ghost use Rattle.visits.specs.Building.{Builds};
 use crate::rest::RestAt;
 use crate::rest::rest_at;
 use crate::trip::Trip;
 use crate::violation::Violations;
+use crate::visit::MOST_VIOLATIONS;
 use crate::visit::Violation;
 use crate::visit::ViolationType;
 use crate::visit::Visit;
@@ -19,6 +20,7 @@ use evaluation::route::Start;
 use evaluation::schedule::record_index;
 use models::customer::Customer;
 use models::limits::RouteLimits;
+use models::load::Load;
 use models::load::Space;
 
 // All calls visited: the visits stand first in their array.
@@ -32,13 +34,13 @@ pub struct VisitedRun {
 pub struct Built {
     pub visits: [Visit; 128],
     pub count: usize,
-    pub violations: [Violation; 131],
+    pub violations: [Violation; MOST_VIOLATIONS],
     pub found: usize,
     pub distance: f64,
     pub duration: f64,
     pub lateness: f64,
     pub lateness_cost: f64,
-    pub load: u64,
+    pub load: Load,
     pub place: usize,
     pub start: Start,
 }
@@ -51,18 +53,18 @@ pub fn blank_visits() -> [Visit; 128]
         customer_id: 0,
         arrival_time: 0.0,
         departure_time: 0.0,
-        load_after: 0,
+        load_after: Load::none(),
     };
     [visit; 128]
 }
 
-pub fn blank_violations() -> [Violation; 131]
-    ensures { λ r. ⌜ r ≡ replicate 131 blankViolation ⌝ }
+pub fn blank_violations() -> [Violation; MOST_VIOLATIONS]
+    ensures { λ r. ⌜ r ≡ replicate mostViolations blankViolation ⌝ }
 {
     let violation = Violation {
         kind: ViolationType::BreakNotPlaceable,
     };
-    [violation; 131]
+    [violation; MOST_VIOLATIONS]
 }
 
 // One more, where the test holds.
@@ -152,7 +154,7 @@ pub fn build_route(
         duration,
         lateness: label.lateness,
         lateness_cost: label.cost,
-        load: load.seats,
+        load,
         place: at.place,
         start,
     }

@@ -3,6 +3,7 @@ ghost use mathlib.Core.Path.{_≡_};
 ghost use Prim.Native.Nat.{min};
 ghost use lib.ListN.{length, take};
 ghost use Rattle.definitions.specs.Room.{written};
+use crate::visit::MOST_VIOLATIONS;
 use crate::visit::Violation;
 use crate::visit::Visit;
 use lending::fitting;
@@ -22,12 +23,16 @@ pub fn scattered_visits(records: [Visit; 128], n: usize, visits: &mut [Visit])
 }
 
 // The same of violations.
-pub fn scattered_violations(records: [Violation; 131], n: usize, violations: &mut [Violation])
+pub fn scattered_violations(
+    records: [Violation; MOST_VIOLATIONS],
+    n: usize,
+    violations: &mut [Violation],
+)
     ensures { λ _.
         let lent = now (violations .entry) in
         ⌜ now (violations .exit) ≡ written (take (min n (length lent)) records) lent ⌝ }
 {
-    let m = fitting(n, 131, violations.len());
+    let m = fitting(n, MOST_VIOLATIONS, violations.len());
     let mut i = 0;
     while i < m {
         violations[i] = records[i];

@@ -123,7 +123,7 @@ impl Trip {
                 customer_id: cid,
                 arrival_time: arrival,
                 departure_time: label.time,
-                load_after: load.seats,
+                load_after: load,
             },
             violation: Violation {
                 kind: ViolationType::TimeWindowViolated {

@@ -1,13 +1,15 @@
-// The violations of a run, in their order: windows by visit, the break, capacity, distance, duration.
+// The violations of a run, in their order: windows by visit, the break, capacity in each measure, distance, duration.
 ghost use mathlib.Core.Path.{_≡_};
 ghost use mathlib.Core.Bool.{_&&_};
-ghost use Prim.Native.Nat.{_<_, _≤_};
+ghost use Prim.Native.Nat.{_+_, _<_, _≤_};
 ghost use lib.Dec.{eqb};
 ghost use lib.ListN.{length};
 ghost use Rattle.models.specs.Load.{spaceOf, loadOf};
 ghost use Rattle.models.specs.Records.{limitOf};
 ghost use Rattle.evaluation.specs.Records.{limitsOf};
-ghost use Rattle.visits.specs.Violations.{Pushed, Checked, overF};
+ghost use Rattle.visits.specs.Visiting.{mostViolations};
+ghost use Rattle.visits.specs.Violations.{Added, Checked, when, overF, overloadsF};
+use crate::visit::MOST_VIOLATIONS;
 use crate::visit::Violation;
 use crate::visit::ViolationType;
 use models::limits::Limit;
@@ -18,7 +20,7 @@ use models::load::Space;
 
 // The first `count` of the list.
 pub struct Violations {
-    pub list: [Violation; 131],
+    pub list: [Violation; MOST_VIOLATIONS],
     pub count: usize,
 }
 
@@ -42,8 +44,8 @@ pub fn reported(missing: bool, windows: usize) -> bool
 impl Violations {
     // One more, where the test holds.
     pub fn pushed(self, test: bool, violation: Violation) -> Violations
-        requires { ⌜ (length (self .list) ≡ 131) × (self .count < 131) ⌝ }
-        ensures { λ r. ⌜ Pushed self test violation r ⌝ }
+        requires { ⌜ (length (self .list) ≡ mostViolations) × (self .count < mostViolations) ⌝ }
+        ensures { λ r. ⌜ Added self (when test violation) r ⌝ }
     {
         if !test {
             return self;
@@ -57,6 +59,31 @@ impl Violations {
         }
     }
 
+    // Each measure in which a load is over what the vehicle holds: seats, then wheelchair places.
+    pub fn loaded(self, load: Load, capacity: Space) -> Violations
+        requires { ⌜ (length (self .list) ≡ mostViolations) × (self .count + 1 < mostViolations) ⌝ }
+        ensures { λ r. ⌜ Added self (overloadsF (loadOf load) (spaceOf capacity)) r ⌝ }
+    {
+        let seated = self.pushed(
+            !load.seated(capacity),
+            Violation {
+                kind: ViolationType::CapacityExceeded {
+                    load: load.seats,
+                    capacity: capacity.seats,
+                },
+            },
+        );
+        seated.pushed(
+            !load.wheeled(capacity),
+            Violation {
+                kind: ViolationType::WheelchairsExceeded {
+                    load: load.wheelchairs,
+                    capacity: capacity.wheelchairs,
+                },
+            },
+        )
+    }
+
     // The windows violated, and after them what else the run violates.
     pub fn checked(
         self,
@@ -67,7 +94,7 @@ impl Violations {
         distance: f64,
         duration: f64,
     ) -> Violations
-        requires { ⌜ (length (self .list) ≡ 131) × (self .count ≤ 128) ⌝ }
+        requires { ⌜ (length (self .list) ≡ mostViolations) × (self .count ≤ 128) ⌝ }
         ensures { λ r. ⌜ Checked self missing (loadOf load) (spaceOf capacity) (limitsOf limits) distance duration r ⌝ }
     {
         let max_distance = limits.max_distance;
@@ -78,15 +105,7 @@ impl Violations {
                 kind: ViolationType::BreakNotPlaceable,
             },
         );
-        let loaded = placed.pushed(
-            !load.fits(capacity),
-            Violation {
-                kind: ViolationType::CapacityExceeded {
-                    load: load.seats,
-                    capacity: capacity.seats,
-                },
-            },
-        );
+        let loaded = placed.loaded(load, capacity);
         let near = loaded.pushed(
             exceeds(max_distance, distance),
             Violation {

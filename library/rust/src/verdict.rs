@@ -7,6 +7,7 @@ pub enum Verdict {
     OtherCalls {
         position: u64,
     },
+    /// Of seats.
     Overload {
         run: u64,
         load: u64,
@@ -49,6 +50,12 @@ pub enum Verdict {
     /// Only where lateness is paid and there is a break.
     Cheaper {
         by: u64,
+    },
+    /// Of wheelchair places, where the seats are enough.
+    WheelchairOverload {
+        run: u64,
+        load: u64,
+        capacity: u64,
     },
 }
 
@@ -95,7 +102,12 @@ impl Verdict {
             8 => Verdict::Best,
             9 => Verdict::Dearer { by: a },
             10 => Verdict::Cheaper { by: a },
-            _ => unreachable!("the library has ten verdicts"),
+            11 => Verdict::WheelchairOverload {
+                run: a,
+                load: b,
+                capacity: c,
+            },
+            _ => unreachable!("the library has eleven verdicts"),
         }
     }
 }

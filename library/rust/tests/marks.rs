@@ -30,6 +30,11 @@ fn said(verdict: Verdict) -> String {
             load,
             capacity,
         } => fault("overload", run, None, load, "over", capacity),
+        WheelchairOverload {
+            run,
+            load,
+            capacity,
+        } => fault("wheelchair overload", run, None, load, "over", capacity),
         BreakTooLate {
             run,
             place,
@@ -93,7 +98,7 @@ fn marks_are_those_of_the_proved_program() {
 }
 
 /// In the order of their numbers.
-const NAMES: [&str; 10] = [
+const NAMES: [&str; 11] = [
     "OtherCalls",
     "Overload",
     "BreakTooLate",
@@ -104,6 +109,7 @@ const NAMES: [&str; 10] = [
     "Best",
     "Dearer",
     "Cheaper",
+    "WheelchairOverload",
 ];
 
 /// The number and the values of a verdict, by its name and the numbers that are shown with it.

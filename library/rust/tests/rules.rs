@@ -2,8 +2,8 @@
 mod common;
 use common::listing::listing;
 use common::sheets::Sheet;
-use common::worked::{base, with_break, with_distance_limit, with_window};
-use lizsomdur::{plan, reverse};
+use common::worked::{base, with_break, with_distance_limit, with_wheelchairs, with_window};
+use lizsomdur::{eliminate, plan, reverse};
 
 /// Asserts that the sheet with these calls is planned so.
 fn planned(sheet: Sheet, calls: &[usize], text: &str) {
@@ -76,6 +76,70 @@ fn bounds_are_still_allowed() {
         &[1, 2],
         two,
     );
+}
+
+/// Both customers ask for two seats and one wheelchair place.
+#[test]
+fn a_run_is_within_both_capacities() {
+    let one = "run 1 2\ntotal 27 cost 27 served 2 dropped 0\n";
+    let two = "run 1\nrun 2\ntotal 44 cost 44 served 2 dropped 0\n";
+    let none = "drop 1\ndrop 2\ntotal 0 cost 0 served 0 dropped 2\n";
+    planned(with_wheelchairs(4, 2), &[1, 2], one);
+    planned(with_wheelchairs(4, 1), &[1, 2], two);
+    planned(with_wheelchairs(3, 2), &[1, 2], two);
+    planned(with_wheelchairs(4, 0), &[1, 2], none);
+    planned(with_wheelchairs(1, 2), &[1, 2], none);
+}
+
+/// A second capacity alone changes nothing, and a second demand alone fits nowhere.
+#[test]
+fn wheelchair_places_that_are_not_said_are_none() {
+    let mut bay = with_wheelchairs(4, 1);
+    bay.customers[0].wheelchairs = None;
+    planned(
+        bay.clone(),
+        &[1, 2],
+        "run 1 2\ntotal 27 cost 27 served 2 dropped 0\n",
+    );
+    bay.wheelchairs = None;
+    planned(
+        bay.clone(),
+        &[1, 2],
+        "run 1\ndrop 2\ntotal 20 cost 20 served 1 dropped 1\n",
+    );
+    bay.customers[1].wheelchairs = None;
+    bay.wheelchairs = Some(1_000_000);
+    assert_eq!(bay.with(&[1, 2]).len(), base().with(&[1, 2]).len() + 4);
+    planned(
+        bay.clone(),
+        &[1, 2],
+        "run 1 2\ntotal 27 cost 27 served 2 dropped 0\n",
+    );
+    bay.customers[0].wheelchairs = Some(32_767);
+    planned(
+        bay,
+        &[1, 2],
+        "run 1 2\ntotal 27 cost 27 served 2 dropped 0\n",
+    );
+}
+
+#[test]
+fn elimination_keeps_both_capacities() {
+    let singles = [vec![1], vec![2]];
+    let eliminated = |sheet: Sheet| eliminate(&sheet.with(&[]), &singles);
+    assert_eq!(eliminated(with_wheelchairs(4, 2)), Ok(vec![vec![1, 2]]));
+    assert_eq!(eliminated(with_wheelchairs(4, 1)), Ok(singles.to_vec()));
+    assert_eq!(eliminated(with_wheelchairs(3, 2)), Ok(singles.to_vec()));
+}
+
+/// The bus is too full in both measures, and the other way round is shorter.
+#[test]
+fn reversal_looks_at_no_load() {
+    let uneven = Sheet {
+        distances: vec![0, 10, 2, 4, 0, 5, 12, 3, 0],
+        ..with_wheelchairs(1, 0)
+    };
+    assert_eq!(reverse(&uneven.with(&[]), &[1, 2]), Ok((vec![2, 1], 9)));
 }
 
 #[test]

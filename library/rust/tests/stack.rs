@@ -17,16 +17,18 @@ fn legs(most: u32) -> Vec<u32> {
     (0..64 * 64).map(|entry| 1 + entry * 7919 % most).collect()
 }
 
-/// Everything that a sheet may have: 8,579 words with the penalties, the most that is accepted. Each customer is called once.
+/// Everything that a sheet may have: 8,643 words with the penalties, the most that is accepted. Each customer is called once.
 fn largest(penalty: Option<u32>) -> Vec<u8> {
     let customer = Customer {
         demand: 1,
+        wheelchairs: Some(1),
         service: 2,
         window: Some([10, 4_000]),
         penalty,
     };
     let sheet = Sheet {
         capacity: 40,
+        wheelchairs: Some(30),
         fixed: 50,
         distance_limit: Some(9_000),
         duration_limit: Some(9_000),
@@ -57,7 +59,7 @@ fn improve(sheet: &[u8]) {
 
 fn all_functions() {
     let (paying, plain) = (largest(Some(1)), largest(None));
-    assert_eq!(paying.len(), 4 * 8_579);
+    assert_eq!(paying.len(), 4 * 8_643);
     for sheet in [&paying, &plain] {
         plan_and_mark(sheet);
     }

@@ -9,15 +9,22 @@ fn changed() -> Vec<Faulty> {
     let table = [
         (0, 0x1000_0000, 1),
         (0, 0x1000_0041, 1),
+        (0, 0x0000_0001, 11),
         (1, 0x200F_4241, 1),
+        (1, 0x0000_0004, 11),
+        (2, 0x000F_4241, 1),
         (2, 0x3098_9681, 1),
         (4, 0x6000_0013, 2),
+        (3, 0x0000_0000, 11),
         (6, 0xCFFF_FFFF, 11),
         (6, 0xF000_0000, 11),
         (6, 0x7000_8000, 1),
+        (7, 0x0000_8000, 1),
+        (8, 0x0000_0001, 11),
         (9, 0x9000_0000, 11),
         (20, 0xE000_0003, 1),
         (20, 0xE000_0001, 21),
+        (20, 0x0000_0001, 11),
         (21, 0xF000_0014, 3),
     ];
     table
@@ -26,6 +33,19 @@ fn changed() -> Vec<Faulty> {
             let mut words = words(&sample("m"));
             words[index] = word;
             (bytes(&words), number, index)
+        })
+        .collect()
+}
+
+/// Wheelchair places said twice, in the head and of a customer: the second of the words is bad.
+fn said_twice() -> Vec<Faulty> {
+    let table = [(2, 3), (7, 8)];
+    table
+        .into_iter()
+        .map(|(index, bad)| {
+            let mut words = words(&sample("m"));
+            words.splice(index..index, [1, 1]);
+            (bytes(&words), 11, bad)
         })
         .collect()
 }
@@ -49,5 +69,5 @@ pub fn faulty() -> Vec<Faulty> {
         (base().with(&[1, 2, 2, 1]), 21, 16 + 2),
         (base().with(&[1; 129]), 21, 16 + 1),
     ];
-    [changed(), cut_short_or_continued(), others].concat()
+    [changed(), said_twice(), cut_short_or_continued(), others].concat()
 }

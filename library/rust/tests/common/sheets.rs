@@ -5,6 +5,8 @@ use super::ended;
 #[derive(Clone, Default)]
 pub struct Customer {
     pub demand: u32,
+    /// The second demand.
+    pub wheelchairs: Option<u32>,
     pub service: u32,
     /// Ready and due.
     pub window: Option<[u32; 2]>,
@@ -15,6 +17,8 @@ pub struct Customer {
 #[derive(Clone, Default)]
 pub struct Sheet {
     pub capacity: u32,
+    /// The second capacity.
+    pub wheelchairs: Option<u32>,
     pub fixed: u32,
     pub distance_limit: Option<u32>,
     pub duration_limit: Option<u32>,
@@ -40,6 +44,7 @@ impl Customer {
             .map(|[ready, due]| [0x9000_0000 | ready, 0xA000_0000 | due]);
         [
             of(7, &[self.demand]),
+            of(0, self.wheelchairs.as_slice()),
             of(8, &[self.service]),
             window.as_slice().concat(),
             of(0xB, self.penalty.as_slice()),
@@ -54,6 +59,7 @@ impl Sheet {
         let words = [
             of(1, &[self.customers.len() as u32 + 1]),
             of(2, &[self.capacity]),
+            of(0, self.wheelchairs.as_slice()),
             of(3, &[self.fixed]),
             of(4, self.distance_limit.as_slice()),
             of(5, self.duration_limit.as_slice()),

@@ -29,6 +29,16 @@ pub fn with_capacity(capacity: u32) -> Sheet {
     Sheet { capacity, ..base() }
 }
 
+/// The base with a wheelchair place for each customer, and so many seats and wheelchair places in a bus.
+pub fn with_wheelchairs(capacity: u32, wheelchairs: u32) -> Sheet {
+    let mut sheet = with_capacity(capacity);
+    sheet.wheelchairs = Some(wheelchairs);
+    for customer in &mut sheet.customers {
+        customer.wheelchairs = Some(1);
+    }
+    sheet
+}
+
 /// The base with a break of 4.
 pub fn with_break(earliest: u32, latest: u32) -> Sheet {
     Sheet {
@@ -58,6 +68,7 @@ fn customer(demand: u32, service: u32, window: Option<[u32; 2]>, penalty: Option
         service,
         window,
         penalty,
+        ..Customer::default()
     }
 }
 
@@ -85,7 +96,7 @@ pub fn full() -> Sheet {
             [6, 9, 3, 20, 20, 0],
         ]
         .concat(),
-        times: vec![],
+        ..Sheet::default()
     }
 }
 
@@ -112,14 +123,29 @@ fn of_base() -> Vec<Marked> {
         whole("q", &at_price, &[1, 2], 2),
         whole("best", &base, &[1, 2], 0),
         cut("dearer", &base, &[1, 2], &[(&[1], 0), (&[2], 0)]),
+        whole("both measures full", &with_wheelchairs(4, 2), &[1, 2], 0),
+        cut(
+            "a bay each",
+            &with_wheelchairs(4, 1),
+            &[1, 2],
+            &[(&[1], 0), (&[2], 0)],
+        ),
         cut("changed", &base, &[1, 2], &[(&[1, 1], 0)]),
         cut("left out", &base, &[1, 2], &[(&[1], 0)]),
         cut("none", &base, &[1, 2], &[]),
         cut("too many", &base, &[1, 2], &[(&[1, 2], 0), (&[1], 0)]),
         cut("nothing", &with_capacity(1), &[1, 2], &[]),
+        cut("no bay", &with_wheelchairs(4, 0), &[1, 2], &[]),
         cut("served", &due(9), &[1, 2], &[(&[2], 0)]),
         whole("dropped", &due(9), &[1, 2], 0),
         whole("load", &with_capacity(3), &[1, 2], 0),
+        whole("wheelchairs", &with_wheelchairs(4, 1), &[1, 2], 0),
+        whole(
+            "seats before wheelchairs",
+            &with_wheelchairs(3, 1),
+            &[1, 2],
+            0,
+        ),
         whole("window", &due(14), &[2, 1], 0),
         whole("break", &with_break(5, 10), &[1, 2], 2),
         whole("missing", &with_break(20, 30), &[1, 2], 0),

@@ -110,7 +110,7 @@ fn a_refused_sheet_sets_the_word_alone() {
 }
 
 /// How many values the verdicts have, by number.
-const VALUES: [usize; 11] = [0, 1, 3, 5, 5, 3, 3, 3, 0, 1, 1];
+const VALUES: [usize; 12] = [0, 1, 3, 5, 5, 3, 3, 3, 0, 1, 1, 3];
 
 /// The end and the break place of each run.
 fn ends_and_places(runs: &[(Vec<usize>, usize)]) -> (Vec<usize>, Vec<usize>) {
@@ -125,7 +125,7 @@ fn ends_and_places(runs: &[(Vec<usize>, usize)]) -> (Vec<usize>, Vec<usize>) {
 
 #[test]
 fn a_verdict_sets_its_own_values() {
-    let mut seen = [false; 11];
+    let mut seen = [false; VALUES.len()];
     for cut in marked() {
         let calls: Vec<usize> = cut.runs.iter().flat_map(|run| run.0.clone()).collect();
         let (ends, places) = ends_and_places(&cut.runs);

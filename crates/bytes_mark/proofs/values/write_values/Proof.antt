@@ -2,7 +2,7 @@
 use mathlib.Core.Path.{_≡_, subst}
 use Rattle.whole.specs.Whole.{fl}
 use Rattle.whole.proofs.Bits.{fl-in}
-use Rattle.marker.specs.declared.verdict.Verdict.the-variants.{OtherCalls, Overload, Dearer, Cheaper}
+use Rattle.marker.specs.declared.verdict.Verdict.the-variants.{OtherCalls, Overload, Dearer, Cheaper, WheelchairOverload}
 use Rattle.bytes_mark.specs.Values.{Small}
 use Rattle.bytes_mark.proofs.Verdicts.{written-by, ride-fault}
 use borrow.Author.Needs.{needs}
@@ -26,39 +26,36 @@ write-one-requires c κs = search needs
 enum-known-v-2 : tie.Need-enum-known-v-2
 enum-known-v-2 c = search needs
 
-int-to-float-write-three : tie.Need-int-to-float-write-three
-int-to-float-write-three c =
+write-load-requires : tie.Need-write-load-requires
+write-load-requires c κs =
     let known = c .before .before in
     let start = known .before .before .before in
     let x = known .v2 .given .0 in
     let e : start .args .v ≡ Overload (x .0) (x .1 .0) (x .1 .1 .0) = search needs in
-    fl-in (x .0) (subst Small e (start .pre .0) .0)
-
-int-to-float-write-three-2 : tie.Need-int-to-float-write-three-2
-int-to-float-write-three-2 c =
-    let known = c .before .before .before in
-    let start = known .before .before .before in
-    let x = known .v2 .given .0 in
-    let e : start .args .v ≡ Overload (x .0) (x .1 .0) (x .1 .1 .0) = search needs in
-    fl-in (x .1 .0) (subst Small e (start .pre .0) .1)
-
-int-to-float-write-three-3 : tie.Need-int-to-float-write-three-3
-int-to-float-write-three-3 c = search needs
-
-write-three-requires : tie.Need-write-three-requires
-write-three-requires c κs = search needs
-
-enum-told : tie.Need-enum-told
-enum-told c = search needs
+    (subst Small e (start .pre .0), start .pre .1)
 
 enum-known-v-3 : tie.Need-enum-known-v-3
 enum-known-v-3 c = search needs
 
-write-one-requires-2 : tie.Need-write-one-requires-2
-write-one-requires-2 c κs = search needs
+write-load-requires-2 : tie.Need-write-load-requires-2
+write-load-requires-2 c κs =
+    let known = c .before .before in
+    let start = known .before .before .before in
+    let x = known .v3 .given .0 in
+    let e : start .args .v ≡ WheelchairOverload (x .0) (x .1 .0) (x .1 .1 .0) = search needs in
+    (subst Small e (start .pre .0), start .pre .1)
+
+enum-told : tie.Need-enum-told
+enum-told c = search needs
 
 enum-known-v-4 : tie.Need-enum-known-v-4
 enum-known-v-4 c = search needs
+
+write-one-requires-2 : tie.Need-write-one-requires-2
+write-one-requires-2 c κs = search needs
+
+enum-known-v-5 : tie.Need-enum-known-v-5
+enum-known-v-5 c = search needs
 
 write-one-requires-3 : tie.Need-write-one-requires-3
 write-one-requires-3 c κs = search needs
@@ -66,7 +63,7 @@ write-one-requires-3 c κs = search needs
 write-ride-fault-requires : tie.Need-write-ride-fault-requires
 write-ride-fault-requires c κs =
     let s = c .before .before .before in
-    (s .pre .0, (ride-fault (s .args .v) (c .before .match .keys6), search needs))
+    (s .pre .0, (ride-fault (s .args .v) (c .before .match .keys7), search needs))
 
 same-length : tie.Need-same-length
 same-length c = search needs
@@ -85,30 +82,28 @@ same-length-2 : tie.Need-same-length-2
 same-length-2 c = search needs
 
 returns-2 : tie.Need-returns-2
-unfolding fl
 returns-2 c =
     let done = c .before .before in
-    let lent = done .before in
-    let known = lent .before .before .before .before .before in
+    let known = done .before .before .before in
     let start = known .before .before .before in
     let x = known .v2 .given .0 in
     let e : start .args .v ≡ Overload (x .0) (x .1 .0) (x .1 .1 .0) = search needs in
-    written-by e (start .args .values .now) (done .write-three .last .1 .1 .1 .0) (done .write-three .ensures)
-
-returns-3 : tie.Need-returns-3
-returns-3 c = search needs
+    written-by e (start .args .values .now) (done .write-load .last .1 .1 .1 .0) (done .write-load .ensures)
 
 same-length-3 : tie.Need-same-length-3
 same-length-3 c = search needs
 
-returns-4 : tie.Need-returns-4
-returns-4 c =
+returns-3 : tie.Need-returns-3
+returns-3 c =
     let done = c .before .before in
     let known = done .before .before .before in
     let start = known .before .before .before in
     let x = known .v3 .given .0 in
-    let e : start .args .v ≡ Dearer (x .0) = search needs in
-    written-by e (start .args .values .now) (done .write-one2 .last .1 .0) (done .write-one2 .ensures)
+    let e : start .args .v ≡ WheelchairOverload (x .0) (x .1 .0) (x .1 .1 .0) = search needs in
+    written-by e (start .args .values .now) (done .write-load2 .last .1 .1 .1 .0) (done .write-load2 .ensures)
+
+returns-4 : tie.Need-returns-4
+returns-4 c = search needs
 
 same-length-4 : tie.Need-same-length-4
 same-length-4 c = search needs
@@ -119,14 +114,26 @@ returns-5 c =
     let known = done .before .before .before in
     let start = known .before .before .before in
     let x = known .v4 .given .0 in
-    let e : start .args .v ≡ Cheaper (x .0) = search needs in
-    written-by e (start .args .values .now) (done .write-one3 .last .1 .0) (done .write-one3 .ensures)
+    let e : start .args .v ≡ Dearer (x .0) = search needs in
+    written-by e (start .args .values .now) (done .write-one2 .last .1 .0) (done .write-one2 .ensures)
 
 same-length-5 : tie.Need-same-length-5
 same-length-5 c = search needs
 
 returns-6 : tie.Need-returns-6
-returns-6 c = c .before .before .write-ride-fault .ensures
+returns-6 c =
+    let done = c .before .before in
+    let known = done .before .before .before in
+    let start = known .before .before .before in
+    let x = known .v5 .given .0 in
+    let e : start .args .v ≡ Cheaper (x .0) = search needs in
+    written-by e (start .args .values .now) (done .write-one3 .last .1 .0) (done .write-one3 .ensures)
+
+same-length-6 : tie.Need-same-length-6
+same-length-6 c = search needs
+
+returns-7 : tie.Need-returns-7
+returns-7 c = c .before .before .write-ride-fault .ensures
 
 pub write-values-spec : {M : Type 1} → statement M
 write-values-spec =
@@ -136,24 +143,25 @@ write-values-spec =
     int-to-float-write-one
     write-one-requires
     enum-known-v-2
-    int-to-float-write-three
-    int-to-float-write-three-2
-    int-to-float-write-three-3
-    write-three-requires
-    enum-told
+    write-load-requires
     enum-known-v-3
-    write-one-requires-2
+    write-load-requires-2
+    enum-told
     enum-known-v-4
+    write-one-requires-2
+    enum-known-v-5
     write-one-requires-3
     write-ride-fault-requires
     same-length
     returns
     same-length-2
     returns-2
-    returns-3
     same-length-3
+    returns-3
     returns-4
     same-length-4
     returns-5
     same-length-5
-    returns-6)
+    returns-6
+    same-length-6
+    returns-7)

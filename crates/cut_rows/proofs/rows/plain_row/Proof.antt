@@ -217,7 +217,7 @@ returns c =
     )
 
 mul-way-to : tie.Need-mul-way-to Inv-loop μ-loop
-mul-way-to c = search needs
+mul-way-to c = let p = stop c in omega (arith, ahead p, few p .0)
 
 shared-slice-read-way-to : tie.Need-shared-slice-read-way-to Inv-loop μ-loop
 shared-slice-read-way-to c = let p = stop (c .before) in omega (arith, ahead p, few p .0, few p .1 .distances-long)

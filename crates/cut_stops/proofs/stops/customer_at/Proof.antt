@@ -18,6 +18,15 @@ mul-seats c = search needs
 shared-slice-read-seats : tie.Need-shared-slice-read-seats
 shared-slice-read-seats c = search needs
 
+add-wheelchairs : tie.Need-add-wheelchairs
+add-wheelchairs c = search needs
+
+mul-wheelchairs : tie.Need-mul-wheelchairs
+mul-wheelchairs c = search needs
+
+shared-slice-read-wheelchairs : tie.Need-shared-slice-read-wheelchairs
+shared-slice-read-wheelchairs c = search needs
+
 add-service : tie.Need-add-service
 add-service c = search needs
 
@@ -82,7 +91,7 @@ returns : tie.Need-returns
 returns c =
     let o = c .before .before .before in
     let r = o .before .before .before .before in
-    let a = r .before .before .before .before .args in
+    let a = r .before .before .before .before .before .args in
     record-read (numbers (now (a .codes)) (now (a .figures))) (a .c) _ _ (o .opening-of .ensures) (c .penalty-of .ensures)
 
 pub customer-at-spec : {M : Type 1} → statement M
@@ -93,6 +102,9 @@ customer-at-spec =
     mul-f
     mul-seats
     shared-slice-read-seats
+    add-wheelchairs
+    mul-wheelchairs
+    shared-slice-read-wheelchairs
     add-service
     mul-service
     shared-slice-read-service

@@ -20,9 +20,6 @@ mul-codes c = search needs
 element-write-codes : tie.Need-element-write-codes
 element-write-codes c = search needs
 
-opening-code-requires : tie.Need-opening-code-requires
-opening-code-requires c κs = search needs
-
 add-codes : tie.Need-add-codes
 add-codes c = search needs
 
@@ -32,8 +29,8 @@ mul-codes-2 c = search needs
 element-write-codes-2 : tie.Need-element-write-codes-2
 element-write-codes-2 c = search needs
 
-penalty-code-requires : tie.Need-penalty-code-requires
-penalty-code-requires c κs = search needs
+opening-code-requires : tie.Need-opening-code-requires
+opening-code-requires c κs = search needs
 
 add-codes-2 : tie.Need-add-codes-2
 add-codes-2 c = search needs
@@ -43,6 +40,18 @@ mul-codes-3 c = search needs
 
 element-write-codes-3 : tie.Need-element-write-codes-3
 element-write-codes-3 c = search needs
+
+penalty-code-requires : tie.Need-penalty-code-requires
+penalty-code-requires c κs = search needs
+
+add-codes-3 : tie.Need-add-codes-3
+add-codes-3 c = search needs
+
+mul-codes-4 : tie.Need-mul-codes-4
+mul-codes-4 c = search needs
+
+element-write-codes-4 : tie.Need-element-write-codes-4
+element-write-codes-4 c = search needs
 
 mul-f : tie.Need-mul-f
 mul-f c = search needs
@@ -101,14 +110,17 @@ put-customer-spec =
     mul-k
     mul-codes
     element-write-codes
-    opening-code-requires
     add-codes
     mul-codes-2
     element-write-codes-2
-    penalty-code-requires
+    opening-code-requires
     add-codes-2
     mul-codes-3
     element-write-codes-3
+    penalty-code-requires
+    add-codes-3
+    mul-codes-4
+    element-write-codes-4
     mul-f
     add-figures
     mul-figures

@@ -2,6 +2,7 @@
 use mathlib.Core.Path.{_≡_, sym, ap, _∙_}
 use lib.ListN.{length}
 use Rattle.basics.proofs.TestLaws.{not-true, not-false}
+use Rattle.marker.specs.declared.run.Marked.the-variants.{Faulty}
 use Rattle.marker.specs.declared.walk.Walked.the-variants.{Stopped, Home}
 use Rattle.marker.specs.RunMark.{groundOf, walkMarkF}
 use Rattle.marker.proofs.Loading.{over, carries}
@@ -15,15 +16,20 @@ load-of-requires c κs = search needs
 fits-requires : tie.Need-fits-requires
 fits-requires c κs = search needs
 
+overload-requires : tie.Need-overload-requires
+overload-requires c κs = search needs
+
 returns : tie.Need-returns
 returns c =
-    let fitted = c .before in
+    let unfit = c .before in
+    let fitted = unfit .before in
     let loaded = fitted .before .before in
     let S = loaded .before .before .before .before in
     let a = S .args in
     let ground = groundOf (a .customers) (a .distances .now) (a .times .now) (a .head) in
-    over ground (a .run) (a .place) (a .calls .now) (a .demands .now) (S .pre .1) _ (loaded .load-of .ensures .0)
-    (sym (fitted .fits2 .ensures .0) ∙ not-true _ (c .if1 .taken))
+    ap Faulty (c .overload .ensures)
+    ∙ over ground (a .run) (a .place) (a .calls .now) (a .demands .now) (S .pre .1) _ (loaded .load-of .ensures .0)
+    (sym (fitted .fits2 .ensures .0) ∙ not-true _ (unfit .if1 .taken))
 
 walk-requires : tie.Need-walk-requires
 walk-requires c κs = search needs
@@ -73,6 +79,7 @@ mark-run-spec =
     (tie.spec
     load-of-requires
     fits-requires
+    overload-requires
     returns
     walk-requires
     enum-known-v

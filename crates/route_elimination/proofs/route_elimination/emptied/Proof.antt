@@ -161,7 +161,7 @@ without-run-requires : tie.Need-without-run-requires
 without-run-requires c κs = search needs
 
 sub-place-all : tie.Need-sub-place-all
-sub-place-all c = search needs
+sub-place-all c = omega (arith, start (cut (tested (without c))) .pre .0 .1)
 
 place-all-requires : tie.Need-place-all-requires
 place-all-requires c κs =

@@ -2,15 +2,16 @@
 use Prim.Native.Nat.{suc}
 use native.Mathlib.Numerals.{add-one}
 use native.Mathlib.Omega.{arith}
-use mathlib.Core.Path.{_≡_, ap}
+use mathlib.Core.Path.{_≡_, sym, ap, _∙_}
 use lib.ListN.{drop}
 use borrow.Author.Needs.{needs}
 use Rattle.whole.specs.Whole.{fl}
-use Rattle.definitions.specs.Reader.{valuesOf, own}
+use Rattle.models.specs.Load.{spaceOf}
+use Rattle.definitions.specs.Reader.{valuesOf, own, loadOf}
 use Rattle.definitions.specs.Words.{Word, wordsOf}
 use Rattle.sheet_words.proofs.ByIndex.{count-words}
 use Rattle.sheet_read.specs.Parts.{valueOf}
-use Rattle.sheet_read.proofs.Owning.{ownFirst, window-firsts}
+use Rattle.sheet_read.proofs.Owning.{ownFirst, load-own, window-firsts}
 use Rattle.sheet_read.proofs.customers.customer_at.Statement.{statement}
 use Rattle.sheet_read.proofs.customers.customer_at.Tie as tie
 
@@ -19,6 +20,9 @@ word-at-requires c κs = search needs
 
 add-from : tie.Need-add-from
 add-from c = omega (arith, count-words (c .before .before .args .bytes .now))
+
+load-from-requires : tie.Need-load-from-requires
+load-from-requires c κs = search needs
 
 own-value-requires : tie.Need-own-value-requires
 own-value-requires c κs = search needs
@@ -54,16 +58,20 @@ returns c =
     let r = d .before in
     let z = r .before .before in
     let s = z .before in
-    let w = s .before in
+    let l = s .before in
+    let w = l .before in
     let a = w .before .before .args in
     let ws = drop (suc (a .i)) (wordsOf (a .bytes .now)) in
-    let demand = ap (λ (x : Word). x .value) (w .word-at .ensures) in
+    let seats = ap (λ (x : Word). x .value) (w .word-at .ensures) in
+    let demand : spaceOf (l .load-from .result) ≡ loadOf (w .word-at .result .value) (own ws) =
+    (rw add-one at (l .load-from .ensures)) ∙ sym (load-own (w .word-at .result .value) ws) in
     let service : valueOf (s .own-value .result) ≡ ownFirst 8 ws = rw add-one at (s .own-value .ensures) in
     let ready : valueOf (r .own-value2 .result) ≡ ownFirst 9 ws = rw add-one at (r .own-value2 .ensures) in
     let due : valueOf (d .own-value3 .result) ≡ ownFirst 0xA ws = rw add-one at (d .own-value3 .ensures) in
     let penalty : valueOf (p .own-value4 .result) ≡ ownFirst 0xB ws = rw add-one at (p .own-value4 .ensures) in
     rw (
       demand,
+      seats,
       z .or-zero .ensures,
       service,
       o .opening-of .ensures,
@@ -80,6 +88,7 @@ customer-at-spec =
     (tie.spec
     word-at-requires
     add-from
+    load-from-requires
     own-value-requires
     or-zero-requires
     int-to-float-service-duration

@@ -20,6 +20,9 @@ first-value-requires-2 c κs = search needs
 or-zero-requires-2 : tie.Need-or-zero-requires-2
 or-zero-requires-2 c κs = search needs
 
+load-from-requires : tie.Need-load-from-requires
+load-from-requires c κs = search needs
+
 first-value-requires-3 : tie.Need-first-value-requires-3
 first-value-requires-3 c κs = search needs
 
@@ -52,12 +55,14 @@ returns c =
     let distance = duration .before .before in
     let fixed = distance .before .before .before in
     let capacity = fixed .before .before in
-    let places = capacity .before .before in
+    let seats = capacity .before in
+    let places = seats .before .before in
     rw (
       places .or-zero .ensures,
       places .before .first-value .ensures,
-      capacity .or-zero2 .ensures,
-      capacity .before .first-value2 .ensures,
+      capacity .load-from .ensures,
+      seats .or-zero2 .ensures,
+      seats .before .first-value2 .ensures,
       fixed .or-zero3 .ensures,
       fixed .before .first-value3 .ensures,
       distance .limit-of .ensures,
@@ -76,6 +81,7 @@ head-of-spec =
     cast-places
     first-value-requires-2
     or-zero-requires-2
+    load-from-requires
     first-value-requires-3
     or-zero-requires-3
     int-to-float-fixed-cost

@@ -16,12 +16,12 @@ figure-requires-3 c κs = search needs
 figure-requires-4 : tie.Need-figure-requires-4
 figure-requires-4 c κs = search needs
 
-number-requires : tie.Need-number-requires
-number-requires c κs = search needs
+load-figures-requires : tie.Need-load-figures-requires
+load-figures-requires c κs = search needs
 
 returns : tie.Need-returns
 unfolding follows
-returns c = rw (c .number .ensures, c .before .figure4 .ensures, c .before .before .figure3 .ensures, c .before .before .before .figure2 .ensures, c .before .before .before .before .figure .ensures)
+returns c = rw (c .load-figures .ensures, c .before .figure4 .ensures, c .before .before .figure3 .ensures, c .before .before .before .figure2 .ensures, c .before .before .before .before .figure .ensures)
 
 pub total-figures-spec : {M : Type 1} → statement M
 total-figures-spec =
@@ -31,5 +31,5 @@ total-figures-spec =
     figure-requires-2
     figure-requires-3
     figure-requires-4
-    number-requires
+    load-figures-requires
     returns)

@@ -13,8 +13,8 @@ word-requires c κs = search needs
 number-and-two-requires : tie.Need-number-and-two-requires
 number-and-two-requires c κs = search needs
 
-number-requires : tie.Need-number-requires
-number-requires c κs = search needs
+load-figures-requires : tie.Need-load-figures-requires
+load-figures-requires c κs = search needs
 
 slice-aggregate-word-2 : tie.Need-slice-aggregate-word-2
 slice-aggregate-word-2 c = search needs
@@ -24,7 +24,7 @@ word-requires-2 c κs = search needs
 
 returns : tie.Need-returns
 unfolding follows
-returns c = rw (c .word2 .ensures, c .before .before .number .ensures, c .before .before .before .number-and-two .ensures, c .before .before .before .before .word .ensures)
+returns c = rw (c .word2 .ensures, c .before .before .load-figures .ensures, c .before .before .before .number-and-two .ensures, c .before .before .before .before .word .ensures)
 
 pub visit-line-spec : {M : Type 1} → statement M
 visit-line-spec =
@@ -33,7 +33,7 @@ visit-line-spec =
     slice-aggregate-word
     word-requires
     number-and-two-requires
-    number-requires
+    load-figures-requires
     slice-aggregate-word-2
     word-requires-2
     returns)

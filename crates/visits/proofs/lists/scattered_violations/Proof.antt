@@ -4,7 +4,7 @@ use contract.Running.{givenOf, tables, tablesOf}
 use denote.Triple.Spec.{tripleOf}
 use denote.Triple.Table.{entered, cited}
 use Rattle.walks.proofs.Calling.{Met}
-use Rattle.visits.specs.Visiting.{blankViolation}
+use Rattle.visits.specs.Visiting.{mostViolations, blankViolation}
 use Rattle.lending.proofs.Scattering.{meets}
 use Rattle.visits.proofs.visit.Violation as T
 use Rattle.visits.proofs.visit.Violation.Laws as T′
@@ -22,5 +22,5 @@ unfolding code.routine tablesOf
 scattered-violations-spec 𝓤 H 𝓜 𝓖 𝓡 =
     entered 𝓤 H (tripleOf 𝓤 H (𝓖 .A) scattered′.signature (scattered′.spec 𝓤 H (𝓖 .A) (𝓜 .mem) (𝓡 .run)))
     (tables 𝓤 H 𝓜 𝓡 code.env .C) (tables 𝓤 H 𝓜 𝓡 code.env .Λ) #scattered code.function (code.unfolded 𝓤 H 𝓜 𝓡)
-    (meets T.the-type T′.the-laws T′.the-plain 131 tt tt blankViolation (λ xs. tt) (λ xs f. refl) 𝓤 H (𝓖 .A) (givenOf 𝓤 H 𝓜 𝓖) (𝓜 .mem) (𝓡 .run) (tablesOf 𝓤 H 𝓜 (tables 𝓤 H 𝓜 𝓡 code.env))
+    (meets T.the-type T′.the-laws T′.the-plain mostViolations tt tt blankViolation (λ xs. tt) (λ xs f. refl) 𝓤 H (𝓖 .A) (givenOf 𝓤 H 𝓜 𝓖) (𝓜 .mem) (𝓡 .run) (tablesOf 𝓤 H 𝓜 (tables 𝓤 H 𝓜 𝓡 code.env))
     (cited 𝓤 H (Met 𝓤 H (𝓖 .A) fitting′.ended (fitting′.clauses 𝓤 H (𝓖 .A) (𝓜 .mem) (𝓡 .run))) 𝓜 𝓡 code.env #fitting fitting-def.routine code.calls-lending·fitting (fitting-thm.met 𝓤 H 𝓜 𝓖 𝓡)))

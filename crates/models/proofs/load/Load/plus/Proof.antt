@@ -1,18 +1,22 @@
 -- `load::Load::plus` meets its contract. Assumes nothing.
 use native.Mathlib.Omega.{arith}
-use mathlib.Core.Path.{refl}
 use borrow.Author.Needs.{needs}
 use Rattle.models.proofs.load.Load.plus.Statement.{statement}
 use Rattle.models.proofs.load.Load.plus.Tie as tie
 
-wide-requires : tie.Need-wide-requires
-wide-requires c κs = search needs
+more-requires : tie.Need-more-requires
+more-requires c κs = c .pre .seats
 
-add-t4 : tie.Need-add-t4
-add-t4 c = omega (arith, c .before .before .pre .seats, c .before .wide .ensures .1)
+more-requires-2 : tie.Need-more-requires-2
+more-requires-2 c κs = c .before .pre .wheelchairs
 
 returns : tie.Need-returns
-returns c = (rw (c .before .wide .ensures .0) refl, λ k h. record { seats = omega (arith, h .seats, c .before .wide .ensures .1) })
+returns c =
+    let seats = c .before .more .ensures in
+    let wheelchairs = c .more2 .ensures in (
+      λ i. record { seats = seats .0 i; wheelchairs = wheelchairs .0 i },
+      λ k h. record { seats = omega (arith, h .seats, seats .1); wheelchairs = omega (arith, h .wheelchairs, wheelchairs .1) },
+    )
 
 pub plus-spec : {M : Type 1} → statement M
-plus-spec = tie.close (tie.spec wide-requires add-t4 returns)
+plus-spec = tie.close (tie.spec more-requires more-requires-2 returns)

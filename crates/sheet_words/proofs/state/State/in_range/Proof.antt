@@ -29,6 +29,9 @@ cast-is-call-2 c = search needs
 is-call-requires : tie.Need-is-call-requires
 is-call-requires c κs = search needs
 
+second-in-range-requires : tie.Need-second-in-range-requires
+second-in-range-requires c κs = search needs
+
 is-number-requires : tie.Need-is-number-requires
 is-number-requires c κs = search needs
 
@@ -58,16 +61,21 @@ returns-6 c = rw (c .match .keys6)
 
 returns-7 : tie.Need-returns-7
 unfolding inRange
-returns-7 c =
+returns-7 c = rw (c .before .match .keys7) (c .second-in-range .ensures)
+
+returns-8 : tie.Need-returns-8
+unfolding inRange
+returns-8 c =
     let k = c .before .before .args .w .kind in
     let r = c .before .match .rest in
     rw (
-      ne-eqb k 1 (r .0 .0 .0 .0 .0 .1),
-      ne-eqb k 2 (r .0 .0 .0 .0 .1),
-      ne-eqb k 7 (r .0 .0 .0 .1),
-      ne-eqb k 11 (r .0 .0 .1),
-      ne-eqb k 14 (r .0 .1),
-      ne-eqb k 15 (r .1),
+      ne-eqb k 0 (r .1),
+      ne-eqb k 1 (r .0 .0 .0 .0 .0 .0 .1),
+      ne-eqb k 2 (r .0 .0 .0 .0 .0 .1),
+      ne-eqb k 7 (r .0 .0 .0 .0 .1),
+      ne-eqb k 11 (r .0 .0 .0 .1),
+      ne-eqb k 14 (r .0 .0 .1),
+      ne-eqb k 15 (r .0 .1),
     )
     (c .is-number .ensures)
 
@@ -83,6 +91,7 @@ in-range-spec =
     cast-is-call
     cast-is-call-2
     is-call-requires
+    second-in-range-requires
     is-number-requires
     returns
     returns-2
@@ -90,4 +99,5 @@ in-range-spec =
     returns-4
     returns-5
     returns-6
-    returns-7)
+    returns-7
+    returns-8)

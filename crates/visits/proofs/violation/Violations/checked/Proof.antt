@@ -1,9 +1,8 @@
 -- `Violations::checked` meets its contract. Assumes nothing.
-use Rattle.visits.proofs.Checking.{one-more, break-room, all-checked}
+use Rattle.visits.proofs.Checking.{one-more, two-more, break-room, all-checked}
 use Rattle.models.specs.Load.{spaceOf, loadOf}
 use Rattle.evaluation.specs.Records.{limitsOf}
-use mathlib.Core.Path.{ap}
-use mathlib.Core.Bool.{not}
+use Prim.Native.Nat.{_+_, _≤_}
 use native.Mathlib.Omega.{arith}
 use borrow.Author.Needs.{needs}
 use Rattle.visits.proofs.violation.Violations.checked.Statement.{statement}
@@ -15,17 +14,19 @@ reported-requires c κs = search needs
 pushed-requires : tie.Need-pushed-requires
 pushed-requires c κs = search needs
 
-fits-requires : tie.Need-fits-requires
-fits-requires c κs = search needs
-
-pushed-requires-2 : tie.Need-pushed-requires-2
-pushed-requires-2 c κs =
-    let placed = c .before in
-    let told = placed .before in
+-- the windows, and the break where none is
+with-break : (c : tie.After-pushed) → c .pushed .result .count ≤ 128
+with-break c =
+    let told = c .before in
     let S = told .before in
-    let a = S .args in
-    let few = break-room (a .self .count) _ (a .missing) _ (told .reported .ensures) (placed .pushed .ensures .count-is) (S .pre .1) in
-    (placed .pushed .ensures .long, omega arith)
+    break-room _ _ (S .args .missing) _ _ (told .reported .ensures) (c .pushed .ensures) (S .pre .1)
+
+-- and each measure
+with-load : (c : tie.After-loaded) → c .loaded .result .count ≤ 128 + 2
+with-load c = omega (arith, with-break (c .before), two-more _ _ _ _ (c .loaded .ensures))
+
+loaded-requires : tie.Need-loaded-requires
+loaded-requires c κs = (c .pushed .ensures .long, omega (arith, with-break c))
 
 exceeds-requires : tie.Need-exceeds-requires
 exceeds-requires c κs = search needs
@@ -33,15 +34,10 @@ exceeds-requires c κs = search needs
 limit-or-zero-requires : tie.Need-limit-or-zero-requires
 limit-or-zero-requires c κs = search needs
 
-pushed-requires-3 : tie.Need-pushed-requires-3
-pushed-requires-3 c κs =
+pushed-requires-2 : tie.Need-pushed-requires-2
+pushed-requires-2 c κs =
     let loaded = c .before .before in
-    let placed = loaded .before .before in
-    let told = placed .before in
-    let S = told .before in
-    let a = S .args in
-    let few = break-room (a .self .count) _ (a .missing) _ (told .reported .ensures) (placed .pushed .ensures .count-is) (S .pre .1) in
-    (loaded .pushed2 .ensures .long, omega (arith, one-more _ _ _ _ (loaded .pushed2 .ensures)))
+    (loaded .loaded .ensures .long, omega (arith, with-load loaded))
 
 exceeds-requires-2 : tie.Need-exceeds-requires-2
 exceeds-requires-2 c κs = search needs
@@ -49,16 +45,10 @@ exceeds-requires-2 c κs = search needs
 limit-or-zero-requires-2 : tie.Need-limit-or-zero-requires-2
 limit-or-zero-requires-2 c κs = search needs
 
-pushed-requires-4 : tie.Need-pushed-requires-4
-pushed-requires-4 c κs =
+pushed-requires-3 : tie.Need-pushed-requires-3
+pushed-requires-3 c κs =
     let near = c .before .before in
-    let loaded = near .before .before .before in
-    let placed = loaded .before .before in
-    let told = placed .before in
-    let S = told .before in
-    let a = S .args in
-    let few = break-room (a .self .count) _ (a .missing) _ (told .reported .ensures) (placed .pushed .ensures .count-is) (S .pre .1) in
-    (near .pushed3 .ensures .long, omega (arith, one-more _ _ _ _ (loaded .pushed2 .ensures), one-more _ _ _ _ (near .pushed3 .ensures)))
+    (near .pushed2 .ensures .long, omega (arith, with-load (near .before .before .before), one-more _ _ _ _ (near .pushed2 .ensures)))
 
 returns : tie.Need-returns
 returns c =
@@ -66,15 +56,14 @@ returns c =
     let near = late .before .before in
     let far = near .before in
     let loaded = far .before .before in
-    let load = loaded .before in
-    let placed = load .before in
+    let placed = loaded .before in
     let told = placed .before in
     let S = told .before in
     let a = S .args in
     all-checked (a .self) _ _ _ _ (a .missing) (loadOf (a .load)) (spaceOf (a .capacity)) (limitsOf (a .limits)) (a .distance) (a .duration) (S .pre .0) (S .pre .1)
-    _ (told .reported .ensures) (placed .pushed .ensures) _ (ap not (load .fits2 .ensures .0)) (loaded .pushed2 .ensures)
-    _ _ (far .before .exceeds .ensures) (far .limit-or-zero .ensures) (near .pushed3 .ensures)
-    _ _ (late .before .exceeds2 .ensures) (late .limit-or-zero2 .ensures) (c .pushed4 .ensures)
+    _ (told .reported .ensures) (placed .pushed .ensures) (loaded .loaded .ensures)
+    _ _ (far .before .exceeds .ensures) (far .limit-or-zero .ensures) (near .pushed2 .ensures)
+    _ _ (late .before .exceeds2 .ensures) (late .limit-or-zero2 .ensures) (c .pushed3 .ensures)
 
 pub checked-spec : {M : Type 1} → statement M
 checked-spec =
@@ -82,12 +71,11 @@ checked-spec =
     (tie.spec
     reported-requires
     pushed-requires
-    fits-requires
-    pushed-requires-2
+    loaded-requires
     exceeds-requires
     limit-or-zero-requires
-    pushed-requires-3
+    pushed-requires-2
     exceeds-requires-2
     limit-or-zero-requires-2
-    pushed-requires-4
+    pushed-requires-3
     returns)

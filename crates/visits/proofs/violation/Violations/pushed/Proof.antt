@@ -4,6 +4,7 @@ use native.Mathlib.Nat.{add-zero}
 use mathlib.Core.Path.{refl, sym}
 use mathlib.Core.Bool.{true}
 use Rattle.visits.specs.Visiting.{listed}
+use Rattle.visits.specs.Violations.{when}
 use mathlib.Core.List.{append-nil}
 use lib.ListN.{length-set}
 use Rattle.visits.proofs.Walking.{written-some}
@@ -14,9 +15,10 @@ use Rattle.visits.proofs.violation.Violations.pushed.Statement.{stateme
 use Rattle.visits.proofs.violation.Violations.pushed.Tie as tie
 
 returns : tie.Need-returns
+unfolding when
 returns c =
     let no = not-true (c .before .args .test) (c .if1 .taken) in
-    record { list-is = rw no (sym (append-nil (listed (c .before .args .self)))); count-is = rw (no, add-zero); long = c .before .pre .0 }
+    record { list-is = rw no (sym (append-nil (listed (c .before .args .self)))); count-is = rw no (sym (add-zero (c .before .args .self .count))); long = c .before .pre .0 }
 
 mul-list : tie.Need-mul-list
 mul-list c = search needs
@@ -28,6 +30,7 @@ add-t7 : tie.Need-add-t7
 add-t7 c = search needs
 
 returns-2 : tie.Need-returns-2
+unfolding when
 returns-2 c =
     let S = c .before .before in
     let a = S .args in
