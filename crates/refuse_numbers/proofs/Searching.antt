@@ -1,12 +1,12 @@
--- A search through a list by index, and through the first elements of one. Assumes nothing.
-use Prim.Native.Nat.{ℕ, zero, suc, _+_, _≤_, _<_, min}
+-- A search through a list by index or by what is left, and through the first elements of one. Assumes nothing.
+use Prim.Native.Nat.{ℕ, zero, suc, _+_, _-_, _≤_, _<_, min}
 use native.Mathlib.Numerals.{add-one}
 use native.Mathlib.Omega.{arith}
 use mathlib.Core.Path.{_≡_, refl, sym, ap, _∙_}
 use mathlib.Core.Bool.{Bool, true, false, _||_}
 use mathlib.Core.List.{List, [], _∷_, map}
-use lib.ListN.{length, getD, take, drop, length-take, drop-of-length-le}
-use lib.Seq.{drop-cons, getD-take}
+use lib.ListN.{length, getD, take, drop, length-take, length-drop, drop-of-length-le}
+use lib.Seq.{drop-cons, getD-take, take-all}
 use Rattle.basics.specs.Lists.{any}
 
 module _ {A : Type 0} (p : A → Bool) (l : List A) where
@@ -36,6 +36,10 @@ module _ {A : Type 0} (p : A → Bool) (n : ℕ) (l : List A) where
 
   pub missed-first : (i : ℕ) → min n (length l) ≤ i → Passed p (take n l) i → false ≡ any p (take n l)
   missed-first i h P = missed p (take n l) i (omega (arith, length-take n l)) P
+
+-- what is left behind the first element
+pub behind-first : {A : Type 0} (l : List A) → take (length l - 1) (drop 1 l) ≡ drop 1 l
+behind-first l = take-all (length l - 1) (drop 1 l) (omega (arith, length-drop 1 l))
 
 -- a test of the images among the first n
 pub any-image : {A B : Type 0} (g : A → B) (p : B → Bool) (n : ℕ) (l : List A) → any p (take n (map g l)) ≡ any (λ (x : A). p (g x)) (take n l)

@@ -1,30 +1,25 @@
 -- `tables::bad_numbers` meets its contract. Assumes nothing.
-use mathlib.Core.Path.{refl, sym, _∙_}
-use Prim.Native.Nat.{_-_}
+use mathlib.Core.Path.{_≡_, refl, sym, _∙_}
 use native.Mathlib.Omega.{arith}
-use lib.ListN.{take}
+use lib.ListN.{length, length-drop}
+use Rattle.basics.specs.Lists.{any}
 use Rattle.definitions.specs.Domain.{isNumber}
 use Rattle.definitions.specs.Refusals.{unfit}
 use Rattle.whole.specs.Value.{value}
-use Rattle.refuse_numbers.proofs.Searching.{Passed, found-first, next-first, missed-first}
+use Rattle.refuse_numbers.proofs.Searching.{found, next, missed, behind-first}
 use borrow.Author.Needs.{needs}
 use Rattle.refuse_numbers.proofs.tables.bad_numbers.Statement.{statement}
 use Rattle.refuse_numbers.proofs.tables.bad_numbers.Tie as tie
 
+-- what is left says what all say
 abbrev Inv-loop : tie.InvT-loop
-Inv-loop table size n i₀ i = Passed (unfit value isNumber) (take size table) i
+Inv-loop numbers left₀ left = any (unfit value isNumber) left ≡ any (unfit value isNumber) numbers
 
 abbrev μ-loop : tie.MeasureT-loop
-μ-loop table size n i₀ i = n - i
-
-fewer-requires : tie.Need-fewer-requires Inv-loop μ-loop
-fewer-requires c κs = search needs
+μ-loop numbers left₀ left = length left
 
 loop-holds : tie.Need-loop-holds Inv-loop μ-loop
 loop-holds c = refl
-
-mul-unfit-number : tie.Need-mul-unfit-number Inv-loop μ-loop
-mul-unfit-number c = search needs
 
 shared-slice-read-unfit-number : tie.Need-shared-slice-read-unfit-number Inv-loop μ-loop
 shared-slice-read-unfit-number c = search needs
@@ -35,26 +30,33 @@ unfit-number-requires c κs = search needs
 returns : tie.Need-returns Inv-loop μ-loop
 returns c =
     let l = c .before .before .before .before in
-    let a = l .before .before .before .args in
-    found-first (unfit value isNumber) (a .size) (a .table .now) (l .loop .i) _ (omega (arith, l .before .fewer .ensures)) (sym (c .before .unfit-number .ensures) ∙ c .if1 .taken) (l .loop .inv)
+    found (unfit value isNumber) (l .loop .left .now) 0 _ (omega arith) (sym (c .before .unfit-number .ensures) ∙ c .if1 .taken) refl ∙ l .loop .inv
 
-add-i : tie.Need-add-i Inv-loop μ-loop
-add-i c = search needs
+sub-left : tie.Need-sub-left Inv-loop μ-loop
+sub-left c = search needs
+
+part-left-start : tie.Need-part-left-start Inv-loop μ-loop
+part-left-start c = search needs
+
+part-left-end : tie.Need-part-left-end Inv-loop μ-loop
+part-left-end c = search needs
 
 loop-less : tie.Need-loop-less Inv-loop μ-loop
-loop-less c = omega arith
+loop-less c =
+    let l = c .before .before .before .before .before in
+    rw (behind-first (l .loop .left .now)) (omega (arith, length-drop 1 (l .loop .left .now)))
 
 loop-again : tie.Need-loop-again Inv-loop μ-loop
 loop-again c =
-    let l = c .before .before .before .before in
-    let a = l .before .before .before .args in
-    next-first (unfit value isNumber) (a .size) (a .table .now) (l .loop .i) _ (omega (arith, l .before .fewer .ensures)) (sym (c .before .unfit-number .ensures) ∙ c .if1 .left) (l .loop .inv)
+    let t = c .before in
+    let l = t .before .before .before .before in
+    rw (behind-first (l .loop .left .now))
+    (next (unfit value isNumber) (l .loop .left .now) 0 _ (omega arith) (sym (t .before .unfit-number .ensures) ∙ t .if1 .left) refl ∙ l .loop .inv)
 
 returns-2 : tie.Need-returns-2 Inv-loop μ-loop
 returns-2 c =
     let l = c .before in
-    let a = l .before .before .before .args in
-    missed-first (unfit value isNumber) (a .size) (a .table .now) (l .loop .i) (omega (arith, l .before .fewer .ensures)) (l .loop .inv)
+    missed (unfit value isNumber) (l .loop .left .now) 0 (omega arith) refl ∙ l .loop .inv
 
 pub bad-numbers-spec : {M : Type 1} → statement M
 bad-numbers-spec =
@@ -62,13 +64,13 @@ bad-numbers-spec =
     (tie.spec
     Inv-loop
     μ-loop
-    fewer-requires
     loop-holds
-    mul-unfit-number
     shared-slice-read-unfit-number
     unfit-number-requires
     returns
-    add-i
+    sub-left
+    part-left-start
+    part-left-end
     loop-less
     loop-again
     returns-2)
