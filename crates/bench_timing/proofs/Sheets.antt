@@ -18,6 +18,7 @@ use Rattle.cut_exact.proofs.Exact.{below-64}
 use Rattle.sheet_loaded.specs.declared.load.Loaded.{Loaded}
 use Rattle.sheet_loaded.specs.Loaded.{Arrays, Holds}
 use Rattle.sheet_loaded.proofs.Loading.{calls-are}
+use Rattle.sheet_loaded.proofs.HeadHeld.{held-capacity, held-fixed, held-limits}
 use Rattle.bench_timing.specs.declared.work.Work.{Work}
 use Rattle.bench_timing.specs.Work.{Callable, instanceIn, workF, lastOf, onSheet, instanceOf, timed}
 
@@ -30,7 +31,7 @@ module _ {s : Sheet} {calls : List ℕ} {l : Loaded} {old new : Arrays} (H : Hol
   pub instance-is : instanceIn l (take (l .«distance_count») (new .distances)) (take (l .«time_count») (new .times)) ≡ instanceOf s
   instance-is =
       let M = H .in-memory in
-      same-instance (H .customers-are) (M .tables .distances-are) (M .tables .times-are) (M .tables .size-is) (M .capacity) (M .fixed) (M .limits)
+      same-instance (H .customers-are) (M .tables .distances-are) (M .tables .times-are) (M .tables .size-is) (held-capacity M) (held-fixed M) (held-limits M)
 
   pub callable : Callable (take (l .calls) (new .tour))
   callable =

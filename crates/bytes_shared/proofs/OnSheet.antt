@@ -48,15 +48,7 @@ module _ (s : Sheet) (tour : List ℕ) (head : Head) (array : List Customer) (di
   sheet-is =
       λ i.
       record {
-        head =
-            record {
-              places = H .tables .size-is i;
-              capacity = H .capacity i;
-              fixed = H .fixed i;
-              maxDistance = H .limits i .maxDistance;
-              maxDuration = H .limits i .maxDuration;
-              rest = H .limits i .rest;
-            };
+        head = H .head-is i;
         customers = records-are i;
         legs = record { distances = H .tables .distances-are i; times = H .tables .times-are i };
       }

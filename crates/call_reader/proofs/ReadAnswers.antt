@@ -17,7 +17,7 @@ use Rattle.definitions.specs.Room.{short, written}
 use Rattle.definitions.specs.Answers.{readCustomers, readDistances, readTimes, readTour}
 use Rattle.theorems.proofs.Accepted.{at-least}
 use Rattle.whole.specs.Whole.{fl}
-use Rattle.models.specs.Records.{openingOf, penaltyOf, customerOf, limitOf, restOf}
+use Rattle.models.specs.Records.{openingOf, penaltyOf, customerOf, limitOf, restOf, headOf}
 use Rattle.models.specs.Image.{flCustomer, flSheet}
 use Rattle.models.specs.declared.customer.Opening.{Opening}
 use Rattle.models.specs.declared.customer.Opening.the-variants.{Always, Window}
@@ -31,7 +31,6 @@ use Rattle.models.specs.declared.limits.Limit.the-variants.{Unlimited, At}
 use Rattle.models.specs.declared.head.Head.{Head}
 use Rattle.lending.proofs.Lists.{written-room}
 use Rattle.sheet_read.specs.Fitting.{fitting}
-use Rattle.sheet_read.specs.Head.{heldHead}
 use Rattle.sheet_read.specs.Parts.{floatsOf, depots}
 use Rattle.sheet_read.specs.Summary.{holds, refused, Counted, summaryOf, heldCounts, heldSummary}
 use Rattle.sheet_read.specs.declared.read.Contents.{Contents}
@@ -69,7 +68,7 @@ rest-in : (x : Rest) → restIn (restOf x) ≡ x
 rest-in Unbroken = refl
 rest-in (Break b) = refl
 
-head-in : (h : Head) → headIn (heldHead h) ≡ h
+head-in : (h : Head) → headIn (headOf h) ≡ h
 head-in h =
     λ i.
     record {

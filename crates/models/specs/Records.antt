@@ -3,7 +3,7 @@ use mathlib.Core.Bool.{false}
 use mathlib.Core.Option.{Option, none, some}
 use lib.IntN.{pos}
 use lib.Ieee.{Float, fin}
-use Rattle.definitions.specs.Sheet.{WindowOf, BreakOf, CustomerOf}
+use Rattle.definitions.specs.Sheet.{WindowOf, BreakOf, CustomerOf, HeadOf}
 use Rattle.models.specs.Load.{seatSpace, spaceOf}
 use Rattle.models.specs.declared.customer.TimeWindow.{TimeWindow}
 use Rattle.models.specs.declared.customer.Opening.{Opening}
@@ -16,6 +16,7 @@ use Rattle.models.specs.declared.vehicle.Rest.{Rest}
 use Rattle.models.specs.declared.vehicle.Rest.the-variants.{Unbroken, Break}
 use Rattle.models.specs.declared.limits.Limit.{Limit}
 use Rattle.models.specs.declared.limits.Limit.the-variants.{Unlimited, At}
+use Rattle.models.specs.declared.head.Head.{Head}
 
 abbrev pub windowOf : TimeWindow → WindowOf Float
 windowOf w = record { ready = w .ready; due = w .due }
@@ -51,3 +52,15 @@ restOf (Break b) = some (breakOf b)
 abbrev pub limitOf : Limit → Option Float
 limitOf Unlimited = none
 limitOf (At max) = some max
+
+-- what stands before the customers
+abbrev pub headOf : Head → HeadOf Float
+headOf h =
+    record {
+      places = h .places;
+      capacity = spaceOf (h .capacity);
+      fixed = h .«fixed_cost»;
+      maxDistance = limitOf (h .limits .«max_distance»);
+      maxDuration = limitOf (h .limits .«max_duration»);
+      rest = restOf (h .limits .rest);
+    }

@@ -4,24 +4,11 @@ use mathlib.Core.Path.{_≡_}
 use mathlib.Core.List.{List, map}
 use lib.ListN.{length, take}
 use lib.Ieee.{Float}
-use Rattle.definitions.specs.Sheet.{HeadOf, SheetOf}
+use Rattle.definitions.specs.Sheet.{SheetOf}
 use Rattle.definitions.specs.Lent.{Lent}
-use Rattle.models.specs.Load.{spaceOf}
 use Rattle.models.specs.declared.customer.Customer.{Customer}
-use Rattle.models.specs.Records.{customerOf, limitOf, restOf}
+use Rattle.models.specs.Records.{customerOf, headOf}
 use Rattle.models.specs.declared.head.Head.{Head}
-
--- what stands before the customers
-abbrev pub headOf : Head → HeadOf Float
-headOf head =
-    record {
-      places = head .places;
-      capacity = spaceOf (head .capacity);
-      fixed = head .«fixed_cost»;
-      maxDistance = limitOf (head .limits .«max_distance»);
-      maxDuration = limitOf (head .limits .«max_duration»);
-      rest = restOf (head .limits .rest);
-    }
 
 abbrev pub sheetOf : Head → List Customer → List Float → List Float → SheetOf Float
 sheetOf head customers distances times =

@@ -9,10 +9,9 @@ use Rattle.definitions.specs.Sheet.{Sheet}
 use Rattle.definitions.specs.Words.{wordsOf}
 use Rattle.definitions.specs.Reader.{sheet, read, sheetOf, tourOf}
 use Rattle.definitions.specs.Room.{written}
-use Rattle.models.specs.Records.{customerOf}
+use Rattle.models.specs.Records.{customerOf, headOf}
 use Rattle.models.specs.Image.{flCustomer}
 use Rattle.sheet_read.specs.declared.read.Contents.{Contents}
-use Rattle.sheet_read.specs.Head.{heldHead}
 use Rattle.sheet_read.specs.Summary.{Counted, heldCounts}
 use Rattle.sheet_read.specs.Fitting.{fitting}
 use Rattle.sheet_read.specs.Parts.{floatsOf, depots}
@@ -84,7 +83,7 @@ module _ (bytes : List ℕ) (l : Loaded) (old new : Arrays) where
           tour-is = tour-is;
           customers-are = customers-are;
           in-memory =
-              holds bytes s calls e (l .head) (ap heldHead (T .head-is) ∙ ap (λ (x : Counted). x .head) (found-is bytes s calls e c f)) (l .customers) customers-are
+              holds bytes s calls e (l .head) (ap headOf (T .head-is) ∙ ap (λ (x : Counted). x .head) (found-is bytes s calls e c f)) (l .customers) customers-are
               (take (l .calls) (new .tour)) (front (l .calls) calls (old .tour) (new .tour) calls-count tour-is)
               (take (l .«distance_count») (new .distances)) (take (l .«time_count») (new .times))
               (front (l .«distance_count») (map fl (s .legs .distances)) (old .distances) (new .distances) far-count distances-are)

@@ -13,9 +13,8 @@ use Rattle.definitions.specs.Room.{written}
 use Rattle.round_trip.proofs.OnlySheets.{Is, only-sheets}
 use Rattle.models.specs.declared.customer.Customer.{Customer}
 use Rattle.models.specs.declared.head.Head.{Head}
-use Rattle.models.specs.Records.{customerOf}
+use Rattle.models.specs.Records.{customerOf, headOf}
 use Rattle.models.specs.Image.{flCustomer, flSheet}
-use Rattle.sheet_read.specs.Head.{heldHead}
 use Rattle.sheet_read.specs.Summary as Summary
 use Rattle.sheet_read.specs.Summary.{Summary, Counted, summaryOf}
 use Rattle.sheet_read.specs.Parts.{depots}
@@ -53,7 +52,7 @@ module _ (bytes : List ℕ) (s : Sheet) (tour : List ℕ) (e : read bytes ≡ sh
   unfolding read
   is = only-sheets (wordsOf bytes) (leftOver bytes) s tour e
 
-  module _ (head : Head) (head-is : heldHead head ≡ flSheet s .head) where
+  module _ (head : Head) (head-is : headOf head ≡ flSheet s .head) where
     -- the parts of the sheet as they are written
     pub holds : (customers : List Customer) → map customerOf customers ≡ written (map flCustomer (s .customers)) depots
         → (calls : List ℕ) → calls ≡ tour → (distances times : List Float) → distances ≡ map fl (s .legs .distances) → times ≡ map fl (s .legs .times)
@@ -72,7 +71,5 @@ module _ (bytes : List ℕ) (s : Sheet) (tour : List ℕ) (e : read bytes ≡ sh
                     front (s .head .places) (map flCustomer (s .customers)) depots (map customerOf customers)
                     (sym (length-map (s .customers) flCustomer ∙ is .within .counted)) c;
               };
-          capacity = ap (λ (x : HeadOf Float). x .capacity) head-is;
-          fixed = ap (λ (x : HeadOf Float). x .fixed) head-is;
-          limits = ap (λ (x : HeadOf Float). record { maxDistance = x .maxDistance; maxDuration = x .maxDuration; rest = x .rest }) head-is;
+          head-is = head-is;
         }

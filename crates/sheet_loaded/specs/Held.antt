@@ -4,15 +4,15 @@ use mathlib.Core.Path.{_≡_}
 use mathlib.Core.Bool.{false}
 use mathlib.Core.List.{List}
 use lib.Ieee.{Float}
-use Rattle.whole.specs.Whole.{fl}
 use Rattle.definitions.specs.Sheet.{Sheet}
 use Rattle.definitions.specs.Refusals.{Within, WithinCalls, repeats}
 use Rattle.definitions.specs.Reader.{sheet, read}
-use Rattle.models.specs.Load.{spaceOf}
+use Rattle.models.specs.Records.{headOf}
+use Rattle.models.specs.Image.{flSheet}
 use Rattle.models.specs.declared.customer.Customer.{Customer}
 use Rattle.models.specs.declared.head.Head.{Head}
-use Rattle.evaluation.specs.Records.{lent, limitsOf}
-use Rattle.evaluation.specs.Image.{flLimits, Image}
+use Rattle.evaluation.specs.Records.{lent}
+use Rattle.evaluation.specs.Image.{Image}
 use Rattle.sheet_read.specs.declared.read.Contents.{Contents}
 use Rattle.sheet_read.specs.Summary.{holds, summaryOf, heldCounts}
 
@@ -22,9 +22,7 @@ pub record InMemory (s : Sheet) (tour : List ℕ) (head : Head) (customers : Lis
   pub calls : WithinCalls s tour
   pub once : repeats tour ≡ false
   pub tables : Image s (lent customers distances times (head .places))
-  pub capacity : spaceOf (head .capacity) ≡ s .head .capacity
-  pub fixed : head .«fixed_cost» ≡ fl (s .head .fixed)
-  pub limits : limitsOf (head .limits) ≡ flLimits s
+  pub head-is : headOf head ≡ flSheet s .head
 
 -- there is such a sheet
 abbrev pub Held : List ℕ → Head → List Customer → List Float → List Float → Type 0

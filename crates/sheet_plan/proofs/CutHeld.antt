@@ -17,6 +17,7 @@ use Rattle.cut_exact.proofs.Image.{flResult}
 use Rattle.cut_exact.proofs.Exact.{split-tw-exact}
 use Rattle.cut_table.proofs.Fronts.{front, inside, counted}
 use Rattle.sheet_loaded.specs.Held.{InMemory}
+use Rattle.sheet_loaded.proofs.HeadHeld.{held-capacity, held-fixed, held-limits}
 use Rattle.sheet_plan.specs.Cut.{CutLists, CutLeft}
 
 -- ---- what callers of `cut_held` ask for
@@ -61,7 +62,7 @@ module _ (s : Sheet) (tour : List ℕ) (head : Head) (customers : List Customer)
   same : cut ≡ flResult (splitTw s tour)
   same =
       split-tw-exact s (H .within) tour (H .calls) (lent customers distances times (head .places) (head .capacity) (head .«fixed_cost») (head .limits))
-      (record { tables-hold = H .tables; capacity-holds = H .capacity; fixed-holds = H .fixed; limits-hold = H .limits })
+      (record { tables-hold = H .tables; capacity-holds = held-capacity H; fixed-holds = held-fixed H; limits-hold = held-limits H })
 
   pub cut-left : (r : SplitResult) (old new : CutLists) → Counted cut (r .served) (r .runs) (r .dropped) (r .cost) (r .distance)
       → new .served ≡ written (cut .served) (old .served) → new .ends ≡ written (cut .ends) (old .ends) → new .dropped ≡ written (cut .dropped) (old .dropped)

@@ -22,6 +22,7 @@ use Rattle.evaluation.specs.Records.{LimitsF, TakenF, lent}
 use Rattle.split.specs.declared.split.SplitResult.{SplitResult}
 use Rattle.cut_table.proofs.Fronts.{front, inside, counted}
 use Rattle.sheet_loaded.specs.Held.{InMemory}
+use Rattle.sheet_loaded.proofs.HeadHeld.{held-limits}
 use Rattle.sheet_plan.specs.Breaks.{breaksF, placesIn, startsIn}
 use Rattle.sheet_plan.specs.Cut.{CutLists, CutLeft}
 use Rattle.sheet_plan.specs.Plan.{Plan, startsOf, plan, PlanLists, Left}
@@ -45,12 +46,12 @@ module _ (s : Sheet) (tour : List ℕ) (head : Head) (customers : List Customer)
 
   places-are : placesIn breaks ≡ splitTw s tour .places
   places-are =
-      rw (served-are C, ends-are C, ap (λ (l : LimitsF). l .rest) (H .limits))
+      rw (served-are C, ends-are C, ap (λ (l : LimitsF). l .rest) (held-limits H))
       (places-found s (sized s (H .within)) (lent customers distances times (head .places)) (H .tables) tour (few-calls s tour (H .calls)) (calls-inside s tour (H .calls)))
 
   starts-are : startsIn breaks ≡ map fl (startsOf s (splitTw s tour))
   starts-are =
-      rw (served-are C, ends-are C, ap (λ (l : LimitsF). l .rest) (H .limits))
+      rw (served-are C, ends-are C, ap (λ (l : LimitsF). l .rest) (held-limits H))
       (starts-found s (sized s (H .within)) (lent customers distances times (head .places)) (H .tables) tour (few-calls s tour (H .calls)) (calls-inside s tour (H .calls)))
 
   -- the run ends rise to the number of served calls

@@ -4,7 +4,5 @@ pub mod Seeking
 pub mod Parts
 -- A result written as far as there is room.
 pub mod Fitting
--- The head of a sheet.
-pub mod Head
 -- What the reading says before the parts are written.
 pub mod Summary

@@ -6,7 +6,7 @@ use Rattle.definitions.specs.Sheet.{HeadOf}
 use Rattle.definitions.specs.Reader as Reader
 use Rattle.definitions.specs.Reader.{sheet, refusedAt}
 use Rattle.models.specs.Image.{flSheet}
-use Rattle.sheet_read.specs.Head.{heldHead}
+use Rattle.models.specs.Records.{headOf}
 use Rattle.sheet_read.specs.declared.read.Contents.{Contents}
 use Rattle.sheet_read.specs.declared.read.Reading.{Reading}
 use Rattle.sheet_read.specs.declared.read.Reading.the-variants.{Sheet, Refused}
@@ -38,7 +38,7 @@ summaryOf (refusedAt number word) = refused number word
 
 -- what the code's answer holds
 abbrev pub heldCounts : Contents → Counted
-heldCounts c = record { head = heldHead (c .head); customers = c .customers; distances = c .distances; times = c .times; calls = c .calls }
+heldCounts c = record { head = headOf (c .head); customers = c .customers; distances = c .distances; times = c .times; calls = c .calls }
 
 abbrev pub heldSummary : Reading → Summary
 heldSummary (Sheet c) = holds (heldCounts c)

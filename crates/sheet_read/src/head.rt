@@ -4,10 +4,9 @@ ghost use mathlib.Core.Option.{Option·map};
 ghost use Rattle.whole.specs.Whole.{fl};
 ghost use Rattle.definitions.specs.Words.{wordsOf};
 ghost use Rattle.definitions.specs.Reader.{valuesOf, breakOf, sheetOf};
-ghost use Rattle.models.specs.Records.{limitOf, restOf};
+ghost use Rattle.models.specs.Records.{limitOf, restOf, headOf};
 ghost use Rattle.models.specs.Image.{flBreak, flSheet};
 ghost use Rattle.sheet_read.specs.Parts.{valueOf};
-ghost use Rattle.sheet_read.specs.Head.{heldHead};
 use crate::customers::load_from;
 use crate::values::Value;
 use crate::values::find;
@@ -56,7 +55,7 @@ pub fn rest_of(bytes: &[u8]) -> Rest
 
 // The head that accepted words say.
 pub fn head_of(bytes: &[u8]) -> Head
-    ensures { λ r. ⌜ heldHead r ≡ flSheet (sheetOf (wordsOf (now (bytes .entry)))) .head ⌝ }
+    ensures { λ r. ⌜ headOf r ≡ flSheet (sheetOf (wordsOf (now (bytes .entry)))) .head ⌝ }
 {
     let places = or_zero(first_value(bytes, 1)) as usize;
     let seats = or_zero(first_value(bytes, 2));

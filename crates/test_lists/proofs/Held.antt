@@ -16,6 +16,7 @@ use Rattle.route_elimination.specs.Insertion.{GivenF}
 use Rattle.sheet_loaded.specs.declared.load.Loaded.{Loaded}
 use Rattle.sheet_loaded.specs.Loaded.{Arrays, Holds}
 use Rattle.sheet_loaded.proofs.Loading.{calls-are}
+use Rattle.sheet_loaded.proofs.HeadHeld.{held-capacity, held-fixed, held-limits}
 use Rattle.test_runs.specs.Runs.{givenIn}
 use Rattle.test_lists.specs.Answers.{givenOf, listAlike, sheetAlike}
 
@@ -37,7 +38,7 @@ module _ {s : Sheet} {tour : List ℕ} {l : Loaded} {old new : Arrays} (H : Hold
   given-is : givenIn l (take (l .«distance_count») (new .distances)) (take (l .«time_count») (new .times)) ≡ givenOf s
   given-is =
       let M = H .in-memory in
-      same-given (H .customers-are) (M .tables .distances-are) (M .tables .times-are) (M .tables .size-is) (M .capacity) (M .fixed) (M .limits)
+      same-given (H .customers-are) (M .tables .distances-are) (M .tables .times-are) (M .tables .size-is) (held-capacity M) (held-fixed M) (held-limits M)
 
   pub alike-on : (bytes : List ℕ) → read bytes ≡ sheet s tour → (calls ends recorded : List ℕ) (r : Bool)
       → r ≡ listAlike (givenIn l (take (l .«distance_count») (new .distances)) (take (l .«time_count») (new .times))) (take (l .calls) (new .tour)) calls ends recorded

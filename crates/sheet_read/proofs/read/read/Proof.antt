@@ -5,7 +5,7 @@ use mathlib.Core.Path.{_≡_, sym, ap, _∙_}
 use borrow.Author.Needs.{needs}
 use Rattle.sheet_words.specs.Held.{outcomeOf}
 use Rattle.sheet_words.specs.declared.check.Checked.the-variants.{Accepted, Refused}
-use Rattle.sheet_read.specs.Head.{heldHead}
+use Rattle.models.specs.Records.{headOf}
 use Rattle.sheet_read.proofs.Reading.{few-places, read-refused, read-accepted}
 use Rattle.sheet_read.proofs.read.read.Statement.{statement}
 use Rattle.sheet_read.proofs.read.read.Tie as tie
@@ -28,7 +28,7 @@ mul-t8 c =
     let d = checked .check in
     let e : d .result ≡ Accepted = search needs in
     let bytes = checked .before .before .args .bytes .now in
-    let few = few-places bytes (sym (ap outcomeOf e) ∙ d .ensures) (heldHead (c .head-of .result)) (c .head-of .ensures) in
+    let few = few-places bytes (sym (ap outcomeOf e) ∙ d .ensures) (headOf (c .head-of .result)) (c .head-of .ensures) in
     omega (arith, mul-le-mul few few)
 
 count-values-requires : tie.Need-count-values-requires
@@ -52,7 +52,7 @@ returns-2 c =
     let d = checked .check in
     let e : d .result ≡ Accepted = search needs in
     let bytes = checked .before .before .args .bytes .now in
-    read-accepted bytes (sym (ap outcomeOf e) ∙ d .ensures) (heldHead (headed .head-of .result)) (headed .head-of .ensures) _ _
+    read-accepted bytes (sym (ap outcomeOf e) ∙ d .ensures) (headOf (headed .head-of .result)) (headed .head-of .ensures) _ _
     (counted .count-values .ensures) (c .count-values2 .ensures)
 
 pub read-spec : {M : Type 1} → statement M
