@@ -28,7 +28,7 @@ pub ends-room : (run : ℕ) (tour given : List ℕ) → length tour ≤ 128 → 
 ends-room run tour given few e = omega (arith, ap length e, ends-few run (length tour))
 
 module _ (head : Head) (customers : List Customer) (distances times : List Float) (search : Search)
-    (told : searchOf search ≡ searchF (map customerOf customers) distances (head .places) (limitsOf (head .limits))) where
+    (told : searchOf search ≡ searchF (map customerOf customers) (head .places) (limitsOf (head .limits))) where
   abbrev held : Instance
   held = lent customers distances times (head .places) (head .capacity) (head .«fixed_cost») (head .limits)
 

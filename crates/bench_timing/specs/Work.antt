@@ -52,7 +52,7 @@ splitCost I tour =
 
 -- what an improver is told
 abbrev pub told : Instance → SearchF
-told I = searchF (I .tables .customers) (I .tables .distances) (I .tables .size) (I .limits)
+told I = searchF (I .tables .customers) (I .tables .size) (I .limits)
 
 unfoldable pub reversedDistance : Instance → List ℕ → Float
 reversedDistance I tour = improvedDistanceF (I .tables) (told I) tour

@@ -107,7 +107,7 @@ fn reversed_distance(
 {
     let head = held.head;
     let customers = held.customers;
-    let search = search_of(customers, distances, head.places, head.limits);
+    let search = search_of(customers, head.places, head.limits);
     two_opt_improve(
         tour,
         customers,
@@ -138,7 +138,7 @@ fn runs_left(
     let customers = held.customers;
     let mut given = [0usize; 128];
     let many = write_every(tour.len(), run, &mut given);
-    let search = search_of(customers, distances, head.places, head.limits);
+    let search = search_of(customers, head.places, head.limits);
     let left = eliminate_routes(
         tour,
         &given[..many],

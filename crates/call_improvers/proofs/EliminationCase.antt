@@ -1,24 +1,19 @@
 -- On a sheet that is meant and accepted, route elimination by what it is told leaves the runs that crates/definitions says. Assumes nothing.
-use Prim.Native.Nat.{ℕ, zero-le}
-use mathlib.Core.Path.{_≡_, refl, ap, _∙_}
+use Prim.Native.Nat.{ℕ}
+use mathlib.Core.Path.{_≡_, refl, ap}
 use mathlib.Core.List.{List}
 use lib.Ieee.{Float}
-use Rattle.bounds.proofs.Inside.{sized}
 use Rattle.definitions.specs.Sheet.{SheetOf, Sheet}
 use Rattle.definitions.specs.Improver.{givenOf}
 use Rattle.definitions.specs.RunList.{runsOf}
 use Rattle.definitions.specs.Elimination.{eliminated}
 use Rattle.definitions.specs.Lent.{eliminating}
-use Rattle.definitions.specs.Refusals.{Within}
 use Rattle.theorems.proofs.Accepted.{Accepted}
-use Rattle.whole.specs.Gain.{gainFloorF}
 use Rattle.whole.specs.Value.{value}
 use Rattle.models.specs.declared.customer.Customer.{Customer}
 use Rattle.evaluation.specs.Image as Evaluation
 use Rattle.evaluation.proofs.ChecksExact.{checks-exact}
-use Rattle.improve_base.specs.Gain.{scaleF}
 use Rattle.improve_base.specs.Search.{SearchF, searchF, told}
-use Rattle.improve_base.proofs.GainExact.{largest, largest-small, largest-exact}
 use Rattle.models.specs.Load.{spaceOf}
 use Rattle.route_elimination.specs.Insertion.{GivenF}
 use Rattle.route_elimination.specs.Elimination.{eliminatedF}
@@ -38,23 +33,18 @@ module _ (Q : Asked) (cs : List Customer) (held : Matches Q cs) (I : Evaluation.
   given = givenBy Q (told s (tablesIn Q))
 
   -- what is given holds the sheet that is meant
-  given-holds : Within s → Image s given
+  given-holds : Image s given
   unfolding searchF
-  given-holds W =
-      let small = sized s W .distances-small in
-      let distances = s .legs .distances in
+  given-holds =
       record {
         tables-hold = I;
         capacity-holds = ap (λ (x : SheetOf Float). x .head .capacity) held;
         fixed-holds = ap (λ (x : SheetOf Float). x .head .fixed) held;
         limits-hold = refl;
         asked-where-needed = checks-exact s (tablesIn Q) I;
-        scale = largest 0 distances;
-        scale-small = largest-small 0 distances zero-le small;
-        floor-holds = ap gainFloorF (ap scaleF (I .distances-are) ∙ largest-exact 0 distances zero-le small);
       }
 
   -- the runs that are left
   pub elimination-holds : (ends rooms : List ℕ) → Accepted value eliminating (lentWith Q ends rooms cs)
       → eliminatedF given (runsOf (Q .calls) ends) ≡ eliminated (givenOf s) (runsOf (Q .calls) ends)
-  elimination-holds ends rooms a = elimination-exact s (a .within) given (given-holds (a .within)) (Q .calls) ends (a .calls) (a .runs .ends)
+  elimination-holds ends rooms a = elimination-exact s (a .within) given given-holds (Q .calls) ends (a .calls) (a .runs .ends)

@@ -53,7 +53,7 @@ module _ (Q : Asked) where
 
   -- what the code is told of the sheet
   abbrev pub toldF : LimitsF → SearchF
-  toldF = searchF (map customerOf (Q .array)) (Q .distances) (Q .head .places)
+  toldF = searchF (map customerOf (Q .array)) (Q .head .places)
 
   abbrev pub Refused : Call → (ends rooms : List ℕ) → ℕ → Type 0
   Refused k ends rooms number = Refuses k (lentWith ends rooms) (Q .count) (Q .array) number

@@ -44,7 +44,7 @@ pub fn eliminate_routes(
     if number != 0 {
         return Elimination::Refused(number);
     }
-    let search = search_of(all, distances, head.places, head.limits);
+    let search = search_of(all, head.places, head.limits);
     let left = route_elimination::route_elimination::eliminate_routes(
         calls,
         ends,

@@ -35,7 +35,7 @@ pub fn two_opt_improve(
     if number != 0 {
         return Reversed::Refused(number);
     }
-    let search = search_of(all, distances, head.places, head.limits);
+    let search = search_of(all, head.places, head.limits);
     let distance = two_opt::two_opt::two_opt_improve(
         run,
         all,

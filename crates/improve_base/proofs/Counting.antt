@@ -1,26 +1,35 @@
--- The places from j up to n, one at a time. Assumes nothing.
-use Prim.Native.Nat.{ℕ, suc, _+_, _-_, _<_, _≤_}
+-- Tests over what is left of a list, one element at a time. Assumes nothing.
+use Prim.Native.Nat.{ℕ, _+_, _<_, _≤_}
 use native.Mathlib.Numerals.{add-one}
-use native.Mathlib.Omega.{arith}
 use mathlib.Core.Path.{_≡_}
 use mathlib.Core.Bool.{Bool, true, false}
-use mathlib.Core.List.{[], _∷_}
-use Rattle.basics.specs.Lists.{all, count}
+use mathlib.Core.List.{List}
+use lib.ListN.{length, getD, drop, drop-of-length-le}
+use lib.Seq.{drop-cons}
+use lib.Ieee.{Float}
+use Rattle.basics.specs.Lists.{all}
+use Rattle.improve_base.specs.Gain.{allEqualF, symmetricF}
 
-pub count-more : (n j : ℕ) → j < n → count j (n - j) ≡ j ∷ count (j + 1) (n - (j + 1))
-count-more n j h =
-    let e : n - j ≡ suc (n - (j + 1)) = omega arith in
-    rw (e, add-one j)
+module _ (p : ℕ → Bool) (calls : List ℕ) (j : ℕ) where
+  pub all-goes : j < length calls → p (getD calls j 0) ≡ true → all p (drop j calls) ≡ all p (drop (j + 1) calls)
+  all-goes h e = rw (drop-cons calls j 0 h, add-one j, e)
 
-pub count-done : (n j : ℕ) → n ≤ j → count j (n - j) ≡ []
-count-done n j h = let e : n - j ≡ 0 = omega arith in rw e
+  pub all-stops : j < length calls → p (getD calls j 0) ≡ false → all p (drop j calls) ≡ false
+  all-stops h e = rw (drop-cons calls j 0 h, e)
 
-module _ (p : ℕ → Bool) (n j : ℕ) where
-  pub all-goes : j < n → p j ≡ true → all p (count j (n - j)) ≡ all p (count (j + 1) (n - (j + 1)))
-  all-goes h e = rw (count-more n j h, e)
+  pub all-ends : length calls ≤ j → all p (drop j calls) ≡ true
+  all-ends h = rw (drop-of-length-le calls h)
 
-  pub all-stops : j < n → p j ≡ false → all p (count j (n - j)) ≡ false
-  all-stops h e = rw (count-more n j h, e)
+-- legs between any two of them
+module _ (leg : ℕ → ℕ → Float) (calls : List ℕ) (i : ℕ) where
+  pub pairs-go : i < length calls → allEqualF leg (getD calls i 0) (drop (i + 1) calls) ≡ true → symmetricF leg (drop i calls) ≡ symmetricF leg (drop (i + 1) calls)
+  unfolding symmetricF
+  pairs-go h e = let f = rw (add-one i) at e in rw (drop-cons calls i 0 h, add-one i, f)
 
-  pub all-ends : n ≤ j → all p (count j (n - j)) ≡ true
-  all-ends h = rw (count-done n j h)
+  pub pairs-stop : i < length calls → allEqualF leg (getD calls i 0) (drop (i + 1) calls) ≡ false → symmetricF leg (drop i calls) ≡ false
+  unfolding symmetricF
+  pairs-stop h e = let f = rw (add-one i) at e in rw (drop-cons calls i 0 h, f)
+
+  pub pairs-end : length calls ≤ i → symmetricF leg (drop i calls) ≡ true
+  unfolding symmetricF
+  pairs-end h = rw (drop-of-length-le calls h)

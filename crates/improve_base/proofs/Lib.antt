@@ -1,6 +1,8 @@
 -- Tests over counted places, and sums over what is left of a list.
 pub mod Counting
 pub mod Reckoning
+-- Records in lists.
+pub mod ListedRecords
 -- A run whose first calls are fixed.
 pub mod Onward
 pub mod Leading

@@ -1,10 +1,10 @@
--- The largest distance, and whether the distances are symmetric, on floats, as the code has them. Definitions only.
-use Prim.Native.Nat.{ℕ, suc, _-_}
-use mathlib.Core.Bool.{Bool, not, _&&_}
+-- The largest distance, and whether legs are as long both ways, on floats, as the code has them. Definitions only.
+use Prim.Native.Nat.{ℕ}
+use mathlib.Core.Bool.{Bool, true, not, _&&_}
 use mathlib.Core.List.{List, [], _∷_}
 use lib.Ieee as Ieee
 use lib.Ieee.{Float, binary64}
-use Rattle.basics.specs.Lists.{all, count}
+use Rattle.basics.specs.Lists.{all}
 use Rattle.whole.specs.Whole.{fl}
 use Rattle.whole.specs.Larger.{largerF}
 
@@ -13,8 +13,16 @@ unfoldable pub largestF : Float → List Float → Float
 largestF most [] = most
 largestF most (x ∷ l) = largestF (largerF most x) l
 
-abbrev pub scaleF : List Float → Float
-scaleF distances = largestF (fl 0) distances
+-- four at a time, each against a largest of its own; those that are left behind the last four, one at a time
+unfoldable pub largestByFourF : Float → Float → Float → Float → List Float → Float
+largestByFourF a b c d [] = largerF (largerF a b) (largerF c d)
+largestByFourF a b c d (w ∷ []) = largestF (largerF (largerF a b) (largerF c d)) (w ∷ [])
+largestByFourF a b c d (w ∷ x ∷ []) = largestF (largerF (largerF a b) (largerF c d)) (w ∷ x ∷ [])
+largestByFourF a b c d (w ∷ x ∷ y ∷ []) = largestF (largerF (largerF a b) (largerF c d)) (w ∷ x ∷ y ∷ [])
+largestByFourF a b c d (w ∷ x ∷ y ∷ z ∷ l) = largestByFourF (largerF a w) (largerF b x) (largerF c y) (largerF d z) l
+
+unfoldable pub scaleF : List Float → Float
+scaleF distances = largestByFourF (fl 0) (fl 0) (fl 0) (fl 0) distances
 
 -- the difference is neither above nor below 0
 unfoldable pub legsEqualF : Float → Float → Bool
@@ -27,12 +35,7 @@ module _ (leg : ℕ → ℕ → Float) where
   abbrev pub allEqualF : ℕ → List ℕ → Bool
   allEqualF i js = all (λ j. legsEqualF (leg i j) (leg j i)) js
 
-  -- and each place after it, of so many
-  abbrev pub rowSymmetricF : ℕ → ℕ → Bool
-  rowSymmetricF size i = allEqualF i (count (suc i) (size - suc i))
-
-  abbrev pub rowsSymmetricF : ℕ → List ℕ → Bool
-  rowsSymmetricF size is = all (rowSymmetricF size) is
-
-  unfoldable pub symmetricF : ℕ → Bool
-  symmetricF size = rowsSymmetricF size (count 0 size)
+  -- those between any two of these
+  unfoldable pub symmetricF : List ℕ → Bool
+  symmetricF [] = true
+  symmetricF (c ∷ cs) = allEqualF c cs && symmetricF cs

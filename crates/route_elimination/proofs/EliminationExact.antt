@@ -3,14 +3,14 @@ use Prim.Native.Nat.{ℕ, zero, suc, _+_, _-_, _<_, _≤_}
 use native.Mathlib.Omega.{arith}
 use native.Mathlib.Nat.{zero-add, not-suc-le-zero}
 use mathlib.Core.Path.{_≡_, refl, sym, ap, ap₂, subst, _∙_}
-use mathlib.Core.Bool.{false, cond}
+use mathlib.Core.Bool.{true, false, cond}
 use mathlib.Core.List.{List, [], _∷_}
 use mathlib.Core.Option.{Option, none, some, Option·map}
 use lib.ListN.{length, drop}
 use lib.Ieee as Ieee
 use lib.Ieee.{Float, binary64}
 use borrow.Author.Tests.{lt-ltb}
-use Rattle.basics.specs.Options.{_>>=_, valueOr, orElse, Holds, given}
+use Rattle.basics.specs.Options.{valueOr, orElse, Holds}
 use Rattle.basics.specs.Lists.{All}
 use Rattle.bounds.specs.Sized.{Sized, Place}
 use Rattle.bounds.proofs.Inside.{sized, few-calls, calls-inside}
@@ -28,6 +28,7 @@ use Rattle.theorems.proofs.SortLaws.{sort-all}
 use Rattle.theorems.proofs.EliminationLaws.{Calls}
 use Rattle.whole.specs.Whole.{fl}
 use Rattle.whole.specs.Half.{halves}
+use Rattle.whole.specs.Gain.{farthest, gainFloorF}
 use Rattle.whole.proofs.GainLaws.{elimination-test}
 use Rattle.whole.proofs.DifferenceLaws.{diff-none}
 use Rattle.improve_runs.specs.Least.{bySeats}
@@ -60,10 +61,10 @@ module _ (s : Sheet) (S : Sized s) (T : GivenF) (I : Image s T) where
     abbrev moving : List ℕ
     moving = sort (bySeats (givenOf s .demand)) (p .run)
 
-    base-small : base ≤ mostTotal
+    pub base-small : base ≤ mostTotal
     base-small = omega (arith, total-most s S (p .rest) (P .others .some-calls), P .few)
 
-    saved-small : saved ≤ halves
+    pub saved-small : saved ≤ halves
     saved-small = go (p .run) (P .run-calls) (omega (arith, P .few))
       where
         go : (run : List ℕ) → Calls run → length run ≤ mostCalls → distanceOf (givenOf s) run + s .head .fixed ≤ halves
@@ -99,28 +100,32 @@ module _ (s : Sheet) (S : Sized s) (T : GivenF) (I : Image s T) where
         go [] z = absurd (not-suc-le-zero z)
         go (c ∷ cs) z = all-below s (saved + base) c cs (p .rest)
 
-    abbrev gains : PlacedF → Option (List (List ℕ))
-    gains q = given (Ieee.lt (q .added) (Ieee.sub binary64 (fl saved) (T .search .floor))) (q .runs)
+    -- The Rust's last test, with the gain floor of any largest distance: it holds, so the code leaves it out.
+    pub floor-decides-nothing : (most : ℕ) → most ≤ farthest → Holds (λ (new : List (List ℕ)).
+        Ieee.lt (answered s S T I base saved base-small (omega (arith, saved-small)) new .added) (Ieee.sub binary64 (fl saved) (gainFloorF (fl most))) ≡ true) left
+    floor-decides-nothing most m = go left left-good left-below
+      where
+        go : (o : Option (List (List ℕ))) → Holds (Good s mostCalls) o → Holds (λ (new : List (List ℕ)). total (givenOf s) new < saved + base) o → Holds (λ (new : List (List ℕ)).
+            Ieee.lt (answered s S T I base saved base-small (omega (arith, saved-small)) new .added) (Ieee.sub binary64 (fl saved) (gainFloorF (fl most))) ≡ true) o
+        go none W b = tt
+        go (some new) W b =
+            let far = total (givenOf s) new in
+            let t = total-most s S new (W .some-calls) in
+            elimination-test most far base m (omega (arith, t, W .few)) (omega (arith, base-small)) saved saved-small ∙ lt-ltb far (saved + base) b
 
-    -- the floor decides nothing
-    gains-exact : (o : Option (List (List ℕ))) → Holds (Good s mostCalls) o → Holds (λ (new : List (List ℕ)). total (givenOf s) new < saved + base) o
-        → (Option·map (answered s S T I base saved base-small (omega (arith, saved-small))) o >>= gains) ≡ o
-    gains-exact none W b = refl
-    gains-exact (some new) W b =
-        let far = total (givenOf s) new in
-        let m = total-most s S new (W .some-calls) in
-        let test = elimination-test (I .scale) far base (I .scale-small) (omega (arith, m, W .few)) (omega (arith, base-small)) saved saved-small in
-        rw (I .floor-holds, test, lt-ltb far (saved + base) b)
+    -- the runs that are left
+    runs-exact : (o : Option (List (List ℕ))) → Option·map (λ (q : PlacedF). q .runs) (Option·map (answered s S T I base saved base-small (omega (arith, saved-small))) o) ≡ o
+    runs-exact none = refl
+    runs-exact (some new) = refl
 
     emptied-exact : emptiedF T p ≡ emptied (givenOf s) p
     unfolding emptiedF emptied
     emptied-exact =
         let bound : saved + base ≡ distanceOf (givenOf s) (p .run) + base + s .head .fixed = omega arith in
         let by : Float → Option (List (List ℕ)) =
-        λ x. cond (finiteF x) (placeAllF T (fl 0) x (sort (bySeats (demandF T)) (p .run)) (p .rest)
-        >>= λ q. given (Ieee.lt (q .added) (Ieee.sub binary64 x (T .search .floor))) (q .runs)) none in
+        λ x. cond (finiteF x) (Option·map (λ (q : PlacedF). q .runs) (placeAllF T (fl 0) x (sort (bySeats (demandF T)) (p .run)) (p .rest))) none in
         ap by (saved-exact s S T I (p .run) (P .run-inside) (omega (arith, P .few)))
-        ∙ rw (finite-exact saved (omega (arith, saved-small))) (ap (λ (o : Option PlacedF). o >>= gains) placed-exact ∙ gains-exact left left-good left-below)
+        ∙ rw (finite-exact saved (omega (arith, saved-small))) (ap (Option·map (λ (q : PlacedF). q .runs)) placed-exact ∙ runs-exact left)
         ∙ ap (λ (b : ℕ). placedAll (givenOf s) b moving (p .rest)) bound
 
     emptied-good : Holds (Good s mostCalls) (emptied (givenOf s) p)

@@ -1,18 +1,20 @@
 -- A run that may go: what it saves, and what its customers add elsewhere. Assumes nothing.
 use Prim.Native.Nat.{ℕ}
-use mathlib.Core.Path.{_≡_, ap, ap₂, _∙_}
-use mathlib.Core.Bool.{Bool, true, false}
+use mathlib.Core.Path.{_≡_, refl, ap, ap₂, _∙_}
+use mathlib.Core.Bool.{true, false, false≢true}
 use mathlib.Core.List.{List}
-use mathlib.Core.Option.{Option, none, some}
+use mathlib.Core.Option.{Option, none, Option·map}
 use lib.Ieee as Ieee
 use lib.Ieee.{Float, binary64}
-use Rattle.basics.specs.Options.{_>>=_, given}
+use Rattle.basics.specs.Options.{Holds, given}
 use Rattle.definitions.specs.Sort.{sort}
 use Rattle.definitions.specs.Elimination.{Parted}
 use Rattle.whole.specs.Whole.{fl}
 use Rattle.improve_runs.specs.Least.{bySeats}
 use Rattle.improve_base.specs.Route.{routeDistanceF}
-use Rattle.route_elimination.specs.Insertion.{GivenF, PlacedF, legF, demandF, placeAllF}
+use Rattle.route_elimination.specs.declared.placing.Placed.{Placed}
+use Rattle.route_elimination.specs.declared.placing.Placed.the-variants.{All, NotAll}
+use Rattle.route_elimination.specs.Insertion.{GivenF, PlacedF, legF, demandF, isAll, placedOf, placeAllF}
 use Rattle.route_elimination.specs.Elimination.{finiteF, savedF, emptiedF}
 
 -- the run as it is lent, and what it saves
@@ -28,27 +30,23 @@ pub moved-is : (T : GivenF) (saved : Float) (part run : List ℕ) → part ≡ r
     → movedF T saved part rest ≡ movedF T saved run others
 moved-is T saved part run e rest others er = ap₂ (movedF T saved) e er
 
--- what the customers add is below what is saved
-abbrev pub pays : GivenF → Float → Float → Bool
-pays T saved added = Ieee.lt added (Ieee.sub binary64 saved (T .search .floor))
-
--- the run goes when its customers are placed for less than is saved
+-- the run goes when its customers are placed
 module _ (T : GivenF) (p : Parted) (saved : Float) (es : saved ≡ savedF T (p .run)) where
   pub not-finite : finiteF saved ≡ false → none ≡ emptiedF T p
   unfolding emptiedF
   not-finite f = let g = rw es at f in rw g
 
-  module _ (fin : finiteF saved ≡ true) (q : Option PlacedF) (eq : q ≡ movedF T saved (p .run) (p .rest)) where
-    found : (q >>= λ r. given (pays T saved (r .added)) (r .runs)) ≡ emptiedF T p
-    unfolding emptiedF
-    found =
-        let g = rw es at fin in
-        let e = rw es at eq in
-        rw (g, es, ← e)
+  pub found : finiteF saved ≡ true → (q : Option PlacedF) → q ≡ movedF T saved (p .run) (p .rest) → Option·map (λ (r : PlacedF). r .runs) q ≡ emptiedF T p
+  unfolding emptiedF
+  found fin q eq =
+      let g = rw es at fin in
+      rw g (ap (Option·map (λ (r : PlacedF). r .runs)) (eq ∙ ap (λ (x : Float). movedF T x (p .run) (p .rest)) es))
 
-  pub not-placed : finiteF saved ≡ true → none ≡ movedF T saved (p .run) (p .rest) → none ≡ emptiedF T p
-  not-placed fin e = found fin none e
+-- what is answered of the runs with the customers placed
+pub answered-runs : (p : Placed) (runs : List (List ℕ)) → given (isAll p) runs ≡ Option·map (λ (r : PlacedF). r .runs) (placedOf p runs)
+answered-runs NotAll runs = refl
+answered-runs (All added) runs = refl
 
-  pub decided : finiteF saved ≡ true → (runs : List (List ℕ)) (added : Float) → some (record { runs = runs; added = added }) ≡ movedF T saved (p .run) (p .rest)
-      → given (pays T saved added) runs ≡ emptiedF T p
-  decided fin runs added e = found fin (some (record { runs = runs; added = added })) e
+pub answered-sound : (X : Type 0) (p : Placed) (runs : List (List ℕ)) → Holds (λ (q : PlacedF). X) (placedOf p runs) → isAll p ≡ true → X
+answered-sound X NotAll runs h e = absurd (false≢true e)
+answered-sound X (All added) runs h e = h

@@ -2,14 +2,12 @@
 use Prim.Native.Nat.{ℕ, zero, suc, _+_, _≤_}
 use native.Mathlib.Omega.{arith}
 use mathlib.Core.Path.{_≡_, refl, ap}
-use mathlib.Core.Bool.{Bool, true, false}
 use mathlib.Core.List.{List, [], _∷_}
 use mathlib.Core.Option.{Option, none, some, Option·map}
 use lib.ListN.{length, take, drop, length-append, length-take, length-drop}
-use lib.Ieee as Ieee
-use lib.Ieee.{Float, binary64}
+use lib.Ieee.{Float}
 use Rattle.basics.proofs.TestLaws.{by-test}
-use Rattle.basics.specs.Options.{_>>=_, valueOr, orElse, Holds, given}
+use Rattle.basics.specs.Options.{_>>=_, valueOr, orElse, Holds}
 use Rattle.basics.specs.Lists.{All}
 use Rattle.basics.proofs.ListLaws.{all-imp, all-map}
 use Rattle.definitions.specs.RunList.{callsOf}
@@ -113,14 +111,10 @@ module _ (T : GivenF) where
       moving : List ℕ
       moving = sort (bySeats (demandF T)) (p .run)
 
-      kept : (b : Bool) (q : PlacedF) → Grows (length moving) (p .rest) (q .runs) → Holds (Grows (length (p .run)) (p .rest)) (given b (q .runs))
-      kept true q a = record { runs-same = a .runs-same; calls-more = omega (arith, a .calls-more, sort-length (bySeats (demandF T)) (p .run)) }
-      kept false q a = tt
-
       go : (o : Option PlacedF) → Holds (λ (q : PlacedF). Grows (length moving) (p .rest) (q .runs)) o
-          → Holds (Grows (length (p .run)) (p .rest)) (o >>= λ q. given (Ieee.lt (q .added) (Ieee.sub binary64 (savedF T (p .run)) (T .search .floor))) (q .runs))
+          → Holds (Grows (length (p .run)) (p .rest)) (Option·map (λ (q : PlacedF). q .runs) o)
       go none a = tt
-      go (some q) a = kept (Ieee.lt (q .added) (Ieee.sub binary64 (savedF T (p .run)) (T .search .floor))) q a
+      go (some q) a = record { runs-same = a .runs-same; calls-more = omega (arith, a .calls-more, sort-length (bySeats (demandF T)) (p .run)) }
 
   first-fewer : (all : List (List ℕ)) (ps : List Parted) → All (Part all) ps → Holds (Fewer all) (firstEmptiedF T ps)
   unfolding firstEmptiedF

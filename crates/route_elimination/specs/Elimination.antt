@@ -7,7 +7,7 @@ use mathlib.Core.Option.{Option, none, some, Option·map}
 use lib.ListN.{length}
 use lib.Ieee as Ieee
 use lib.Ieee.{Float, binary64, inf}
-use Rattle.basics.specs.Options.{_>>=_, valueOr, orElse, given}
+use Rattle.basics.specs.Options.{valueOr, orElse, given}
 use Rattle.basics.specs.Lists.{without}
 use Rattle.definitions.specs.Sort.{rising, sort}
 use Rattle.definitions.specs.RunList.{callsOf, endsOf}
@@ -18,7 +18,7 @@ use Rattle.improve_base.specs.Route.{routeDistanceF}
 use Rattle.improve_runs.specs.RunLists.{Runs, Sound, runsIn, runAt}
 use Rattle.improve_runs.specs.Least.{bySeats}
 use Rattle.route_elimination.specs.declared.route_elimination.Left.{Left}
-use Rattle.route_elimination.specs.Insertion.{GivenF, legF, demandF, placeAllF}
+use Rattle.route_elimination.specs.Insertion.{GivenF, PlacedF, legF, demandF, placeAllF}
 
 -- neither infinite nor NaN
 abbrev pub finiteF : Float → Bool
@@ -38,7 +38,7 @@ module _ (G : GivenF) where
   emptiedF p =
       let saved = savedF (p .run) in
       let placed = placeAllF G (fl 0) saved (sort (bySeats (demandF G)) (p .run)) (p .rest) in
-      cond (finiteF saved) (placed >>= λ q. given (Ieee.lt (q .added) (Ieee.sub binary64 saved (G .search .floor))) (q .runs)) none
+      cond (finiteF saved) (Option·map (λ (q : PlacedF). q .runs) placed) none
 
   unfoldable pub firstEmptiedF : List Parted → Option (List (List ℕ))
   firstEmptiedF [] = none

@@ -1,22 +1,16 @@
 -- A sheet of whole numbers as it is lent to the elimination, each number held in a float. Definitions only.
-use Prim.Native.Nat.{ℕ, _≤_}
 use mathlib.Core.Path.{_≡_}
 use Rattle.definitions.specs.Sheet.{Sheet}
 use Rattle.definitions.specs.Improver.{checksNeeded}
 use Rattle.whole.specs.Whole.{fl}
-use Rattle.whole.specs.Gain.{farthest, gainFloorF}
 use Rattle.evaluation.specs.Image.{flLimits}
 use Rattle.evaluation.specs.Image as Evaluation
 use Rattle.route_elimination.specs.Insertion.{GivenF}
 
--- what is lent holds the sheet; `route_feasible` is asked where the sheet has a window, a limit or a break; the least gain is that of the
--- largest distance
+-- what is lent holds the sheet; `route_feasible` is asked where the sheet has a window, a limit or a break
 pub record Image (s : Sheet) (G : GivenF) : Type 0 where
   pub tables-hold : Evaluation.Image s (G .tables)
   pub capacity-holds : G .capacity ≡ s .head .capacity
   pub fixed-holds : G .fixed ≡ fl (s .head .fixed)
   pub limits-hold : G .search .limits ≡ flLimits s
   pub asked-where-needed : G .search .constrained ≡ checksNeeded s
-  pub scale : ℕ
-  pub scale-small : scale ≤ farthest
-  pub floor-holds : G .search .floor ≡ gainFloorF (fl scale)

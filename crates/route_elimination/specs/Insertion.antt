@@ -191,6 +191,10 @@ abbrev pub placedOf : Placed → List (List ℕ) → Option PlacedF
 placedOf NotAll runs = none
 placedOf (All added) runs = some (record { runs = runs; added = added })
 
+abbrev pub isAll : Placed → Bool
+isAll NotAll = false
+isAll (All added) = true
+
 pub record Answers (o : Option PlacedF) (p : Placed) (new : Runs) : Type 0 where
   pub is : placedOf p (runsIn new) ≡ o
   pub sound : Holds (λ (q : PlacedF). Sound new) (placedOf p (runsIn new))

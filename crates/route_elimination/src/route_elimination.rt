@@ -11,18 +11,18 @@ ghost use Rattle.cut_stops.specs.Stops.{numbers, Long, recordsIn};
 ghost use Rattle.improve_runs.specs.RunLists.{room, Sound, runs, runsIn};
 ghost use Rattle.route_elimination.specs.Insertion.{givenIn, lentGiven};
 ghost use Rattle.route_elimination.specs.Elimination.{finiteF, partAt, Tries, emptiedF, eliminatedF, Eliminates, lists, Leaves};
-use crate::placing::Placed;
+use crate::placing::all_placed;
 use crate::placing::place_all;
 use crate::tested::Given;
 use cut_stops::stops::ALL_CODES;
 use cut_stops::stops::ALL_FIGURES;
-use cut_stops::stops::work_out;
 use cut_table::held::number;
 use cut_table::held::remove;
 use cut_table::held::write_front;
 use evaluation::load::Demands;
 use evaluation::load::demands_of;
 use evaluation::route::place_before;
+use improve_base::records::list_records;
 use improve_base::route::route_distance;
 use improve_base::search::Search;
 use improve_runs::picking::shortest;
@@ -50,6 +50,7 @@ pub fn is_finite(x: f64) -> bool
 }
 
 // Whether run r can go: the others take its customers for less than it costs. They are then in the other two lists.
+// Behind the last of them the Rust asks that too, with the gain floor; in whole numbers it has been answered by then.
 pub fn emptied(
     calls: &[usize],
     ends: &[usize],
@@ -92,7 +93,7 @@ pub fn emptied(
         &mut *rest_calls,
         &mut *rest_ends,
     );
-    let Placed::All(added) = place_all(
+    let placed = place_all(
         &mut *rest_calls,
         &mut *rest_ends,
         held,
@@ -105,11 +106,8 @@ pub fn emptied(
         figures,
         distances,
         times,
-    ) else {
-        return false;
-    };
-    let search = given.search;
-    added < saved - search.floor
+    );
+    all_placed(placed)
 }
 
 // The shortest run that can go goes, and the search begins again, until none can. Gives how many runs are left.
@@ -206,7 +204,7 @@ pub fn eliminate_routes(
     let demands = demands_of(customers);
     let mut codes = [0u32; ALL_CODES];
     let mut figures = [0.0; ALL_FIGURES];
-    work_out(customers, distances, times, size, &mut codes, &mut figures);
+    list_records(customers, &mut codes, &mut figures);
     let many = calls.len();
     let mut held_calls = [0usize; 128];
     let mut held_ends = [0usize; 128];

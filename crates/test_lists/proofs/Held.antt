@@ -23,7 +23,7 @@ use Rattle.test_lists.specs.Answers.{givenOf, listAlike, sheetAlike}
 -- what is given, by its parts
 abbrev given : List (CustomerOf Float) → List Float → List Float → ℕ → Load → Float → LimitsF → GivenF
 given c d t n k f l =
-    record { tables = record { customers = c; distances = d; times = t; size = n }; capacity = k; fixed = f; search = searchF c d n l }
+    record { tables = record { customers = c; distances = d; times = t; size = n }; capacity = k; fixed = f; search = searchF c n l }
 
 same-given : {c c' : List (CustomerOf Float)} {d d' t t' : List Float} {n n' : ℕ} {k k' : Load} {f f' : Float} {l l' : LimitsF} → c ≡ c' → d ≡ d' → t ≡ t' → n ≡ n' → k ≡ k' → f ≡ f' → l ≡ l'
     → given c d t n k f l ≡ given c' d' t' n' k' f' l'

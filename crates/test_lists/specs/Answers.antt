@@ -42,7 +42,7 @@ givenOf s =
           };
       capacity = s .head .capacity;
       fixed = fl (s .head .fixed);
-      search = searchF customers distances (s .head .places) (flLimits s);
+      search = searchF customers (s .head .places) (flLimits s);
     }
 
 -- what the cut by capacity alone is given of it

@@ -37,7 +37,7 @@ givenIn held distances times =
       tables = lent (held .customers) distances times (head .places);
       capacity = spaceOf (head .capacity);
       fixed = head .«fixed_cost»;
-      search = searchF (map customerOf (held .customers)) distances (head .places) (limitsOf (head .limits));
+      search = searchF (map customerOf (held .customers)) (head .places) (limitsOf (head .limits));
     }
 
 module _ (G : GivenF) where

@@ -105,7 +105,7 @@ fn improved(
     let head = held.head;
     let customers = held.customers;
     let size = head.places;
-    let search = search_of(customers, distances, size, head.limits);
+    let search = search_of(customers, size, head.limits);
     two_opt_improve(
         run,
         customers,
@@ -220,7 +220,7 @@ fn eliminated(
 {
     let head = held.head;
     let customers = held.customers;
-    let search = search_of(customers, distances, head.places, head.limits);
+    let search = search_of(customers, head.places, head.limits);
     eliminate_routes(
         all,
         ends,

@@ -2,7 +2,7 @@
 use Prim.Native.Nat.{ℕ, zero, suc, zero-le, _+_, _-_, _*_, _<_, _≤_}
 use native.Mathlib.Nat.{zero-add, add-zero, add-assoc}
 use native.Mathlib.Omega.{arith}
-use mathlib.Core.Path.{_≡_, refl, sym, ap, ap₂, _∙_}
+use mathlib.Core.Path.{_≡_, refl, sym, ap, ap₂, subst, _∙_}
 use mathlib.Core.Bool.{Bool, true, false}
 use mathlib.Core.List.{List, [], _∷_, _++_, reverse}
 use lib.ListN.{length, getD, take, drop, length-take, length-drop, take-append-drop}
@@ -131,10 +131,10 @@ module _ (s : Sheet) (S : Sized s) (t : Tables) (I : Image s t) where
       (turned-legs-exact (a + turn) (b + there) c cs (i .0) (i .1) (omega arith) (omega arith)
       ∙ ap₂ diff (add-assoc a turn (back G c cs)) (add-assoc b there (gone G c cs)))
 
-  -- where the distances are symmetric, its legs are as long the other way round
-  back-same : ((a b : ℕ) → Place s a → Place s b → distance s a b ≡ distance s b a) → (x : ℕ) (calls : List ℕ) → Place s x → All (Place s) calls → back G x calls ≡ gone G x calls
-  back-same same x [] p i = refl
-  back-same same x (c ∷ cs) p i = ap₂ _+_ (same c x (i .0) p) (back-same same c cs (i .0) (i .1))
+  -- where legs are as long both ways, those of the stretch are as long the other way round
+  back-same : (P : ℕ → Type 0) → ((a b : ℕ) → P a → P b → distance s a b ≡ distance s b a) → (x : ℕ) (calls : List ℕ) → P x → All P calls → back G x calls ≡ gone G x calls
+  back-same P same x [] p i = refl
+  back-same P same x (c ∷ cs) p i = ap₂ _+_ (same c x (i .0) p) (back-same P same c cs (i .0) (i .1))
 
   -- ---- a reversal
 
@@ -206,14 +206,19 @@ module _ (s : Sheet) (S : Sized s) (t : Tables) (I : Image s t) where
         ∙ turned-legs-exact 0 0 x (inner i j run) x-inside inner-inside (omega (arith, back-most x (inner i j run), inner-short)) (omega (arith, gone-most x (inner i j run), inner-short))
         ∙ ap₂ diff (zero-add turn) (zero-add there))
 
-    module _ (symmetric : Bool) (same : symmetric ≡ true → (a b : ℕ) → Place s a → Place s b → distance s a b ≡ distance s b a) where
+    module _ (P : ℕ → Type 0) (among : All P run) (symmetric : Bool) (same : symmetric ≡ true → (a b : ℕ) → P a → P b → distance s a b ≡ distance s b a) where
+      turn-same : symmetric ≡ true → turn ≡ there
+      turn-same e =
+          let A = subst (All P) (stretch-is run i j h l) (all-take P (suc j - i) (drop i run) (all-drop P i run among)) in
+          back-same P (same e) x (inner i j run) (A .0) (A .1)
+
       pub delta-exact : deltaF leg symmetric i j run ≡ diff (new + turn) (old + there)
       unfolding deltaF reversalDeltaF
       delta-exact =
           by-test symmetric
           (λ e. rw (e, sides-exact)
           (diff-add-fl new old 0 (omega (arith, distance-small s S p y, distance-small s S x q)) (omega (arith, distance-small s S p x, distance-small s S y q)) zero-le
-          ∙ diff-same (new + 0) old (new + turn) (old + there) (omega (arith, back-same (same e) x (inner i j run) x-inside inner-inside))))
+          ∙ diff-same (new + 0) old (new + turn) (old + there) (omega (arith, turn-same e))))
           (λ e. rw (e, sides-exact, legs-exact)
           (diff-add new old turn there (omega (arith, distance-small s S p y, distance-small s S x q)) (omega (arith, distance-small s S p x, distance-small s S y q))
           (omega (arith, back-most x (inner i j run), inner-short)) (omega (arith, gone-most x (inner i j run), inner-short))))

@@ -1,11 +1,12 @@
 -- The search for reversals, step by step: the last calls tried for one first call, the first calls of a pass, and the passes. Assumes nothing.
 use Prim.Native.Nat.{ℕ, zero, suc, _+_, _-_, _<_, _≤_}
 use native.Mathlib.Nat.{lt-irrefl}
+use native.Mathlib.Numerals.{add-one}
 use native.Mathlib.Omega.{arith}
 use mathlib.Core.Path.{_≡_, refl, sym}
 use mathlib.Core.Bool.{Bool, true, false}
 use mathlib.Core.List.{List, [], _∷_, _++_, reverse}
-use lib.ListN.{take, drop}
+use lib.ListN.{length, take, drop}
 use Rattle.basics.proofs.TestLaws.{by-test}
 use Rattle.basics.specs.Lists.{count}
 use Rattle.definitions.specs.TwoOpt.{turned}
@@ -13,10 +14,20 @@ use Rattle.evaluation.specs.Records.{Tables}
 use Rattle.evaluation.specs.Tables.{distanceF}
 use Rattle.evaluation.specs.Route.{feasibleF}
 use Rattle.improve_base.specs.Search.{SearchF}
-use Rattle.improve_base.proofs.Counting.{count-more, count-done}
-use Rattle.two_opt.specs.TwoOpt.{State, state, gainsF, tooFarF, allowedF, reversedF, triedF, triedEachF, triedAllF, passFromF, passF, passesF}
+use Rattle.two_opt.specs.Rules.{RulesF, rulesF}
+use Rattle.two_opt.specs.TwoOpt.{State, state, gainsF, tooFarF, allowedF, reversedF, triedF, triedEachF, triedAllF, passFromF, passF, passesF, mostPasses, improvedF}
 
-module _ (t : Tables) (s : SearchF) where
+-- ---- the numbers from j up to n, one at a time
+
+count-more : (n j : ℕ) → j < n → count j (n - j) ≡ j ∷ count (j + 1) (n - (j + 1))
+count-more n j h =
+    let e : n - j ≡ suc (n - (j + 1)) = omega arith in
+    rw (e, add-one j)
+
+count-done : (n j : ℕ) → n ≤ j → count j (n - j) ≡ []
+count-done n j h = let e : n - j ≡ 0 = omega arith in rw e
+
+module _ (t : Tables) (s : RulesF) where
   -- ---- the last calls from j on, for the first call i
 
   module _ (i n j : ℕ) (x : State) where
@@ -78,3 +89,10 @@ module _ (t : Tables) (s : SearchF) where
   pub no-pass : (run : List ℕ) (left : ℕ) → left ≤ 0 → passesF t s left run ≡ run
   unfolding passesF
   no-pass run left h = let z : left ≡ 0 = omega arith in rw z
+
+-- a run of fewer than two calls stays
+pub short-stays : (t : Tables) (s : SearchF) (run : List ℕ) → length run < 2 → improvedF t s run ≡ run
+unfolding improvedF passF passFromF
+short-stays t s run h =
+    let none : length run - 1 ≡ 0 = omega arith in
+    pass-last t (rulesF (distanceF t) (t .distances) s run) run run mostPasses (omega arith) (rw none refl)

@@ -14,7 +14,7 @@ use Rattle.definitions.specs.TwoOpt.{turned}
 use Rattle.models.specs.Limits.{withinF}
 use Rattle.evaluation.specs.Records.{Tables}
 use Rattle.evaluation.specs.Tables.{distanceF}
-use Rattle.improve_base.specs.Search.{SearchF}
+use Rattle.two_opt.specs.Rules.{RulesF}
 use Rattle.improve_base.specs.Prefix.{PrefixF, feasibleFromF, Leads}
 use Rattle.improve_base.proofs.Leading.{asked}
 use Rattle.two_opt.specs.Delta.{deltaF}
@@ -64,7 +64,7 @@ module _ (i j : ℕ) (run : List ℕ) (h : i < j) (l : j < length run) where
 
 -- ---- the ways
 
-module _ (t : Tables) (s : SearchF) (i j : ℕ) (run : List ℕ) (b : Bool) where
+module _ (t : Tables) (s : RulesF) (i j : ℕ) (run : List ℕ) (b : Bool) where
   module _ (part : List ℕ) (e : part ≡ turnedPart i j run) where
     turned-allowed : (a : Bool) → allowedF t s (put i j run part) ≡ a → allowedF t s (turned i j run) ≡ a
     turned-allowed a h = ap (allowedF t s) (sym (put-turned i j run part e)) ∙ h
@@ -106,14 +106,14 @@ left-long i j run part e h l =
     omega (arith, length-take (length new - i) (drop i new), length-drop i new, long)
 
 -- whether a run that keeps the first i calls is allowed, asked from there on
-pub allowed-from : (t : Tables) (s : SearchF) (i : ℕ) (run behind : List ℕ) (b : PrefixF) → i ≤ length run → Leads t (s .limits) (take i run) b
+pub allowed-from : (t : Tables) (s : RulesF) (i : ℕ) (run behind : List ℕ) (b : PrefixF) → i ≤ length run → Leads t (s .limits) (take i run) b
     → (r : Bool) → r ≡ cond (s .constrained) (feasibleFromF t (s .limits) b (take (length (take i run ++ behind) - i) (drop i (take i run ++ behind)))) true
     → allowedF t s (take i run ++ behind) ≡ r
 allowed-from t s i run behind b h L r e = by-test (s .constrained) (λ y. rw y (asked t (s .limits) i run behind b h L r (e ∙ rw y))) (λ n. rw n (sym (e ∙ rw n)))
 
 -- ---- the tests before it
 
-module _ (leg : ℕ → ℕ → Float) (s : SearchF) (i j : ℕ) (run : List ℕ) (delta : Float) (d : delta ≡ deltaF leg (s .symmetric) i j run) where
+module _ (leg : ℕ → ℕ → Float) (s : RulesF) (i j : ℕ) (run : List ℕ) (delta : Float) (d : delta ≡ deltaF leg (s .symmetric) i j run) where
   pub gains-asked : (r : Bool) → r ≡ Ieee.lt delta (Ieee.neg (s .floor)) → gainsF leg s i j run ≡ r
   gains-asked r e = sym (e ∙ ap (λ (x : Float). Ieee.lt x (Ieee.neg (s .floor))) d)
 

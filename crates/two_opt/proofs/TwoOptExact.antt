@@ -1,17 +1,18 @@
 -- On a sheet within the limits, held in floats, two_opt_improve gives what crates/definitions says. Assumes nothing.
 use Prim.Native.Nat.{ℕ, zero, suc, zero-le, _+_, _-_, _<_, _≤_}
 use native.Mathlib.Omega.{arith}
+use native.Mathlib.Nat.{zero-add}
 use mathlib.Core.Path.{_≡_, refl, sym, ap, subst, _∙_}
 use mathlib.Core.Logic.{_⊎_, inl, inr}
 use mathlib.Core.Bool.{true, false, cond}
 use mathlib.Core.List.{List, [], _∷_}
 use lib.ListN.{length}
-use lib.Dec.{ltb}
+use lib.Dec.{ltb, eqb}
 use lib.Ieee as Ieee
 use lib.Ieee.{Float, binary64}
-use borrow.Author.Tests.{ltb-true, le-ltb}
+use borrow.Author.Tests.{ltb-true, le-ltb, eqb-false}
 use Rattle.basics.proofs.TestLaws.{by-test, not-true}
-use Rattle.basics.specs.Lists.{sum, All, count}
+use Rattle.basics.specs.Lists.{sum, All, Same, count}
 use Rattle.basics.proofs.ListLaws.{all-imp}
 use Rattle.definitions.specs.Domain.{mostCalls}
 use Rattle.definitions.specs.Sheet.{Sheet, distance}
@@ -37,8 +38,9 @@ use Rattle.evaluation.proofs.ChecksExact.{checks-exact}
 use Rattle.improve_base.specs.Gain.{scaleF}
 use Rattle.improve_base.specs.Search.{searchF, told}
 use Rattle.improve_base.specs.Route.{routeDistanceF}
-use Rattle.improve_base.proofs.GainExact.{largest, largest-small, largest-exact, symmetric-same}
+use Rattle.improve_base.proofs.GainExact.{Held, scale-held, called, symmetric-same}
 use Rattle.improve_base.proofs.RouteExact.{route-distance-exact}
+use Rattle.two_opt.specs.Rules.{RulesF, rulesF}
 use Rattle.two_opt.specs.Delta.{deltaF}
 use Rattle.two_opt.specs.TwoOpt.{State, state, mostPasses, allowedF, gainsF, tooFarF, reversedF, triedF, triedEachF, triedAllF, passFromF, passF, passesF, improvedF, improvedDistanceF}
 use Rattle.two_opt.proofs.Trying.{length-turned}
@@ -54,39 +56,75 @@ counted k (suc n) = (
       (count (suc k) n) (counted (suc k) n),
 )
 
-module _ (s : Sheet) (S : Sized s) (t : Tables) (I : Image s t) where
+-- the calls of a run in another order are its calls
+among-same : (route xs ys : List ℕ) → Same xs ys → All (λ (c : ℕ). called route c ≡ true) xs → All (λ (c : ℕ). called route c ≡ true) ys
+among-same route xs ys e a = among-of ys (sym (e outside) ∙ of-among xs a)
+  where
+    outside : ℕ → ℕ
+    outside c = cond (called route c) 0 1
+
+    of-among : (l : List ℕ) → All (λ (c : ℕ). called route c ≡ true) l → sum outside l ≡ 0
+    of-among [] a = refl
+    of-among (c ∷ l) a = rw (a .0) (zero-add (sum outside l) ∙ of-among l (a .1))
+
+    right : (m n : ℕ) → m + n ≡ 0 → n ≡ 0
+    right m n h = omega arith
+
+    not-none : (n : ℕ) → 1 + n ≡ 0 → ⊥
+    not-none n h = omega arith
+
+    among-of : (l : List ℕ) → sum outside l ≡ 0 → All (λ (c : ℕ). called route c ≡ true) l
+    among-of [] h = tt
+    among-of (c ∷ l) h = by-test (called route c) (λ t. (t, among-of l (right (outside c) (sum outside l) h))) (λ f. absurd (not-none (sum outside l) (rw f at h)))
+
+-- and all of them are
+among-all : (route : List ℕ) → All (λ (c : ℕ). called route c ≡ true) route
+among-all [] = tt
+among-all (c ∷ cs) = (by-test (eqb c c) (λ t. rw t) (λ f. absurd (eqb-false c c f refl)), all-imp (λ (d : ℕ). called cs d ≡ true) (λ (d : ℕ). called (c ∷ cs) d ≡ true) later cs (among-all cs))
+  where
+    later : (d : ℕ) → called cs d ≡ true → called (c ∷ cs) d ≡ true
+    later d m = by-test (eqb c d) (λ t. rw t) (λ f. rw f m)
+
+module _ (s : Sheet) (S : Sized s) (t : Tables) (I : Image s t) (route : List ℕ) (inside : All (Place s) route) where
   abbrev G : Given
   G = givenOf s
 
-  -- a run of so few calls, each at a place
+  -- what the reversals of this run are told
+  abbrev rules : RulesF
+  rules = rulesF (distanceF t) (t .distances) (told s t) route
+
+  abbrev Among : ℕ → Type 0
+  Among c = called route c ≡ true
+
+  -- a run of so few of its calls, each at a place
   abbrev Fit : List ℕ → Type 0
-  Fit run = (length run ≤ mostCalls) × All (Place s) run
+  Fit run = (length run ≤ mostCalls) × All (Place s) run × All Among run
 
   -- ---- one reversal
 
-  scale-exact : scaleF (t .distances) ≡ fl (largest 0 (s .legs .distances))
-  scale-exact = ap scaleF (I .distances-are) ∙ largest-exact 0 (s .legs .distances) zero-le (S .distances-small)
+  same-back : rules .symmetric ≡ true → (a b : ℕ) → Among a → Among b → distance s a b ≡ distance s b a
+  unfolding rulesF
+  same-back e = symmetric-same (distanceF t) (Place s) (distance s) (λ c d. omega (arith, distance-small s S c d)) (distance-exact s S t I) route inside e
 
-  same-back : told s t .symmetric ≡ true → (a b : ℕ) → Place s a → Place s b → distance s a b ≡ distance s b a
-  unfolding searchF
-  same-back e a b p q =
-      let in-table : (c : ℕ) → Place s c → c < t .size = λ c h. subst (λ (n : ℕ). c < n) (sym (I .size-is)) h in
-      let placed : (c : ℕ) → c < t .size → Place s c = λ c h. subst (λ (n : ℕ). c < n) (I .size-is) h in
-      symmetric-same (distanceF t) (t .size) (distance s) (λ c d. omega (arith, distance-small s S c d))
-      (λ c d h k. distance-exact s S t I c d (placed c h) (placed d k)) e a b (in-table a p) (in-table b q)
+  -- the scale is a distance that a sheet may have
+  scale-whole : Held (scaleF (t .distances))
+  scale-whole = subst (λ (l : List Float). Held (scaleF l)) (sym (I .distances-are)) (scale-held (s .legs .distances) (S .distances-small))
 
-  gains-exact : (run : List ℕ) → Fit run → (i j : ℕ) → i < j → j < length run → gainsF (distanceF t) (told s t) i j run ≡ ltb (distanceOf G (turned i j run)) (distanceOf G run)
-  unfolding searchF
+  gains-exact : (run : List ℕ) → Fit run → (i j : ℕ) → i < j → j < length run → gainsF (distanceF t) rules i j run ≡ ltb (distanceOf G (turned i j run)) (distanceOf G run)
+  unfolding rulesF
   gains-exact run f i j h l =
-      ap (λ (most : Float). Ieee.lt (deltaF (distanceF t) (told s t .symmetric) i j run) (Ieee.neg (gainFloorF most))) scale-exact
-      ∙ gain-exact s S t I run (f .0) (f .1) i j h l (told s t .symmetric) same-back (largest 0 (s .legs .distances)) (largest-small 0 (s .legs .distances) zero-le (S .distances-small))
+      let most = scale-whole in
+      ap (λ (x : Float). Ieee.lt (deltaF (distanceF t) (rules .symmetric) i j run) (Ieee.neg (gainFloorF x))) (most .is)
+      ∙ gain-exact s S t I run (f .0) (f .1) i j h l Among (f .2) (rules .symmetric) same-back (most .number) (most .small)
 
-  allowed-exact : (run : List ℕ) → Fit run → allowedF t (told s t) run ≡ allowed G run
-  unfolding searchF
+  allowed-exact : (run : List ℕ) → Fit run → allowedF t (rules) run ≡ allowed G run
+  unfolding rulesF searchF
   allowed-exact run f = rw (checks-exact s t I, sized-feasible-exact s S t I run (f .0) (f .1))
 
   turned-fits : (run : List ℕ) → Fit run → (i j : ℕ) → i < j → j < length run → Fit (turned i j run)
-  turned-fits run f i j h l = (omega (arith, length-turned i j run h l, f .0), same-inside s run (turned i j run) (λ g. sym (turned-same i j run g)) (f .1))
+  turned-fits run f i j h l =
+      let same : Same run (turned i j run) = λ g. sym (turned-same i j run g) in
+      (omega (arith, length-turned i j run h l, f .0), same-inside s run (turned i j run) same (f .1), among-same route run (turned i j run) same (f .2))
 
   distance-bound : (run : List ℕ) → length run ≤ mostCalls → distanceOf G run ≤ mostPasses
   distance-bound [] few = zero-le
@@ -98,15 +136,15 @@ module _ (s : Sheet) (S : Sized s) (t : Tables) (I : Image s t) where
   from-depot (c ∷ cs) h = refl
 
   -- a reversal that makes the run too long makes one that is not allowed
-  far-refused : (run : List ℕ) → Fit run → (i j : ℕ) → i < j → j < length run → tooFarF (distanceF t) (told s t) i j run ≡ true → allowed G (turned i j run) ≡ false
-  unfolding tooFarF searchF
+  far-refused : (run : List ℕ) → Fit run → (i j : ℕ) → i < j → j < length run → tooFarF (distanceF t) (rules) i j run ≡ true → allowed G (turned i j run) ≡ false
+  unfolding tooFarF rulesF searchF
   far-refused run f i j h l far =
       let new = turned i j run in
       let d = distance-bound run (f .0) in
       let b = distance-bound new (turned-fits run f i j h l .0) in
-      let sum = ap (λ (x : Float). Ieee.add binary64 x (deltaF (distanceF t) (told s t .symmetric) i j run)) (route-distance-exact s S t I run (f .0) (f .1))
-      ∙ far-exact s S t I run (f .0) (f .1) i j h l (told s t .symmetric) same-back (omega (arith, d)) in
-      let out = sym (guard-exact s S (distanceF t) run (deltaF (distanceF t) (told s t .symmetric) i j run) (distanceOf G new) (omega (arith, b)) sum) ∙ not-true _ far in
+      let sum = ap (λ (x : Float). Ieee.add binary64 x (deltaF (distanceF t) (rules .symmetric) i j run)) (route-distance-exact s S t I run (f .0) (f .1))
+      ∙ far-exact s S t I run (f .0) (f .1) i j h l Among (f .2) (rules .symmetric) same-back (omega (arith, d)) in
+      let out = sym (guard-exact s S (distanceF t) run (deltaF (distanceF t) (rules .symmetric) i j run) (distanceOf G new) (omega (arith, b)) sum) ∙ not-true _ far in
       allowed-is s new ∙ far-infeasible s new (ap (within (s .head .maxDistance)) (from-depot new (omega (arith, length-turned i j run h l))) ∙ out)
 
   -- ---- the search from the run `old`: no reversal is taken yet and it is as it was, or one is and it is shorter
@@ -124,7 +162,7 @@ module _ (s : Sheet) (S : Sized s) (t : Tables) (I : Image s t) where
         go (inl e) = omega (arith, ap (distanceOf G) (e .1))
         go (inr e) = omega (arith, e .1)
 
-    tried-exact : (x : State) → Going old x → (i j : ℕ) → i < j → j < length old → (triedF t (told s t) i j x .run ≡ tried G i j (x .run)) × Going old (triedF t (told s t) i j x)
+    tried-exact : (x : State) → Going old x → (i j : ℕ) → i < j → j < length old → (triedF t (rules) i j x .run ≡ tried G i j (x .run)) × Going old (triedF t (rules) i j x)
     unfolding triedF reversedF tried
     tried-exact x g i j h l =
         let m : j < length (x .run) = omega (arith, g .as-long) in
@@ -133,7 +171,7 @@ module _ (s : Sheet) (S : Sized s) (t : Tables) (I : Image s t) where
         let gains = gains-exact (x .run) (g .fits) i j h m in
         let may = allowed-exact new f in
         by-test (ltb (distanceOf G new) (distanceOf G (x .run)))
-        (λ y. by-test (tooFarF (distanceF t) (told s t) i j (x .run))
+        (λ y. by-test (tooFarF (distanceF t) (rules) i j (x .run))
         (λ far. let a = far-refused (x .run) (g .fits) i j h m far in rw (gains, far, y, a) (refl, g))
         (λ near. by-test (allowed G new)
         (λ a. rw (gains, near, may, y, a) (
@@ -148,12 +186,12 @@ module _ (s : Sheet) (S : Sized s) (t : Tables) (I : Image s t) where
         (λ n. rw (gains, n) (refl, g))
 
     each-exact : (i : ℕ) (js : List ℕ) → All (λ (j : ℕ). (i < j) × (j < length old)) js → (x : State) → Going old x
-        → (triedEachF t (told s t) i js x .run ≡ triedAll G i js (x .run)) × Going old (triedEachF t (told s t) i js x)
+        → (triedEachF t (rules) i js x .run ≡ triedAll G i js (x .run)) × Going old (triedEachF t (rules) i js x)
     unfolding triedEachF triedAll
     each-exact i [] a x g = (refl, g)
     each-exact i (j ∷ js) a x g =
         let one = tried-exact x g i j (a .0 .0) (a .0 .1) in
-        let more = each-exact i js (a .1) (triedF t (told s t) i j x) (one .1) in
+        let more = each-exact i js (a .1) (triedF t (rules) i j x) (one .1) in
         (more .0 ∙ ap (triedAll G i js) (one .0), more .1)
 
     -- the last calls for a first call i
@@ -163,15 +201,15 @@ module _ (s : Sheet) (S : Sized s) (t : Tables) (I : Image s t) where
         (count (suc i) (length old - suc i)) (counted (suc i) (length old - suc i))
 
     first-exact : (is : List ℕ) → All (λ (i : ℕ). suc i < length old) is → (x : State) → Going old x
-        → (passFromF t (told s t) (length old) is x .run ≡ passFrom G (length old) is (x .run)) × Going old (passFromF t (told s t) (length old) is x)
+        → (passFromF t (rules) (length old) is x .run ≡ passFrom G (length old) is (x .run)) × Going old (passFromF t (rules) (length old) is x)
     unfolding passFromF passFrom
     first-exact [] a x g = (refl, g)
     first-exact (i ∷ is) a x g =
         let one = each-exact i (count (suc i) (length old - suc i)) (lasts i (a .0)) x g in
-        let more = first-exact is (a .1) (triedAllF t (told s t) (length old) i x) (one .1) in
+        let more = first-exact is (a .1) (triedAllF t (rules) (length old) i x) (one .1) in
         (more .0 ∙ ap (passFrom G (length old) is) (one .0), more .1)
 
-    pass-exact : Fit old → (passF t (told s t) old .run ≡ pass G old) × Going old (passF t (told s t) old)
+    pass-exact : Fit old → (passF t (rules) old .run ≡ pass G old) × Going old (passF t (rules) old)
     unfolding passF pass
     pass-exact f =
         let firsts = all-imp (λ (i : ℕ). (0 ≤ i) × (i < 0 + (length old - 1))) (λ (i : ℕ). suc i < length old) (λ i k. omega (arith, k .1)) (count 0 (length old - 1)) (counted 0 (length old - 1)) in
@@ -180,44 +218,45 @@ module _ (s : Sheet) (S : Sized s) (t : Tables) (I : Image s t) where
   -- ---- the passes: each that takes a reversal lowers the distance, so there are never too few
 
   one-pass : (left : ℕ) (run : List ℕ) → Fit run → distanceOf G run ≤ suc left
-      → ((new : List ℕ) → Fit new → distanceOf G new ≤ left → passesF t (told s t) left new ≡ improved G new) → passesF t (told s t) (suc left) run ≡ improved G run
+      → ((new : List ℕ) → Fit new → distanceOf G new ≤ left → passesF t (rules) left new ≡ improved G new) → passesF t (rules) (suc left) run ≡ improved G run
   unfolding passesF
   one-pass left run f d rest = go (P .1 .change)
     where
-      P : (passF t (told s t) run .run ≡ pass G run) × Going run (passF t (told s t) run)
+      P : (passF t (rules) run .run ≡ pass G run) × Going run (passF t (rules) run)
       P = pass-exact run f
 
       x : State
-      x = passF t (told s t) run
+      x = passF t (rules) run
 
       go : ((x .improved ≡ false) × (x .run ≡ run)) ⊎ ((x .improved ≡ true) × (distanceOf G (x .run) < distanceOf G run))
-          → cond (x .improved) (passesF t (told s t) left (x .run)) (x .run) ≡ improved G run
+          → cond (x .improved) (passesF t (rules) left (x .run)) (x .run) ≡ improved G run
       go (inl e) = rw (e .0) (e .1 ∙ sym (improved-done G run (sym (P .0) ∙ e .1)))
       go (inr e) = rw (e .0) (rest (x .run) (P .1 .fits) (omega (arith, e .1)) ∙ ap (improved G) (P .0) ∙ improved-pass G run)
 
-  passes-exact : (left : ℕ) (run : List ℕ) → Fit run → distanceOf G run ≤ left → passesF t (told s t) left run ≡ improved G run
+  passes-exact : (left : ℕ) (run : List ℕ) → Fit run → distanceOf G run ≤ left → passesF t (rules) left run ≡ improved G run
   unfolding passesF
   passes-exact zero run f d = sym (improved-done G run (pass-stays G run (le-ltb (distanceOf G (pass G run)) (distanceOf G run) (omega arith))))
   passes-exact (suc left) run f d = one-pass left run f d (passes-exact left)
 
-  improved-exact : (run : List ℕ) → Fit run → improvedF t (told s t) run ≡ improved G run
+  route-fits : length route ≤ mostCalls → Fit route
+  route-fits few = (few, inside, among-all route)
+
+  improved-exact : length route ≤ mostCalls → improvedF t (told s t) route ≡ improved G route
   unfolding improvedF
-  improved-exact run f = passes-exact mostPasses run f (distance-bound run (f .0))
+  improved-exact few = passes-exact mostPasses route (route-fits few) (distance-bound route few)
 
   -- the same calls in another order
-  improved-fits : (run : List ℕ) → Fit run → Fit (improved G run)
-  improved-fits run f =
-      let same = improved-same G run in
-      (omega (arith, f .0, ones run, ones (improved G run), same (λ _. 1)), same-inside s run (improved G run) (λ g. sym (same g)) (f .1))
+  improved-short : length route ≤ mostCalls → length (improved G route) ≤ mostCalls
+  improved-short few = omega (arith, ones route, ones (improved G route), improved-same G route (λ _. 1))
     where
       ones : (l : List ℕ) → sum (λ _. 1) l ≡ length l
       ones [] = refl
       ones (c ∷ l) = omega (arith, ones l)
 
-  improved-distance-exact : (run : List ℕ) → Fit run → improvedDistanceF t (told s t) run ≡ fl (distanceOf G (improved G run))
-  improved-distance-exact run f =
-      let i = improved-fits run f in
-      ap (routeDistanceF (distanceF t)) (improved-exact run f) ∙ route-distance-exact s S t I (improved G run) (i .0) (i .1)
+  improved-distance-exact : length route ≤ mostCalls → improvedDistanceF t (told s t) route ≡ fl (distanceOf G (improved G route))
+  improved-distance-exact few =
+      let same = same-inside s route (improved G route) (λ g. sym (improved-same G route g)) inside in
+      ap (routeDistanceF (distanceF t)) (improved-exact few) ∙ route-distance-exact s S t I (improved G route) (improved-short few) same
 
 -- ---- by the limits of the Domain
 
@@ -228,5 +267,6 @@ pub record AsDefined (s : Sheet) (t : Tables) (run : List ℕ) : Type 0 where
 
 pub two-opt-exact : (s : Sheet) → Within s → (t : Tables) → Image s t → (run : List ℕ) → WithinCalls s run → AsDefined s t run
 two-opt-exact s W t I run C =
-    let f : (length run ≤ mostCalls) × All (Place s) run = (few-calls s run C, calls-inside s run C) in
-    record { calls-are = improved-exact s (sized s W) t I run f; distance-is = improved-distance-exact s (sized s W) t I run f }
+    let inside = calls-inside s run C in
+    let few = few-calls s run C in
+    record { calls-are = improved-exact s (sized s W) t I run inside few; distance-is = improved-distance-exact s (sized s W) t I run inside few }

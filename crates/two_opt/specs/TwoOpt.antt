@@ -15,6 +15,7 @@ use Rattle.evaluation.specs.Tables.{distanceF}
 use Rattle.evaluation.specs.Route.{feasibleF}
 use Rattle.improve_base.specs.Search.{SearchF}
 use Rattle.improve_base.specs.Route.{routeDistanceF}
+use Rattle.two_opt.specs.Rules.{RulesF, rulesF}
 use Rattle.two_opt.specs.Delta.{deltaF}
 
 -- the run, and whether a reversal was taken on the way to it
@@ -31,7 +32,7 @@ abbrev pub mostPasses : ℕ
 mostPasses = 1290000000
 
 -- turning the calls from i up to and with j gains enough to count
-abbrev pub gainsF : (ℕ → ℕ → Float) → SearchF → ℕ → ℕ → List ℕ → Bool
+abbrev pub gainsF : (ℕ → ℕ → Float) → RulesF → ℕ → ℕ → List ℕ → Bool
 gainsF leg s i j run = Ieee.lt (deltaF leg (s .symmetric) i j run) (Ieee.neg (s .floor))
 
 -- the distance of a run, reckoned where it is limited
@@ -39,12 +40,12 @@ unfoldable pub farF : LimitsF → (ℕ → ℕ → Float) → List ℕ → Float
 farF limits leg run = cond (present (limits .maxDistance)) (routeDistanceF leg run) (fl 0)
 
 -- with the calls from i up to and with j turned, a run is longer than its limit
-unfoldable pub tooFarF : (ℕ → ℕ → Float) → SearchF → ℕ → ℕ → List ℕ → Bool
+unfoldable pub tooFarF : (ℕ → ℕ → Float) → RulesF → ℕ → ℕ → List ℕ → Bool
 tooFarF leg s i j run =
     let delta = deltaF leg (s .symmetric) i j run in
     not (withinF (s .limits .maxDistance) (Ieee.add binary64 (farF (s .limits) leg run) delta))
 
-module _ (t : Tables) (s : SearchF) where
+module _ (t : Tables) (s : RulesF) where
   -- a run that the search may make: feasible, where that is asked
   abbrev pub allowedF : List ℕ → Bool
   allowedF run = cond (s .constrained) (feasibleF t (s .limits) run) true
@@ -85,9 +86,10 @@ module _ (t : Tables) (s : SearchF) where
       let more = passesF left (x .run) in
       cond (x .improved) more (x .run)
 
+module _ (t : Tables) (s : SearchF) where
   -- the calls that two_opt_improve gives
   unfoldable pub improvedF : List ℕ → List ℕ
-  improvedF run = passesF mostPasses run
+  improvedF run = passesF t (rulesF (distanceF t) (t .distances) s run) mostPasses run
 
   -- and the distance that it gives beside them
   abbrev pub improvedDistanceF : List ℕ → Float

@@ -14,11 +14,13 @@ ghost use Rattle.cut_stops.specs.Stops.{numbers, Long, listed};
 ghost use Rattle.improve_base.specs.Search.{searchOf};
 ghost use Rattle.improve_base.specs.Prefix.{prefixOf, failedF, indexF, feasibleFromF, Leads};
 ghost use Rattle.two_opt.specs.Delta.{intoF, reversalDeltaF, deltaF};
-ghost use Rattle.two_opt.specs.TwoOpt.{state, farF, reversedF, triedAllF, passF, improvedF, improvedDistanceF};
+ghost use Rattle.two_opt.specs.Rules.{rulesOf};
+ghost use Rattle.two_opt.specs.TwoOpt.{state, farF, reversedF, triedAllF, passF, mostPasses, passesF, improvedF, improvedDistanceF};
 use crate::reverse::reverse;
+use crate::rules::Rules;
+use crate::rules::rules_of;
 use cut_stops::stops::ALL_CODES;
 use cut_stops::stops::ALL_FIGURES;
-use cut_stops::stops::work_out;
 use cut_table::held::write_front;
 use distance::matrix::get;
 use evaluation::route::call_at;
@@ -28,6 +30,7 @@ use improve_base::prefix::feasible_from;
 use improve_base::prefix::go_on;
 use improve_base::prefix::has_failed;
 use improve_base::prefix::set_out;
+use improve_base::records::list_records;
 use improve_base::route::route_distance;
 use improve_base::search::Search;
 use models::customer::Customer;
@@ -138,10 +141,10 @@ pub fn two_opt_delta(
 }
 
 // Whether a change in the distance is a gain that counts.
-pub fn gains(search: Search, delta: f64) -> bool
-    ensures { λ r. ⌜ r ≡ Ieee.lt delta (Ieee.neg (search .floor)) ⌝ }
+pub fn gains(rules: Rules, delta: f64) -> bool
+    ensures { λ r. ⌜ r ≡ Ieee.lt delta (Ieee.neg (rules .floor)) ⌝ }
 {
-    delta < -search.floor
+    delta < -rules.floor
 }
 
 // The distance of a run, where it is limited.
@@ -178,18 +181,18 @@ pub fn is_allowed(
     distances: &[f64],
     times: &[f64],
     size: usize,
-    search: Search,
+    rules: Rules,
 ) -> bool
     requires { ⌜ Long (numbers (now codes) (now figures)) ⌝ }
     requires { ⌜ indexF (prefixOf prefix) + length (now calls) < 0xFFFF_FFFF_FFFF_FFFF ⌝ }
     ensures { λ r.
         let lists = numbers (now (codes .entry)) (now (figures .entry)) in
         let tables = listed lists (now (distances .entry)) (now (times .entry)) size in
-        let feasible = feasibleFromF tables (limitsOf (search .limits)) (prefixOf prefix) (now (calls .entry)) in
-        ⌜ r ≡ cond (search .constrained) feasible true ⌝ }
+        let feasible = feasibleFromF tables (limitsOf (rules .limits)) (prefixOf prefix) (now (calls .entry)) in
+        ⌜ r ≡ cond (rules .constrained) feasible true ⌝ }
 {
-    if search.constrained {
-        let limits = search.limits;
+    if rules.constrained {
+        let limits = rules.limits;
         return feasible_from(
             prefix,
             calls,
@@ -213,7 +216,7 @@ pub fn reverse_if_allowed(
     distances: &[f64],
     times: &[f64],
     size: usize,
-    search: Search,
+    rules: Rules,
     prefix: Prefix,
     i: usize,
     j: usize,
@@ -222,20 +225,20 @@ pub fn reverse_if_allowed(
 ) -> SoFar
     requires { ⌜ Long (numbers (now codes) (now figures)) × (i < j) × (j < length (now current)) ⌝ }
     requires { let tables = listed (numbers (now codes) (now figures)) (now distances) (now times) size in
-        ⌜ Leads tables (limitsOf (search .limits)) (take i (now current)) (prefixOf prefix) ⌝ }
+        ⌜ Leads tables (limitsOf (rules .limits)) (take i (now current)) (prefixOf prefix) ⌝ }
     requires { let leg = lookupF (now distances) size in
-        ⌜ (delta ≡ deltaF leg (search .symmetric) i j (now current))
-        × (tried .far ≡ farF (limitsOf (search .limits)) leg (now current)) ⌝ }
+        ⌜ (delta ≡ deltaF leg (rules .symmetric) i j (now current))
+        × (tried .far ≡ farF (limitsOf (rules .limits)) leg (now current)) ⌝ }
     ensures { λ r.
         let lists = numbers (now (codes .entry)) (now (figures .entry)) in
         let tables = listed lists (now (distances .entry)) (now (times .entry)) size in
         let old = state (now (current .entry)) (tried .improved) in
-        ⌜ state (now (current .exit)) (r .improved) ≡ reversedF tables (searchOf search) i j old ⌝ }
+        ⌜ state (now (current .exit)) (r .improved) ≡ reversedF tables (rulesOf rules) i j old ⌝ }
     ensures { λ r.
         let leg = lookupF (now (distances .entry)) size in
-        ⌜ r .far ≡ farF (limitsOf (search .limits)) leg (now (current .exit)) ⌝ }
+        ⌜ r .far ≡ farF (limitsOf (rules .limits)) leg (now (current .exit)) ⌝ }
 {
-    let limits = search.limits;
+    let limits = rules.limits;
     if is_too_far(limits, tried.far + delta) {
         return tried;
     }
@@ -249,7 +252,7 @@ pub fn reverse_if_allowed(
         distances,
         times,
         size,
-        search,
+        rules,
     ) {
         reverse(&mut current[i..end]);
         return tried;
@@ -262,10 +265,10 @@ pub fn reverse_if_allowed(
 }
 
 // Whether no run that begins so may be made.
-pub fn no_run(search: Search, prefix: Prefix) -> bool
-    ensures { λ r. ⌜ r ≡ search .constrained && failedF (prefixOf prefix) ⌝ }
+pub fn no_run(rules: Rules, prefix: Prefix) -> bool
+    ensures { λ r. ⌜ r ≡ rules .constrained && failedF (prefixOf prefix) ⌝ }
 {
-    if search.constrained {
+    if rules.constrained {
         return has_failed(prefix);
     }
     false
@@ -280,56 +283,48 @@ pub fn try_all(
     distances: &[f64],
     times: &[f64],
     size: usize,
-    search: Search,
+    rules: Rules,
     prefix: Prefix,
     i: usize,
     tried: SoFar,
 ) -> SoFar
     requires { ⌜ Long (numbers (now codes) (now figures)) × (i < length (now current)) ⌝ }
     requires { let tables = listed (numbers (now codes) (now figures)) (now distances) (now times) size in
-        ⌜ Leads tables (limitsOf (search .limits)) (take i (now current)) (prefixOf prefix) ⌝ }
-    requires { ⌜ tried .far ≡ farF (limitsOf (search .limits)) (lookupF (now distances) size) (now current) ⌝ }
+        ⌜ Leads tables (limitsOf (rules .limits)) (take i (now current)) (prefixOf prefix) ⌝ }
+    requires { ⌜ tried .far ≡ farF (limitsOf (rules .limits)) (lookupF (now distances) size) (now current) ⌝ }
     ensures { λ r.
         let lists = numbers (now (codes .entry)) (now (figures .entry)) in
         let tables = listed lists (now (distances .entry)) (now (times .entry)) size in
         let old = state (now (current .entry)) (tried .improved) in
-        let all = triedAllF tables (searchOf search) (length (now (current .entry))) i old in
+        let all = triedAllF tables (rulesOf rules) (length (now (current .entry))) i old in
         ⌜ state (now (current .exit)) (r .improved) ≡ all ⌝ }
     ensures { λ r.
         let leg = lookupF (now (distances .entry)) size in
-        ⌜ r .far ≡ farF (limitsOf (search .limits)) leg (now (current .exit)) ⌝ }
+        ⌜ r .far ≡ farF (limitsOf (rules .limits)) leg (now (current .exit)) ⌝ }
     ensures { λ _. ⌜ take i (now (current .exit)) ≡ take i (now (current .entry)) ⌝ }
 {
-    if no_run(search, prefix) {
+    if no_run(rules, prefix) {
         return tried;
     }
     let mut known = tried;
     let mut next = i + 1;
     let mut into = leg_into(&current[..], distances, size, i);
-    let mut turned = turned_between(&current[..], distances, size, search.symmetric, i, next);
+    let mut turned = turned_between(&current[..], distances, size, rules.symmetric, i, next);
     while next < current.len() {
         let j = next;
         next += 1;
-        turned = turned_on(
-            &current[..],
-            distances,
-            size,
-            search.symmetric,
-            turned,
-            i,
-            j,
-        );
+        turned = turned_on(&current[..], distances, size, rules.symmetric, turned, i, j);
         let delta = two_opt_delta(
             &current[..],
             distances,
             size,
-            search.symmetric,
+            rules.symmetric,
             into,
             turned,
             i,
             j,
         );
-        if !gains(search, delta) {
+        if !gains(rules, delta) {
             continue;
         }
         known = reverse_if_allowed(
@@ -339,7 +334,7 @@ pub fn try_all(
             distances,
             times,
             size,
-            search,
+            rules,
             prefix,
             i,
             j,
@@ -347,7 +342,7 @@ pub fn try_all(
             known,
         );
         into = leg_into(&current[..], distances, size, i);
-        turned = turned_between(&current[..], distances, size, search.symmetric, i, next);
+        turned = turned_between(&current[..], distances, size, rules.symmetric, i, next);
     }
     known
 }
@@ -360,15 +355,15 @@ pub fn pass(
     distances: &[f64],
     times: &[f64],
     size: usize,
-    search: Search,
+    rules: Rules,
 ) -> bool
     requires { ⌜ Long (numbers (now codes) (now figures)) ⌝ }
     ensures { λ r.
         let lists = numbers (now (codes .entry)) (now (figures .entry)) in
         let tables = listed lists (now (distances .entry)) (now (times .entry)) size in
-        ⌜ state (now (current .exit)) r ≡ passF tables (searchOf search) (now (current .entry)) ⌝ }
+        ⌜ state (now (current .exit)) r ≡ passF tables (rulesOf rules) (now (current .entry)) ⌝ }
 {
-    let limits = search.limits;
+    let limits = rules.limits;
     let far = limited_distance(limits, &current[..], distances, size);
     let mut tried = SoFar {
         improved: false,
@@ -385,7 +380,7 @@ pub fn pass(
             distances,
             times,
             size,
-            search,
+            rules,
             prefix,
             i,
             tried,
@@ -409,32 +404,53 @@ pub fn passes(
     distances: &[f64],
     times: &[f64],
     size: usize,
-    search: Search,
+    rules: Rules,
 )
     requires { ⌜ Long (numbers (now codes) (now figures)) ⌝ }
     ensures { λ _.
         let lists = numbers (now (codes .entry)) (now (figures .entry)) in
         let tables = listed lists (now (distances .entry)) (now (times .entry)) size in
-        ⌜ now (current .exit) ≡ improvedF tables (searchOf search) (now (current .entry)) ⌝ }
+        ⌜ now (current .exit) ≡ passesF tables (rulesOf rules) mostPasses (now (current .entry)) ⌝ }
 {
     let mut left = MOST_PASSES;
     while 0 < left {
-        if !pass(
-            &mut *current,
-            codes,
-            figures,
-            distances,
-            times,
-            size,
-            search,
-        ) {
+        if !pass(&mut *current, codes, figures, distances, times, size, rules) {
             return;
         }
         left -= 1;
     }
 }
 
-// The run, improved inside a list of its length. Gives its distance.
+// The run in a list, of two calls at least, improved there.
+pub fn improve_in_place(
+    current: &mut [usize],
+    customers: [Customer; 64],
+    distances: &[f64],
+    times: &[f64],
+    size: usize,
+    search: Search,
+)
+    ensures { λ _.
+        let tables = lent customers (now (distances .entry)) (now (times .entry)) size in
+        ⌜ now (current .exit) ≡ improvedF tables (searchOf search) (now (current .entry)) ⌝ }
+{
+    let rules = rules_of(search, &current[..], distances, size);
+    let mut codes = [0u32; ALL_CODES];
+    let mut figures = [0.0; ALL_FIGURES];
+    list_records(customers, &mut codes, &mut figures);
+    passes(
+        &mut *current,
+        &codes,
+        &figures,
+        distances,
+        times,
+        size,
+        rules,
+    );
+}
+
+// The run, improved inside a list of its length. Gives its distance. Nothing can be turned in a run of fewer than two
+// calls.
 pub fn improve(
     route: &[usize],
     customers: [Customer; 64],
@@ -452,19 +468,11 @@ pub fn improve(
         let tables = lent customers (now (distances .entry)) (now (times .entry)) size in
         ⌜ now (current .exit) ≡ improvedF tables (searchOf search) (now (route .entry)) ⌝ }
 {
-    let mut codes = [0u32; ALL_CODES];
-    let mut figures = [0.0; ALL_FIGURES];
-    work_out(customers, distances, times, size, &mut codes, &mut figures);
     write_front(route, &mut *current);
-    passes(
-        &mut *current,
-        &codes,
-        &figures,
-        distances,
-        times,
-        size,
-        search,
-    );
+    if route.len() < 2 {
+        return route_distance(route, distances, size);
+    }
+    improve_in_place(&mut *current, customers, distances, times, size, search);
     route_distance(&current[..], distances, size)
 }
 

@@ -1,45 +1,47 @@
--- `gain::symmetric` meets its contract. The loop's invariant: the rows from i on are all symmetric exactly when all rows are. Assumes nothing.
+-- `gain::symmetric` meets its contract. The loop's invariant: the legs between the calls from number i on are all as long both ways exactly
+-- when all legs are. Assumes nothing.
 use Prim.Native.Nat.{ℕ, _-_}
-use native.Mathlib.Nat.{sub-zero}
-use mathlib.Core.Path.{_≡_, sym, _∙_}
-use mathlib.Core.Bool.{Bool}
+use mathlib.Core.Path.{_≡_, refl, sym, _∙_}
+use lib.ListN.{length, drop}
+use lib.Ieee.{Float}
 use denote.Ref.{now}
 use Rattle.basics.proofs.TestLaws.{not-true, not-false}
-use Rattle.basics.specs.Lists.{count}
 use Rattle.distance.specs.Lookup.{lookupF}
-use Rattle.improve_base.specs.Gain.{rowSymmetricF, rowsSymmetricF, symmetricF}
-use Rattle.improve_base.proofs.Counting.{all-goes, all-stops, all-ends}
+use Rattle.improve_base.specs.Gain.{symmetricF}
+use Rattle.improve_base.proofs.Counting.{pairs-go, pairs-stop, pairs-end}
 use borrow.Author.Needs.{needs}
 use Rattle.improve_base.proofs.gain.symmetric.Statement.{statement}
 use Rattle.improve_base.proofs.gain.symmetric.Tie as tie
 
 abbrev Inv-loop : tie.InvT-loop
-Inv-loop distances size i₀ i = rowsSymmetricF (lookupF distances size) size (count i (size - i)) ≡ symmetricF (lookupF distances size) size
+Inv-loop calls distances size i₀ i = symmetricF (lookupF distances size) (drop i calls) ≡ symmetricF (lookupF distances size) calls
 
 abbrev μ-loop : tie.MeasureT-loop
-μ-loop distances size i₀ i = size - i
+μ-loop calls distances size i₀ i = length calls - i
 
--- ---- where a row is known
+-- ---- where the legs of a call are known
 
-abbrev loop : tie.After-row-symmetric Inv-loop μ-loop → tie.At-loop Inv-loop μ-loop
+abbrev loop : tie.After-call-symmetric Inv-loop μ-loop → tie.At-loop Inv-loop μ-loop
 loop c = c .before .before
 
-abbrev row : tie.At-loop Inv-loop μ-loop → ℕ → Bool
-row c = let a = c .before .before .args in rowSymmetricF (lookupF (now (a .distances)) (a .size)) (a .size)
+abbrev start : tie.At-loop Inv-loop μ-loop → tie.Start Inv-loop μ-loop
+start c = c .before .before .before
+
+abbrev leg : tie.At-loop Inv-loop μ-loop → ℕ → ℕ → Float
+leg c = let a = start c .args in lookupF (now (a .distances)) (a .size)
 
 loop-holds : tie.Need-loop-holds Inv-loop μ-loop
-unfolding symmetricF
-loop-holds c = rw (sub-zero (c .before .args .size))
+loop-holds c = refl
 
-row-symmetric-requires : tie.Need-row-symmetric-requires Inv-loop μ-loop
-row-symmetric-requires c κs = search needs
+call-symmetric-requires : tie.Need-call-symmetric-requires Inv-loop μ-loop
+call-symmetric-requires c κs = search needs
 
 returns : tie.Need-returns Inv-loop μ-loop
 returns c =
     let known = c .before in
     let at = loop known in
-    let found = sym (known .row-symmetric .ensures) ∙ not-true _ (c .if1 .taken) in
-    sym (all-stops (row at) (at .before .before .args .size) (at .loop .i) (known .before .loop-test .taken) found) ∙ at .loop .inv
+    let found = sym (known .call-symmetric .ensures) ∙ not-true _ (c .if1 .taken) in
+    sym (pairs-stop (leg at) (now (start at .args .calls)) (at .loop .i) (known .before .loop-test .taken) found) ∙ at .loop .inv
 
 add-i : tie.Need-add-i Inv-loop μ-loop
 add-i c = search needs
@@ -51,13 +53,13 @@ loop-again : tie.Need-loop-again Inv-loop μ-loop
 loop-again c =
     let known = c .before in
     let at = loop known in
-    let found = sym (known .row-symmetric .ensures) ∙ not-false _ (c .if1 .left) in
-    sym (all-goes (row at) (at .before .before .args .size) (at .loop .i) (known .before .loop-test .taken) found) ∙ at .loop .inv
+    let found = sym (known .call-symmetric .ensures) ∙ not-false _ (c .if1 .left) in
+    sym (pairs-go (leg at) (now (start at .args .calls)) (at .loop .i) (known .before .loop-test .taken) found) ∙ at .loop .inv
 
 returns-2 : tie.Need-returns-2 Inv-loop μ-loop
 returns-2 c =
     let at = c .before in
-    sym (all-ends (row at) (at .before .before .args .size) (at .loop .i) (c .loop-test .left)) ∙ at .loop .inv
+    sym (pairs-end (leg at) (now (start at .args .calls)) (at .loop .i) (c .loop-test .left)) ∙ at .loop .inv
 
 pub symmetric-spec : {M : Type 1} → statement M
 symmetric-spec =
@@ -66,7 +68,7 @@ symmetric-spec =
     Inv-loop
     μ-loop
     loop-holds
-    row-symmetric-requires
+    call-symmetric-requires
     returns
     add-i
     loop-less

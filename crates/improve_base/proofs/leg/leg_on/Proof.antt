@@ -25,11 +25,11 @@ start c = c .before .before .before
 cell-of-requires : tie.Need-cell-of-requires
 cell-of-requires c κs = search needs
 
-leg-between-requires : tie.Need-leg-between-requires
-leg-between-requires c κs = search needs
+read-between-requires : tie.Need-read-between-requires
+read-between-requires c κs = search needs
 
 returns : tie.Need-returns
-returns c = c .leg-between .ensures
+returns c = c .read-between .ensures
 
 mul-distance : tie.Need-mul-distance
 mul-distance c = search needs
@@ -45,11 +45,11 @@ returns-2 c =
     let d = read (now (a .distances)) (a .size) (a .from) (a .to) _ _ (cell .cell-of .ensures) (tested .if1 .left) (tested .if1 .left) in
     (d, d ∙ ap (λ (table : List Float). lookupF table (a .size) (a .from) (a .to)) (no-times (now (a .distances)) (now (a .times)) (c .if2 .taken)))
 
-leg-between-requires-2 : tie.Need-leg-between-requires-2
-leg-between-requires-2 c κs = search needs
+read-between-requires-2 : tie.Need-read-between-requires-2
+read-between-requires-2 c κs = search needs
 
 returns-3 : tie.Need-returns-3
-returns-3 c = c .leg-between2 .ensures
+returns-3 c = c .read-between2 .ensures
 
 mul-t8 : tie.Need-mul-t8
 mul-t8 c = search needs
@@ -73,12 +73,12 @@ leg-on-spec =
     tie.close
     (tie.spec
     cell-of-requires
-    leg-between-requires
+    read-between-requires
     returns
     mul-distance
     shared-slice-read-distance
     returns-2
-    leg-between-requires-2
+    read-between-requires-2
     returns-3
     mul-t8
     shared-slice-read-t11

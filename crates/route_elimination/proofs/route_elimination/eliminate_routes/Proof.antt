@@ -8,7 +8,7 @@ use lib.Seq.{length-take-le}
 use lib.Ieee.{Float}
 use denote.Ref.{now}
 use Rattle.cut_stops.specs.Stops.{Numbers, numbers, recordsIn, listed, WorkedOut}
-use Rattle.cut_stops.proofs.Listed.{listed-lent}
+use Rattle.improve_base.proofs.ListedRecords.{listed-records}
 use Rattle.definitions.specs.Room.{written}
 use Rattle.definitions.specs.RunList.{runsOf}
 use Rattle.definitions.specs.Sheet.{CustomerOf}
@@ -24,7 +24,7 @@ use borrow.Author.Needs.{needs}
 use Rattle.route_elimination.proofs.route_elimination.eliminate_routes.Statement.{statement}
 use Rattle.route_elimination.proofs.route_elimination.eliminate_routes.Tie as tie
 
--- ---- the places on the way: from the lists that are worked out, from the lent run list, from the runs that are left, and from the calls written
+-- ---- the places on the way: from the records listed, from the lent run list, from the runs that are left, and from the calls written
 
 abbrev shares : tie.After-shared-slice-known4 → tie.Start
 shares c = c .before .before .before .before
@@ -32,13 +32,13 @@ shares c = c .before .before .before .before
 abbrev entry : tie.After-slice-known2 → tie.Start
 entry c = shares (c .before .before)
 
-abbrev start : tie.After-work-out → tie.Start
+abbrev start : tie.After-list-records → tie.Start
 start c = entry (c .before .before .before .before)
 
 abbrev calls-in : tie.After-held-calls3 → tie.After-paste
 calls-in c = c .before .before .before .before .before
 
-abbrev worked : tie.After-held-calls3 → tie.After-work-out
+abbrev worked : tie.After-held-calls3 → tie.After-list-records
 worked c = calls-in c .before .before
 
 abbrev begin : tie.After-eliminate → tie.Start
@@ -48,16 +48,15 @@ abbrev left : tie.After-write-front → tie.After-eliminate
 left c = c .before .before .before .before .before
 
 -- the records in lists of numbers are those that are lent
-abbrev records : tie.After-work-out → Numbers
-records c = numbers (c .work-out .last .1 .1 .1 .1 .0) (c .work-out .last .1 .1 .1 .1 .1 .0)
+abbrev records : tie.After-list-records → Numbers
+records c = numbers (c .list-records .last .1 .0) (c .list-records .last .1 .1 .0)
 
-tables : (c : tie.After-work-out) →
+tables : (c : tie.After-list-records) →
     let a = start c .args in
     listed (records c) (now (a .distances)) (now (a .times)) (a .size) ≡ lent (a .customers) (now (a .distances)) (now (a .times)) (a .size)
 tables c =
-    let s = start c in
-    let a = s .args in
-    listed-lent (a .customers) (now (a .distances)) (now (a .times)) (a .size) (records c) (s .good .1 .1 .0 .1 .0 .1) (c .work-out .ensures)
+    let a = start c .args in
+    listed-records (a .customers) (now (a .distances)) (now (a .times)) (a .size) (records c) (c .list-records .ensures .1)
 
 -- the run list as it is held
 abbrev lists : tie.After-held-calls3 → Runs
@@ -92,8 +91,8 @@ answer c =
 demands-of-requires : tie.Need-demands-of-requires
 demands-of-requires c κs = search needs
 
-work-out-requires : tie.Need-work-out-requires
-work-out-requires c κs = search needs
+list-records-requires : tie.Need-list-records-requires
+list-records-requires c κs = search needs
 
 slice-aggregate-paste : tie.Need-slice-aggregate-paste
 slice-aggregate-paste c = search needs
@@ -125,7 +124,7 @@ eliminate-requires c κs =
     let known = c .before .before .before .before in (
       begun known .0,
       (
-        out .work-out .ensures .long,
+        out .list-records .ensures .0,
         subst (λ (l : List (CustomerOf Float)). Asks l (out .before .before .before .demands-of .result))
             (sym (ap (λ (t : Tables). t .customers) (tables out))) (out .before .before .before .demands-of .ensures .1),
       ),
@@ -180,7 +179,7 @@ eliminate-routes-spec =
     tie.close
     (tie.spec
     demands-of-requires
-    work-out-requires
+    list-records-requires
     slice-aggregate-paste
     paste-requires
     slice-aggregate-paste-2

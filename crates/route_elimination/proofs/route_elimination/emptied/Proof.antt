@@ -1,8 +1,8 @@
 -- `route_elimination::emptied` meets its contract. Assumes nothing.
 use Prim.Native.Nat.{ℕ, _+_, _-_, _≤_}
 use native.Mathlib.Omega.{arith}
-use mathlib.Core.Path.{_≡_, refl, sym, ap, subst, _∙_}
-use mathlib.Core.Bool.{true, false≢true}
+use mathlib.Core.Path.{_≡_, sym, ap, ap₂, subst, _∙_}
+use mathlib.Core.Bool.{Bool, true, false≢true}
 use mathlib.Core.List.{List}
 use mathlib.Core.Option.{Option, none, some}
 use lib.ListN.{length, getD, take, drop}
@@ -10,16 +10,16 @@ use lib.Ieee as Ieee
 use lib.Ieee.{Float, binary64}
 use denote.Ref.{now}
 use Rattle.basics.proofs.TestLaws.{not-true, not-false}
-use Rattle.basics.specs.Options.{Holds, given}
+use Rattle.basics.specs.Options.{given}
 use Rattle.cut_stops.specs.Stops.{numbers}
 use Rattle.definitions.specs.Elimination.{Parted}
 use Rattle.improve_runs.specs.RunLists.{Runs, runs, runsIn, Sound, runAt}
 use Rattle.improve_runs.proofs.Changing.{run-bound, run-lent, end-is}
 use Rattle.route_elimination.specs.declared.placing.Placed.{Placed}
 use Rattle.route_elimination.specs.declared.placing.Placed.the-variants.{All, NotAll}
-use Rattle.route_elimination.specs.Insertion.{GivenF, PlacedF, givenIn, placedOf}
+use Rattle.route_elimination.specs.Insertion.{GivenF, givenIn, isAll, placedOf}
 use Rattle.route_elimination.specs.Elimination.{partAt, savedF, finiteF}
-use Rattle.route_elimination.proofs.Emptying.{pays, saved-is, movedF, moved-is, not-finite, not-placed, decided}
+use Rattle.route_elimination.proofs.Emptying.{saved-is, movedF, moved-is, not-finite, found, answered-runs, answered-sound}
 use borrow.Author.Needs.{needs}
 use Rattle.route_elimination.proofs.route_elimination.emptied.Statement.{statement}
 use Rattle.route_elimination.proofs.route_elimination.emptied.Tie as tie
@@ -172,11 +172,8 @@ place-all-requires c κs =
     let fewer = w .without-run .ensures .fewer in
     ((w .without-run .ensures .sound, omega (arith, ap length (run k), fewer, s .pre .0 .0 .calls-fit)), s .pre .1 .1)
 
-enum-known-added : tie.Need-enum-known-added
-enum-known-added c = search needs
-
-enum-told : tie.Need-enum-told
-enum-told c = search needs
+all-placed-requires : tie.Need-all-placed-requires
+all-placed-requires c κs = search needs
 
 same-length : tie.Need-same-length
 same-length c = search needs
@@ -186,34 +183,16 @@ same-length-2 c = search needs
 
 returns-2 : tie.Need-returns-2
 returns-2 c =
-    let placed = placing (c .before .before) in
-    let e : placed .place-all .result ≡ NotAll = search needs in
+    let placed = placing (c .before) in
     let t = tested (without (placed .before)) in
     let s = start (cut t) in
-    record {
-      is = not-placed (lent s) (part s) (amount t) (saved t) (finite placed) (sym (ap (λ (p : Placed). placedOf p (runsIn (left placed))) e) ∙ moved placed);
-      sound = λ f. absurd (false≢true f);
-    }
-
-same-length-3 : tie.Need-same-length-3
-same-length-3 c = search needs
-
-same-length-4 : tie.Need-same-length-4
-same-length-4 c = search needs
-
-returns-3 : tie.Need-returns-3
-returns-3 c =
-    let known = c .before .before .before in
-    let placed = placing (known .before .before) in
-    let x = known .added .given .0 .0 in
-    let e : placed .place-all .result ≡ All x = search needs in
-    let t = tested (without (placed .before)) in
-    let s = start (cut t) in
+    let p = placed .place-all .result in
     let all = all-held placed in
+    let is-all = c .all-placed .ensures in
     record {
-      is = ap (λ (r : Runs). given (pays (lent s) (amount t) x) (runsIn r)) (sym all)
-          ∙ decided (lent s) (part s) (amount t) (saved t) (finite placed) _ x (sym (ap (λ (p : Placed). placedOf p (runsIn (left placed))) e) ∙ moved placed);
-      sound = λ f. subst Sound all (subst (λ (p : Placed). Holds (λ (q : PlacedF). Sound (left placed)) (placedOf p (runsIn (left placed)))) e (placed .place-all .ensures .sound));
+      is = ap₂ (λ (b : Bool) (r : Runs). given b (runsIn r)) is-all (sym all)
+          ∙ answered-runs p (runsIn (left placed)) ∙ found (lent s) (part s) (amount t) (saved t) (finite placed) _ (moved placed);
+      sound = λ f. subst Sound all (answered-sound (Sound (left placed)) p (runsIn (left placed)) (placed .place-all .ensures .sound) (sym is-all ∙ f));
     }
 
 pub emptied-spec : {M : Type 1} → statement M
@@ -233,11 +212,7 @@ emptied-spec =
     without-run-requires
     sub-place-all
     place-all-requires
-    enum-known-added
-    enum-told
+    all-placed-requires
     same-length
     same-length-2
-    returns-2
-    same-length-3
-    same-length-4
-    returns-3)
+    returns-2)

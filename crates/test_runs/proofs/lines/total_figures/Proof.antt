@@ -21,7 +21,11 @@ load-figures-requires c κs = search needs
 
 returns : tie.Need-returns
 unfolding follows
-returns c = rw (c .load-figures .ensures, c .before .figure4 .ensures, c .before .before .figure3 .ensures, c .before .before .before .figure2 .ensures, c .before .before .before .before .figure .ensures)
+returns c =
+    let cost = c .before in
+    let lateness = cost .before in
+    let duration = lateness .before in
+    rw (c .load-figures .ensures, cost .figure4 .ensures, lateness .figure3 .ensures, duration .figure2 .ensures, duration .before .figure .ensures)
 
 pub total-figures-spec : {M : Type 1} → statement M
 total-figures-spec =

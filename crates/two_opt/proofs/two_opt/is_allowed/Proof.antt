@@ -14,12 +14,12 @@ feasible-from-requires c κs = search needs
 returns : tie.Need-returns
 returns c =
     let tested = c .before .before in
-    let asked : start (tested .before) .args .search .constrained ≡ true = tested .if1 .taken in
+    let asked : start (tested .before) .args .rules .constrained ≡ true = tested .if1 .taken in
     rw asked (c .feasible-from .ensures)
 
 returns-2 : tie.Need-returns-2
 returns-2 c =
-    let free : start (c .before) .args .search .constrained ≡ false = c .if1 .left in
+    let free : start (c .before) .args .rules .constrained ≡ false = c .if1 .left in
     rw free
 
 pub is-allowed-spec : {M : Type 1} → statement M

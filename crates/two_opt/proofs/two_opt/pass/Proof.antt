@@ -10,7 +10,7 @@ use Rattle.basics.specs.Lists.{count}
 use Rattle.evaluation.specs.Records.{Tables, limitsOf}
 use Rattle.distance.specs.Lookup.{lookupF}
 use Rattle.cut_stops.specs.Stops.{numbers, listed}
-use Rattle.improve_base.specs.Search.{searchOf}
+use Rattle.two_opt.specs.Rules.{rulesOf}
 use Rattle.improve_base.specs.Prefix.{prefixOf, Leads}
 use Rattle.improve_base.proofs.Leading.{leads-start, leads-next}
 use Rattle.two_opt.specs.TwoOpt.{state, farF, triedAllF, passFromF, passF}
@@ -20,16 +20,16 @@ use Rattle.two_opt.proofs.two_opt.pass.Statement.{statement}
 use Rattle.two_opt.proofs.two_opt.pass.Tie as tie
 
 abbrev Inv-loop : tie.InvT-loop
-Inv-loop current₀ codes figures distances times size search far tried₀ prefix₀ i₀ current tried prefix i =
+Inv-loop current₀ codes figures distances times size rules far tried₀ prefix₀ i₀ current tried prefix i =
     (length current ≡ length current₀)
     × (i ≤ length current₀)
-    × (passFromF (listed (numbers codes figures) distances times size) (searchOf search) (length current₀) (count i (length current₀ - 1 - i)) (state current (tried .improved))
-    ≡ passF (listed (numbers codes figures) distances times size) (searchOf search) current₀)
-    × Leads (listed (numbers codes figures) distances times size) (limitsOf (search .limits)) (take i current) (prefixOf prefix)
-    × (tried .far ≡ farF (limitsOf (search .limits)) (lookupF distances size) current)
+    × (passFromF (listed (numbers codes figures) distances times size) (rulesOf rules) (length current₀) (count i (length current₀ - 1 - i)) (state current (tried .improved))
+    ≡ passF (listed (numbers codes figures) distances times size) (rulesOf rules) current₀)
+    × Leads (listed (numbers codes figures) distances times size) (limitsOf (rules .limits)) (take i current) (prefixOf prefix)
+    × (tried .far ≡ farF (limitsOf (rules .limits)) (lookupF distances size) current)
 
 abbrev μ-loop : tie.MeasureT-loop
-μ-loop current₀ codes figures distances times size search far tried₀ prefix₀ i₀ current tried prefix i = length current - i
+μ-loop current₀ codes figures distances times size rules far tried₀ prefix₀ i₀ current tried prefix i = length current - i
 
 -- ---- the places on the way: from the opening, from the beginning, from the loop, and from the last calls tried
 
@@ -61,7 +61,7 @@ loop-holds c =
       refl,
       omega arith,
       rw (sub-zero (length (now (s .args .current)) - 1)),
-      rw (c .set-out .ensures) (leads-start (tables s) (limitsOf (s .args .search .limits))),
+      rw (c .set-out .ensures) (leads-start (tables s) (limitsOf (s .args .rules .limits))),
       c .before .limited-distance .ensures,
     )
 
@@ -100,10 +100,10 @@ loop-again c =
     let t = tables s in
     let l = at .loop in
     let long = tried .try-all .kept .0 in
-    let all = tried .try-all .ensures .0 ∙ ap (λ (n : ℕ). triedAllF t (searchOf (a .search)) n (l .i) (state (l .current) (l .tried .improved))) (l .inv .0) in
-    let next = first-more t (searchOf (a .search)) (length (now (a .current))) (l .i) (state (l .current) (l .tried .improved)) (omega arith) _ all in
+    let all = tried .try-all .ensures .0 ∙ ap (λ (n : ℕ). triedAllF t (rulesOf (a .rules)) n (l .i) (state (l .current) (l .tried .improved))) (l .inv .0) in
+    let next = first-more t (rulesOf (a .rules)) (length (now (a .current))) (l .i) (state (l .current) (l .tried .improved)) (omega arith) _ all in
     let leads =
-    leads-next t (limitsOf (a .search .limits)) (l .i) (l .current) _ (prefixOf (l .prefix)) _ (omega (arith, long)) (tried .try-all .ensures .1 .1) (l .inv .3)
+    leads-next t (limitsOf (a .rules .limits)) (l .i) (l .current) _ (prefixOf (l .prefix)) _ (omega (arith, long)) (tried .try-all .ensures .1 .1) (l .inv .3)
     (c .go-on .ensures) in
     (long ∙ l .inv .0, omega arith, sym next ∙ l .inv .2, leads, tried .try-all .ensures .1 .0)
 
@@ -114,7 +114,7 @@ returns : tie.Need-returns Inv-loop μ-loop
 returns c =
     let s = start (c .before) in
     let l = c .before .loop in
-    sym (first-done (tables s) (searchOf (s .args .search)) (length (now (s .args .current))) (l .i) _ (omega arith)) ∙ l .inv .2
+    sym (first-done (tables s) (rulesOf (s .args .rules)) (length (now (s .args .current))) (l .i) _ (omega arith)) ∙ l .inv .2
 
 pub pass-spec : {M : Type 1} → statement M
 pass-spec =

@@ -5,20 +5,20 @@ use denote.Ref.{now}
 use Rattle.basics.proofs.TestLaws.{not-true, not-false}
 use Rattle.evaluation.specs.Records.{Tables}
 use Rattle.cut_stops.specs.Stops.{numbers, listed}
-use Rattle.improve_base.specs.Search.{searchOf}
-use Rattle.two_opt.specs.TwoOpt.{state, passesF, improvedF}
+use Rattle.two_opt.specs.Rules.{rulesOf}
+use Rattle.two_opt.specs.TwoOpt.{state, mostPasses, passesF}
 use Rattle.two_opt.proofs.Passing.{pass-more, pass-last, no-pass}
 use borrow.Author.Needs.{needs}
 use Rattle.two_opt.proofs.two_opt.passes.Statement.{statement}
 use Rattle.two_opt.proofs.two_opt.passes.Tie as tie
 
 abbrev Inv-loop : tie.InvT-loop
-Inv-loop current₀ codes figures distances times size search left₀ current left =
+Inv-loop current₀ codes figures distances times size rules left₀ current left =
     (length current ≡ length current₀)
-    × (passesF (listed (numbers codes figures) distances times size) (searchOf search) left current ≡ improvedF (listed (numbers codes figures) distances times size) (searchOf search) current₀)
+    × (passesF (listed (numbers codes figures) distances times size) (rulesOf rules) left current ≡ passesF (listed (numbers codes figures) distances times size) (rulesOf rules) mostPasses current₀)
 
 abbrev μ-loop : tie.MeasureT-loop
-μ-loop current₀ codes figures distances times size search left₀ current left = left
+μ-loop current₀ codes figures distances times size rules left₀ current left = left
 
 -- ---- the places on the way: from the opening, from the loop, and from a pass
 
@@ -35,7 +35,6 @@ abbrev tables : tie.Start Inv-loop μ-loop → Tables
 tables s = let a = s .args in listed (numbers (now (a .codes)) (now (a .figures))) (now (a .distances)) (now (a .times)) (a .size)
 
 loop-holds : tie.Need-loop-holds Inv-loop μ-loop
-unfolding improvedF
 loop-holds c = (refl, refl)
 
 pass-requires : tie.Need-pass-requires Inv-loop μ-loop
@@ -50,7 +49,7 @@ returns c =
     let s = start (loop passed) in
     let l = loop passed .loop in
     let last = ap (state _) (sym (not-true _ (c .if1 .taken))) ∙ passed .pass .ensures in
-    sym (pass-last (tables s) (searchOf (s .args .search)) (l .current) _ (l .left) (passed .before .before .loop-test .taken) last) ∙ l .inv .1
+    sym (pass-last (tables s) (rulesOf (s .args .rules)) (l .current) _ (l .left) (passed .before .before .loop-test .taken) last) ∙ l .inv .1
 
 sub-left : tie.Need-sub-left Inv-loop μ-loop
 sub-left c = search needs
@@ -65,7 +64,7 @@ loop-again c =
     let l = loop passed .loop in
     let more = ap (state _) (sym (not-false _ (c .if1 .left))) ∙ passed .pass .ensures in (
       passed .pass .kept .0 ∙ l .inv .0,
-      sym (pass-more (tables s) (searchOf (s .args .search)) (l .current) _ (l .left) (passed .before .before .loop-test .taken) more) ∙ l .inv .1,
+      sym (pass-more (tables s) (rulesOf (s .args .rules)) (l .current) _ (l .left) (passed .before .before .loop-test .taken) more) ∙ l .inv .1,
     )
 
 same-length-2 : tie.Need-same-length-2 Inv-loop μ-loop
@@ -75,7 +74,7 @@ returns-2 : tie.Need-returns-2 Inv-loop μ-loop
 returns-2 c =
     let s = start (c .before) in
     let l = c .before .loop in
-    sym (no-pass (tables s) (searchOf (s .args .search)) (l .current) (l .left) (c .loop-test .left)) ∙ l .inv .1
+    sym (no-pass (tables s) (rulesOf (s .args .rules)) (l .current) (l .left) (c .loop-test .left)) ∙ l .inv .1
 
 pub passes-spec : {M : Type 1} → statement M
 passes-spec =

@@ -6,7 +6,7 @@ use denote.Ref.{now}
 use Rattle.basics.proofs.TestLaws.{not-true, not-false}
 use Rattle.distance.specs.Lookup.{lookupF}
 use Rattle.cut_stops.specs.Stops.{numbers, listed}
-use Rattle.improve_base.specs.Search.{searchOf}
+use Rattle.two_opt.specs.Rules.{rulesOf}
 use Rattle.improve_base.specs.Prefix.{prefixOf}
 use Rattle.two_opt.specs.TwoOpt.{farF, tooFarF}
 use Rattle.two_opt.proofs.Trying.{made, put-back, undone, refused, left-long, allowed-from, far-asked}
@@ -22,12 +22,12 @@ guarded c = start (c .before .before .before)
 
 -- what the guard says of the reversal
 guard : (c : tie.After-is-too-far) → let a = guarded c .args in
-    tooFarF (lookupF (now (a .distances)) (a .size)) (searchOf (a .search)) (a .i) (a .j) (now (a .current)) ≡ c .is-too-far .result
+    tooFarF (lookupF (now (a .distances)) (a .size)) (rulesOf (a .rules)) (a .i) (a .j) (now (a .current)) ≡ c .is-too-far .result
 guard c =
     let S = guarded c in
     let a = S .args in
     let told = S .pre .1 .1 in
-    far-asked (lookupF (now (a .distances)) (a .size)) (searchOf (a .search)) (a .i) (a .j) (now (a .current)) (a .delta) (told .0) (a .tried .far) (told .1) _ (c .is-too-far .ensures)
+    far-asked (lookupF (now (a .distances)) (a .size)) (rulesOf (a .rules)) (a .i) (a .j) (now (a .current)) (a .delta) (told .0) (a .tried .far) (told .1) _ (c .is-too-far .ensures)
 
 is-too-far-requires : tie.Need-is-too-far-requires
 is-too-far-requires c κs = search needs
@@ -37,7 +37,7 @@ returns c =
     let S = guarded (c .before) in
     let a = S .args in
     let t = listed (numbers (now (a .codes)) (now (a .figures))) (now (a .distances)) (now (a .times)) (a .size) in
-    (refused t (searchOf (a .search)) (a .i) (a .j) (now (a .current)) (a .tried .improved) (guard (c .before) ∙ c .if1 .taken), S .pre .1 .1 .1)
+    (refused t (rulesOf (a .rules)) (a .i) (a .j) (now (a .current)) (a .tried .improved) (guard (c .before) ∙ c .if1 .taken), S .pre .1 .1 .1)
 
 add-end : tie.Need-add-end
 add-end c = search needs
@@ -105,7 +105,7 @@ returns-2 c =
     let S = guarded asked-far in
     let a = S .args in
     let t = listed (numbers (now (a .codes)) (now (a .figures))) (now (a .distances)) (now (a .times)) (a .size) in
-    let s = searchOf (a .search) in
+    let s = rulesOf (a .rules) in
     let no = allowed-from t s (a .i) (now (a .current)) _ (prefixOf (a .prefix)) (omega (arith, S .pre .0 .1, S .pre .0 .2)) (S .pre .1 .0) _ (asked .is-allowed .ensures)
     ∙ not-true _ (tested .if2 .taken) in
     let near = guard asked-far ∙ reversed .before .before .if1 .left in
@@ -130,7 +130,7 @@ returns-3 c =
     let S = guarded asked-far in
     let a = S .args in
     let t = listed (numbers (now (a .codes)) (now (a .figures))) (now (a .distances)) (now (a .times)) (a .size) in
-    let s = searchOf (a .search) in
+    let s = rulesOf (a .rules) in
     let yes = allowed-from t s (a .i) (now (a .current)) _ (prefixOf (a .prefix)) (omega (arith, S .pre .0 .1, S .pre .0 .2)) (S .pre .1 .0) _ (asked .is-allowed .ensures)
     ∙ not-false _ (tested .if2 .left) in
     let near = guard asked-far ∙ reversed .before .before .if1 .left in

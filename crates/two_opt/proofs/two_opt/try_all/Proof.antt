@@ -12,7 +12,7 @@ use Rattle.basics.specs.Lists.{count}
 use Rattle.distance.specs.Lookup.{lookupF}
 use Rattle.evaluation.specs.Records.{Tables, limitsOf}
 use Rattle.cut_stops.specs.Stops.{numbers, listed}
-use Rattle.improve_base.specs.Search.{searchOf}
+use Rattle.two_opt.specs.Rules.{rulesOf}
 use Rattle.improve_base.specs.Prefix.{prefixOf}
 use Rattle.improve_base.proofs.Leading.{not-feasible}
 use Rattle.two_opt.specs.Delta.{intoF, reversalDeltaF}
@@ -24,18 +24,18 @@ use Rattle.two_opt.proofs.two_opt.try_all.Statement.{statement}
 use Rattle.two_opt.proofs.two_opt.try_all.Tie as tie
 
 abbrev Inv-loop : tie.InvT-loop
-Inv-loop current₀ codes figures distances times size search prefix i known₀ next₀ into₀ turned₀ current known next into turned =
+Inv-loop current₀ codes figures distances times size rules prefix i known₀ next₀ into₀ turned₀ current known next into turned =
     (length current ≡ length current₀)
     × (i < next)
-    × (triedEachF (listed (numbers codes figures) distances times size) (searchOf search) i (count next (length current₀ - next)) (state current (known .improved))
-    ≡ triedAllF (listed (numbers codes figures) distances times size) (searchOf search) (length current₀) i (state current₀ (known₀ .improved)))
+    × (triedEachF (listed (numbers codes figures) distances times size) (rulesOf rules) i (count next (length current₀ - next)) (state current (known .improved))
+    ≡ triedAllF (listed (numbers codes figures) distances times size) (rulesOf rules) (length current₀) i (state current₀ (known₀ .improved)))
     × (take i current ≡ take i current₀)
     × (into ≡ intoF (lookupF distances size) i current)
-    × (turned ≡ reversalDeltaF (lookupF distances size) (search .symmetric) (take (next - i) (drop i current)))
-    × (known .far ≡ farF (limitsOf (search .limits)) (lookupF distances size) current)
+    × (turned ≡ reversalDeltaF (lookupF distances size) (rules .symmetric) (take (next - i) (drop i current)))
+    × (known .far ≡ farF (limitsOf (rules .limits)) (lookupF distances size) current)
 
 abbrev μ-loop : tie.MeasureT-loop
-μ-loop current₀ codes figures distances times size search prefix i known₀ next₀ into₀ turned₀ current known next into turned = length current - next
+μ-loop current₀ codes figures distances times size rules prefix i known₀ next₀ into₀ turned₀ current known next into turned = length current - next
 
 -- ---- the places on the way: from the opening, from the first test, from the loop, and from what a reversal changes
 
@@ -66,8 +66,8 @@ returns c =
     let run = now (a .current) in
     let last = count (suc (a .i)) (length run - suc (a .i)) in
     let none =
-    none-taken t (searchOf (a .search)) (a .i) run (a .tried .improved) (n .0)
-    (λ rest. not-feasible t (limitsOf (a .search .limits)) (take (a .i) run) rest (prefixOf (a .prefix)) (n .1) (s .pre .1 .0)) last in
+    none-taken t (rulesOf (a .rules)) (a .i) run (a .tried .improved) (n .0)
+    (λ rest. not-feasible t (limitsOf (a .rules .limits)) (take (a .i) run) rest (prefixOf (a .prefix)) (n .1) (s .pre .1 .0)) last in
     (sym none, (s .pre .1 .1, refl))
 
 add-next : tie.Need-add-next Inv-loop μ-loop
@@ -104,12 +104,12 @@ gains-requires c κs = search needs
 
 -- what the test says of the reversal
 gain : (c : tie.After-gains Inv-loop μ-loop) → let l = loop (c .before) .loop in let a = start (loop (c .before)) .args in
-    gainsF (lookupF (now (a .distances)) (a .size)) (searchOf (a .search)) (a .i) (l .next) (l .current) ≡ c .gains .result
+    gainsF (lookupF (now (a .distances)) (a .size)) (rulesOf (a .rules)) (a .i) (l .next) (l .current) ≡ c .gains .result
 gain c =
     let at = loop (c .before) in
     let a = start at .args in
     let l = at .loop in
-    gains-asked (lookupF (now (a .distances)) (a .size)) (searchOf (a .search)) (a .i) (l .next) (l .current) _ (c .before .two-opt-delta .ensures) _ (c .gains .ensures)
+    gains-asked (lookupF (now (a .distances)) (a .size)) (rulesOf (a .rules)) (a .i) (l .next) (l .current) _ (c .before .two-opt-delta .ensures) _ (c .gains .ensures)
 
 loop-less : tie.Need-loop-less Inv-loop μ-loop
 loop-less c = search needs
@@ -121,7 +121,7 @@ loop-again c =
     let a = s .args in
     let l = loop changed .loop in
     let no = gain (c .before) ∙ not-true _ (c .if2 .taken) in
-    let passed = each-passed (tables s) (searchOf (a .search)) (a .i) (length (now (a .current))) (l .next) (state (l .current) (l .known .improved)) (omega arith) no in
+    let passed = each-passed (tables s) (rulesOf (a .rules)) (a .i) (length (now (a .current))) (l .next) (state (l .current) (l .known .improved)) (omega arith) no in
     (l .inv .0, omega arith, sym passed ∙ l .inv .2, l .inv .3, l .inv .4, changed .before .before .turned-on .ensures ∙ rw (add-one (l .next)), l .inv .6)
 
 reverse-if-allowed-requires : tie.Need-reverse-if-allowed-requires Inv-loop μ-loop
@@ -159,9 +159,9 @@ loop-again-2 c =
     let l = at .loop in
     let y = made .reverse-if-allowed .ensures .0 in
     let yes = gain (tested .before) ∙ not-false _ (tested .if2 .left) in
-    let next = each-made t (searchOf (a .search)) (a .i) (length (now (a .current))) (l .next) (state (l .current) (l .known .improved))
+    let next = each-made t (rulesOf (a .rules)) (a .i) (length (now (a .current))) (l .next) (state (l .current) (l .known .improved))
     (omega (arith, l .inv .0, l .inv .1, changed .before .before .before .before .loop-test .taken)) yes _ y in
-    let stay = kept t (searchOf (a .search)) (a .i) (l .next) (l .current) (l .known .improved) (omega arith) _ _ y in
+    let stay = kept t (rulesOf (a .rules)) (a .i) (l .next) (l .current) (l .known .improved) (omega arith) _ _ y in
     (made .reverse-if-allowed .kept .0 ∙ l .inv .0, omega arith, sym next ∙ l .inv .2, stay ∙ l .inv .3, into .leg-into2 .ensures, c .turned-between2 .ensures, made .reverse-if-allowed .ensures .1)
 
 same-length : tie.Need-same-length Inv-loop μ-loop
@@ -172,7 +172,7 @@ returns-2 c =
     let s = start (c .before) in
     let a = s .args in
     let l = c .before .loop in
-    (sym (each-done (tables s) (searchOf (a .search)) (a .i) (length (now (a .current))) (l .next) _ (omega arith)) ∙ l .inv .2, (l .inv .6, l .inv .3))
+    (sym (each-done (tables s) (rulesOf (a .rules)) (a .i) (length (now (a .current))) (l .next) _ (omega arith)) ∙ l .inv .2, (l .inv .6, l .inv .3))
 
 pub try-all-spec : {M : Type 1} → statement M
 try-all-spec =
