@@ -12,7 +12,7 @@ use Rattle.basics.proofs.TestLaws.{by-test}
 use Rattle.cut_theory.specs.Tab.{mostCut, cells}
 use Rattle.cut_table.specs.Table.{Table}
 use Rattle.evaluation.specs.Records.{Tables}
-use Rattle.cut_stops.specs.Stops.{WorkedOut, LegsAre}
+use Rattle.cut_stops.specs.Stops.{StopsOf, LegsAre}
 use Rattle.cut_rows.specs.Tariff.{Tariff, stretches, legalOf, runsOf, farsOf, Ended}
 use Rattle.cut_rows.specs.Runs.{Instance, tariff, RowLists}
 use Rattle.cut_drops.specs.Refill.{Rows, TableCleared, Reached, NotedRow, ReachedBelow, EarlyBelow, Noted, Refilled}
@@ -64,7 +64,7 @@ module _ (I : Tables → Instance) (x : RowLists) (q : ℕ) where
 
   -- from the rows `from`, whose table is cleared behind q
   unfoldable pub Again : ℕ → Rows → Rows → Type 0
-  Again s from r = (t : Tables) → WorkedOut t (x .stops) → LegsAre t (x .held) (x .legs) → Kept t 0 from → Kept t s r
+  Again s from r = (t : Tables) → StopsOf t (x .held) (x .stops) → LegsAre t (x .held) (x .legs) → Kept t 0 from → Kept t s r
 
   module _ (from : Rows) where
     pub none-again : Again 0 from from

@@ -12,7 +12,7 @@ use Rattle.cut_theory.specs.Tab.{cells}
 use Rattle.cut_theory.proofs.TabLaws.{length-tab}
 use Rattle.evaluation.specs.Records.{Tables}
 use Rattle.cut_table.specs.Table.{Table}
-use Rattle.cut_stops.specs.Stops.{WorkedOut, Lookups, lookupsIn, LegLists, LegsAre, LegsWritten}
+use Rattle.cut_stops.specs.Stops.{StopsOf, Lookups, lookupsIn, LegLists, LegsAre, LegsWritten}
 use Rattle.cut_rows.specs.Tariff.{Tariff, TableOf}
 use Rattle.cut_rows.specs.Runs.{Instance, tariff, RowLists, Rowed}
 use Rattle.cut_rows.proofs.Along.{held-row}
@@ -79,7 +79,7 @@ unfolding Listed Noted
 listed-long I x i old new g l N = noted-long (tariff (I (g .0))) (x .held) i old new l (N (g .0) (g .1) (g .2))
 
 -- the lists are worked out from these tables
-module _ (I : Tables → Instance) (x : RowLists) (t : Tables) (W : WorkedOut t (x .stops)) (L : LegsAre t (x .held) (x .legs)) where
+module _ (I : Tables → Instance) (x : RowLists) (t : Tables) (W : StopsOf t (x .held) (x .stops)) (L : LegsAre t (x .held) (x .legs)) where
   pub listed : Listed x
   unfolding Listed
   listed = (t, W, L)

@@ -29,7 +29,7 @@ use Rattle.evaluation.specs.Records.{Tables}
 use Rattle.cut_table.specs.Table.{Calls, DropCall}
 use Rattle.cut_table.proofs.Writing.{front-written}
 use Rattle.cut_table.proofs.Holding.{Holding, all-holding, call-goes}
-use Rattle.cut_stops.specs.Stops.{Below64, lookupsIn, LegLists, LegsLong, LegsAre}
+use Rattle.cut_stops.specs.Stops.{Below64, lookupsIn, LegLists, LegsLong, LegsAre, Numbers, stopIn, stopAt, StopsOf}
 use Rattle.cut_rows.specs.Tariff.{stretches, runsOf, farsOf, TableOf}
 use Rattle.cut_rows.specs.Runs.{Instance, tariff}
 use Rattle.cut_drops.specs.Drops.{haveF, stuckF, dropFromF, dropsF}
@@ -51,12 +51,19 @@ numbered n positions₀ positions e =
 
 -- ---- the calls held after a drop
 
+-- what holds of each call
+without-each : (P : ℕ → Type 0) (k : ℕ) (l : List ℕ) → ((j : ℕ) → j < length l → P (getD l j 0)) → (j : ℕ) → j < length (without k l) → P (getD (without k l) j 0)
+without-each P k [] w j h = w j h
+without-each P zero (x ∷ l) w j h = w (suc j) (omega arith)
+without-each P (suc k) (x ∷ l) w zero h = w 0 (omega arith)
+without-each P (suc k) (x ∷ l) w (suc j) h = without-each P k l (λ m g. w (suc m) (omega arith)) j (omega arith)
+
 without-below : (k : ℕ) (l : List ℕ) → Below64 l → Below64 (without k l)
 unfolding Below64
-without-below k [] w j h = w j h
-without-below zero (x ∷ l) w j h = w (suc j) (omega arith)
-without-below (suc k) (x ∷ l) w zero h = w 0 (omega arith)
-without-below (suc k) (x ∷ l) w (suc j) h = without-below k l (λ m g. w (suc m) (omega arith)) j (omega arith)
+without-below k l w = without-each (λ (c : ℕ). c < 64) k l w
+
+without-stops : (t : Tables) (x : Numbers) (k : ℕ) (l : List ℕ) → StopsOf t l x → StopsOf t (without k l) x
+without-stops t x k l w = record { long = w .long; stops-are = without-each (λ (c : ℕ). stopAt x c ≡ stopIn t c) k l (w .stops-are) }
 
 module _ (n i : ℕ) (held held' : List ℕ) (b : i < n) (long : n ≤ length held) (less : take (n - 1) held' ≡ without i (take n held)) where
   -- they begin as before
@@ -68,6 +75,9 @@ module _ (n i : ℕ) (held held' : List ℕ) (b : i < n) (long : n ≤ length he
 
   pub below-after : Below64 (take n held) → Below64 (take (n - 1) held')
   below-after w = subst Below64 (sym less) (without-below i (take n held) w)
+
+  pub stops-after : (t : Tables) (x : Numbers) → StopsOf t (take n held) x → StopsOf t (take (n - 1) held') x
+  stops-after t x w = subst (λ (l : List ℕ). StopsOf t l x) (sym less) (without-stops t x i (take n held) w)
 
   -- the legs before the dropped call are those of the calls that are left
   pub legs-kept : (t : Tables) (legs : LegLists) → LegsAre t (take n held) legs → LegsTo (lookupsIn t) (take (n - 1) held') i legs

@@ -21,7 +21,7 @@ use Rattle.cut_rows.specs.Runs.{Instance, over, tariff, RowLists}
 use Rattle.cut_drops.specs.Drops.{haveF}
 use Rattle.cut_drops.specs.Refill.{Rows, RowsLong, NotedRow, Noted, Refilled, Given, lookupsGiven, tablesWith, instanceWith, ListsOf, SomeLists, Work, work, Filled, Turned, RowOrDrop, Unfilled, StuckReady, Holds}
 use Rattle.cut_drops.proofs.Noting.{noted-long, legs-joined, noted-at, refilled-at}
-use Rattle.cut_drops.proofs.Settling.{legs-kept, below-after, have-is, filled-more, front-after, early-after, Settling, Roomy, one-on, one-less, all-settling, stayed}
+use Rattle.cut_drops.proofs.Settling.{legs-kept, below-after, stops-after, have-is, filled-more, front-after, early-after, Settling, Roomy, one-on, one-less, all-settling, stayed}
 
 zero-start : fl 0 ≡ fin false 0 (pos 0)
 unfolding fl ofInt
@@ -29,13 +29,17 @@ zero-start = refl
 
 module _ (E : Given) where
   -- some customers that the numbers are of
-  unfoldable pub some-of : SomeLists E → List Customer
+  unfoldable pub some-of : (held : List ℕ) → SomeLists E held → List Customer
   unfolding SomeLists
-  some-of w = w .0
+  some-of held w = w .0
 
-  pub some-lists : (w : SomeLists E) → ListsOf E (some-of w)
+  pub some-lists : (held : List ℕ) (w : SomeLists E held) → ListsOf E held (some-of held w)
   unfolding SomeLists some-of
-  some-lists w = w .1
+  some-lists held w = w .1
+
+  pub some-on : (held left : List ℕ) → ((customers : List Customer) → ListsOf E held customers → ListsOf E left customers) → SomeLists E held → SomeLists E left
+  unfolding SomeLists
+  some-on held left f w = (w .0, f (w .0) (w .1))
 
   abbrev byTables : Tables → Instance
   byTables t = over t (E .terms)
@@ -50,11 +54,11 @@ module _ (E : Given) where
     abbrev held : List ℕ
     held = x .calls .held
 
-    row-at : (customers : List Customer) → ListsOf E customers → LegsAre (tablesWith E customers) (take n held) (x .legs)
+    row-at : (customers : List Customer) → ListsOf E (take n held) customers → LegsAre (tablesWith E customers) (take n held) (x .legs)
         → NotedRow (tariff (instanceWith E customers)) (take n held) i (x .rows) new
     row-at customers W L = noted-at byTables (rowsOf (take n held) (x .legs)) (tablesWith E customers) W L i (x .rows) new N
 
-    pub row-long : (customers : List Customer) → ListsOf E customers → LegsAre (tablesWith E customers) (take n held) (x .legs)
+    pub row-long : (customers : List Customer) → ListsOf E (take n held) customers → LegsAre (tablesWith E customers) (take n held) (x .legs)
         → length (x .rows .reach) ≡ cells → RowsLong new
     row-long customers W L l = noted-long (tariff (instanceWith E customers)) (take n held) i (x .rows) new l (row-at customers W L)
 
@@ -62,7 +66,7 @@ module _ (E : Given) where
       abbrev FilledBy : List Customer → Type 0
       FilledBy customers = Filled (instanceWith E customers) (take n held) i (x .legs) (x .rows)
 
-      told : (customers : List Customer) → ListsOf E customers → FilledBy customers
+      told : (customers : List Customer) → ListsOf E (take n held) customers → FilledBy customers
           → lt (getD (new .table .cost) (i + 1) nan) top ≡ haveF (instanceWith E customers) (take n held) (suc i)
       told customers W F =
           have-is (instanceWith E customers) held n i (x .legs) (x .rows) new few long F b (row-at customers W (F .legs-are)) top is-top
@@ -90,7 +94,7 @@ module _ (E : Given) where
           let L : LegsAre t after (y .legs) =
           legs-joined t after i (x .legs) (y .legs) (legs-kept n i held (y .calls .held) b long (D .held-less) t (x .legs) (F .legs-are)) G in
           let f =
-          refilled-at byTables (rowsOf after (y .legs)) t W L i new (y .rows) A
+          refilled-at byTables (rowsOf after (y .legs)) t (stops-after n i held (y .calls .held) b long (D .held-less) t (E .stops) W) L i new (y .rows) A
           (front-after I held n i (x .legs) (x .rows) new few long F b R (y .calls .held) (D .held-less))
           (early-after I held n i (x .legs) (x .rows) new few long F b R (y .calls .held) (D .held-less)) in
           record {
@@ -103,7 +107,8 @@ module _ (E : Given) where
 
   -- the invariant
   pub record Turn (tour held₀ dropped₀ : List ℕ) (n i : ℕ) (x : Work) : Type 0 where
-    pub settling : (customers : List Customer) → ListsOf E customers → Settling (instanceWith E customers) tour dropped₀ n i x
+    pub settling : (customers : List Customer) → ListsOf E tour customers → Settling (instanceWith E customers) tour dropped₀ n i x
+    pub listed : (customers : List Customer) → ListsOf E tour customers → ListsOf E (take n (x .calls .held)) customers
     pub roomy : Roomy tour held₀ dropped₀ n i (x .calls)
 
   module _ (tour held₀ dropped₀ : List ℕ) (n i : ℕ) (x : Work) (U : Turn tour held₀ dropped₀ n i x) where
@@ -114,11 +119,11 @@ module _ (E : Given) where
     space = let v = U .roomy in omega arith
 
     module _ (b : i < n) (gone : ℕ) (is-gone : gone ≡ length tour - n) (r : Bool) (y : Work) (P : RowOrDrop E n i gone r x y) where
-      turned : (customers : List Customer) → ListsOf E customers → Turned (instanceWith E customers) n i gone r x y
+      turned : (customers : List Customer) → ListsOf E tour customers → Turned (instanceWith E customers) n i gone r x y
       unfolding RowOrDrop
-      turned customers W = P customers W (U .settling customers W .filled)
+      turned customers W = P customers (U .listed customers W) (U .settling customers W .filled)
 
-      module _ (some-customers : List Customer) (from : ListsOf E some-customers) where
+      module _ (some-customers : List Customer) (from : ListsOf E tour some-customers) where
         -- no call goes
         pub turn-on : r ≡ true → Turn tour held₀ dropped₀ n (i + 1) y
         turn-on e =
@@ -130,6 +135,7 @@ module _ (E : Given) where
                   λ customers W.
                   let T = turned customers W in
                   one-on (instanceWith E customers) tour dropped₀ n i x long (U .settling customers W) b (y .legs) (y .rows) (sym (T .tells) ∙ e) (T .stays e .1);
+              listed = U .listed;
               roomy =
                   record {
                     short = v .short;
@@ -155,6 +161,9 @@ module _ (E : Given) where
                   let T = turned customers W in
                   one-less (instanceWith E customers) tour dropped₀ n i x long (U .settling customers W) b (y .legs) (y .rows) (sym (T .tells) ∙ e) (v .few) space (y .calls)
                   (subst (λ (g : ℕ). DropCall n i g (x .calls) (y .calls)) is-gone (T .drops e .0)) (T .drops e .1);
+              listed =
+                  λ customers W.
+                  stops-after n i (x .calls .held) (y .calls .held) b long (turned customers W .drops e .0 .held-less) (tablesWith E customers) (E .stops) (U .listed customers W);
               roomy =
                   record {
                     short = v .short;
@@ -192,6 +201,7 @@ module _ (E : Given) where
             all-settling (instanceWith E customers) (take n held) n x m refl (P .positions-are) (P .legs-are)
             (record { costs-are = z .0 ∙ N .costs-are; fars-are = z .1 ∙ N .fars-are; preds-are = z .2 ∙ N .preds-are })
             (P .legs-long) (P .reach-long);
+        listed = λ customers W. W;
         roomy =
             record {
               short = omega (arith, f .few);

@@ -19,7 +19,7 @@ use Rattle.cut_table.specs.Table.{Table, table, Sized, Calls, MayDrop, DropCall
 use Rattle.models.specs.declared.customer.Customer.{Customer}
 use Rattle.evaluation.specs.Records as Records
 use Rattle.evaluation.specs.Records.{Tables}
-use Rattle.cut_stops.specs.Stops.{Numbers, numbers, WorkedOut, Below64, Lookups, lookups, LegLists, LegsLong, LegIs, LegsAre}
+use Rattle.cut_stops.specs.Stops.{Numbers, numbers, StopsOf, Below64, Lookups, lookups, LegLists, LegsLong, LegIs, LegsAre}
 use Rattle.cut_rows.specs.Tariff.{Tariff, stretches, runsOf, farsOf, TableOf, HeldRow, Ended}
 use Rattle.cut_rows.specs.declared.terms.Terms.{Terms}
 use Rattle.cut_rows.specs.Runs.{Instance, over, tariff, RowLists, RowReady}
@@ -89,18 +89,18 @@ LegsTo by held q legs = (k : ℕ) → 0 < k → k < q → k < length held → Le
 
 -- the lists are worked out from some tables
 unfoldable pub Listed : RowLists → Type 0
-Listed x = (t : Tables) × WorkedOut t (x .stops) × LegsAre t (x .held) (x .legs)
+Listed x = (t : Tables) × StopsOf t (x .held) (x .stops) × LegsAre t (x .held) (x .legs)
 
 -- over number lists, for whatever tables these are worked out from
 module _ (I : Tables → Instance) (x : RowLists) where
   unfoldable pub Noted : ℕ → Rows → Rows → Type 0
   Noted i old new =
-      (t : Tables) → WorkedOut t (x .stops) → LegsAre t (x .held) (x .legs) → NotedRow (tariff (I t)) (x .held) i old new
+      (t : Tables) → StopsOf t (x .held) (x .stops) → LegsAre t (x .held) (x .legs) → NotedRow (tariff (I t)) (x .held) i old new
 
   -- where the cells up to q and the rows that ended before q are those of the calls held, the table of the rows below q is made
   unfoldable pub Refilled : ℕ → Rows → Rows → Type 0
   Refilled q old new =
-      (t : Tables) → WorkedOut t (x .stops) → LegsAre t (x .held) (x .legs)
+      (t : Tables) → StopsOf t (x .held) (x .stops) → LegsAre t (x .held) (x .legs)
       → FrontOf (tariff (I t)) (x .held) q (old .table) → EarlyBelow (tariff (I t)) (x .held) q (old .reach)
       → TableOf (tariff (I t)) (x .held) q (new .table)
       × ReachedBelow (tariff (I t)) (x .held) q (new .reach)
@@ -131,12 +131,12 @@ module _ (E : Given) where
   abbrev pub instanceWith : List Customer → Instance
   instanceWith customers = over (tablesWith customers) (E .terms)
 
-  -- the numbers are those of these customers, and of some
-  abbrev pub ListsOf : List Customer → Type 0
-  ListsOf customers = WorkedOut (tablesWith customers) (E .stops)
+  -- the numbers of the calls held are those of these customers, and of some
+  abbrev pub ListsOf : List ℕ → List Customer → Type 0
+  ListsOf held customers = StopsOf (tablesWith customers) held (E .stops)
 
-  unfoldable pub SomeLists : Type 0
-  SomeLists = (customers : List Customer) × ListsOf customers
+  unfoldable pub SomeLists : List ℕ → Type 0
+  SomeLists held = (customers : List Customer) × ListsOf held customers
 
 -- ---- one turn
 
@@ -173,12 +173,12 @@ pub record TurnReady (E : Given) (n i gone : ℕ) (x : Work) : Type 0 where
   pub rows-long : RowsLong (x .rows)
   pub legs-long : LegsLong (x .legs)
   pub legs-are : LegsTo (lookupsGiven E) (take n (x .calls .held)) n (x .legs)
-  pub lists : SomeLists E
+  pub lists : SomeLists E (take n (x .calls .held))
 
 -- a turn, where the rows below i are filled
 unfoldable pub RowOrDrop : Given → ℕ → ℕ → ℕ → Bool → Work → Work → Type 0
 RowOrDrop E n i gone r old new =
-    (customers : List Customer) → ListsOf E customers
+    (customers : List Customer) → ListsOf E (take n (old .calls .held)) customers
     → Filled (instanceWith E customers) (take n (old .calls .held)) i (old .legs) (old .rows)
     → Turned (instanceWith E customers) n i gone r old new
 
@@ -205,7 +205,7 @@ pub record StuckReady (E : Given) (n : ℕ) (x : Work) : Type 0 where
   pub legs-long : LegsLong (x .legs)
   pub legs-are : LegsTo (lookupsGiven E) (take n (x .calls .held)) n (x .legs)
   pub unfilled : Unfilled (x .rows .table)
-  pub lists : SomeLists E
+  pub lists : SomeLists E (take n (x .calls .held))
 
 -- the calls held at the end, n of them at the front of `held`, those dropped, and the whole table of those held
 pub record Stayed (I : Instance) (tour dropped : List ℕ) (n : ℕ) (held dropped' : List ℕ) (t : Table) : Type 0 where
@@ -219,4 +219,4 @@ pub record Stayed (I : Instance) (tour dropped : List ℕ) (n : ℕ) (held dropp
 -- for whatever customers the numbers are of
 unfoldable pub Holds : Given → List ℕ → List ℕ → ℕ → List ℕ → List ℕ → Table → Type 0
 Holds E tour dropped n held dropped' t =
-    (customers : List Customer) → ListsOf E customers → Stayed (instanceWith E customers) tour dropped n held dropped' t
+    (customers : List Customer) → ListsOf E tour customers → Stayed (instanceWith E customers) tour dropped n held dropped' t

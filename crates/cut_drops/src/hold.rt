@@ -37,7 +37,7 @@ pub fn close_gap(
     requires { let x = rowLists (now held) (now legs) (now «time_legs») (now codes) (now figures) in
         ⌜ NoteReady x q (rows (now cost) (now dist) (now pred) (now reach)) ⌝ }
     requires { let E = given (now distances) (now times) size (now codes) (now figures) terms in
-        ⌜ SomeLists E × LegsTo (lookupsGiven E) (now held) q (legLists (now legs) (now «time_legs»)) ⌝ }
+        ⌜ SomeLists E (now held) × LegsTo (lookupsGiven E) (now held) q (legLists (now legs) (now «time_legs»)) ⌝ }
     ensures { λ _.
         let E = given (now (distances .entry)) (now (times .entry)) size
         (now (codes .entry)) (now (figures .entry)) terms in
@@ -225,7 +225,8 @@ pub fn hold(
 ) -> usize
     requires { ⌜ Front n (now held) (now dropped) ⌝ }
     requires { ⌜ Unfilled (table (now cost) (now dist) (now pred)) ⌝ }
-    requires { ⌜ SomeLists (given (now distances) (now times) size (now codes) (now figures) terms) ⌝ }
+    requires { let E = given (now distances) (now times) size (now codes) (now figures) terms in
+        ⌜ SomeLists E (take n (now held)) ⌝ }
     ensures { λ r.
         let E = given (now (distances .entry)) (now (times .entry)) size
         (now (codes .entry)) (now (figures .entry)) terms in

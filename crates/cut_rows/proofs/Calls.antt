@@ -12,7 +12,7 @@ use lib.Ieee.{Float, nan}
 use borrow.Author.Tests.{ne-eqb}
 use Rattle.evaluation.specs.Records.{Tables}
 use Rattle.evaluation.specs.Tables.{recordF, demandF, distanceF, timeF, placeBefore}
-use Rattle.cut_stops.specs.Stops.{StopF, stopIn, stopAt, WorkedOut, Below64, LegsAre}
+use Rattle.cut_stops.specs.Stops.{StopF, stopIn, stopAt, StopsOf, Below64, LegsAre}
 use Rattle.cut_rows.specs.Stretch.{joinedF, lastOf, legTo, wayTo}
 use Rattle.cut_rows.specs.Runs.{RowLists}
 
@@ -90,14 +90,16 @@ module _ (leg : ℕ → ℕ → Float) {held : List ℕ} {i m : ℕ} {run : List
       → legTo run out between ≡ leg (placeBefore st m) (getD st m 0)
   leg-into o b = ap (λ (t : Bool). cond t out between) (R .is-one) ∙ by-number m o (λ p. b p ∙ same-leg p)
 
-pub call-is : (t : Tables) (x : RowLists) → WorkedOut t (x .stops) → LegsAre t (x .held) (x .legs) → Below64 (x .held) → {i m : ℕ} {run : List ℕ}
+pub call-is : (t : Tables) (x : RowLists) → StopsOf t (x .held) (x .stops) → LegsAre t (x .held) (x .legs) → Below64 (x .held) → {i m : ℕ} {run : List ℕ}
     → RunIs (x .held) i m run → i + m < length (x .held) → (s : StopF) (leg travel : Float) → s ≡ stopAt (x .stops) (lastOf run)
     → leg ≡ legTo run (s .out) (getD (x .legs .distances) (i + m) nan) → travel ≡ legTo run (s .timeOut) (getD (x .legs .times) (i + m) nan)
     → CallIs t (drop i (x .held)) m s leg travel
 unfolding stopIn recordF demandF LegsAre
 call-is t x W L B {i} {m} R h s leg travel es el et =
     let call = getD (drop i (x .held)) m 0 in
-    let e : s ≡ stopIn t call = es ∙ ap (stopAt (x .stops)) (R .is-last) ∙ W .stops-are call (call-below (x .held) i m B h) in
+    let here = getD-drop i (x .held) m 0 in
+    let there : stopAt (x .stops) call ≡ stopIn t call = rw here (W .stops-are (i + m) h) in
+    let e : s ≡ stopIn t call = es ∙ ap (stopAt (x .stops)) (R .is-last) ∙ there in
     record {
       demand-is = ap (λ (y : StopF). y .customer .demand) e;
       record-is = ap (λ (y : StopF). y .customer) e;

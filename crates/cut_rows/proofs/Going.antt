@@ -8,7 +8,7 @@ use Rattle.definitions.specs.Load.{Load}
 use Rattle.models.specs.Load.{UpTo}
 use Rattle.definitions.specs.Sheet.{BreakOf}
 use Rattle.evaluation.specs.Records.{Tables}
-use Rattle.cut_stops.specs.Stops.{WorkedOut, LegsAre}
+use Rattle.cut_stops.specs.Stops.{StopsOf, LegsAre}
 use Rattle.cut_table.specs.Table.{Table}
 use Rattle.cut_rows.specs.declared.terms.Terms.{Terms}
 use Rattle.cut_rows.specs.Runs.{RowLists, overBy, Rowed}
@@ -17,7 +17,7 @@ use Rattle.cut_rows.specs.Runs.{RowLists, overBy, Rowed}
 pub record Going (x : RowLists) (i : ℕ) (load : Load) (m : ℕ) (Keeps : Tables → Type 0) : Type 0 where
   pub within : i + m ≤ length (x .held)
   pub light : UpTo 1 load
-  pub keeps : (t : Tables) → WorkedOut t (x .stops) → LegsAre t (x .held) (x .legs) → Keeps t
+  pub keeps : (t : Tables) → StopsOf t (x .held) (x .stops) → LegsAre t (x .held) (x .legs) → Keeps t
 
 -- breaks that are the same have the same rows
 pub same-break : (o o' : Option (BreakOf Float)) → o ≡ o' → (terms : Terms) (x : RowLists) (i : ℕ) (old new : Table) (r : ℕ)

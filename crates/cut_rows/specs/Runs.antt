@@ -28,7 +28,7 @@ use Rattle.evaluation.specs.Records as Evaluation
 use Rattle.evaluation.specs.Tables as Lookup
 use Rattle.evaluation.specs.Tables.{recordF, demandF, timeF, placeBefore}
 use Rattle.evaluation.specs.Schedule.{clockFromF}
-use Rattle.cut_stops.specs.Stops.{Numbers, numbers, Long, WorkedOut, Below64, LegLists, legLists, LegsLong, LegsAre}
+use Rattle.cut_stops.specs.Stops.{Numbers, numbers, Long, StopsOf, Below64, LegLists, legLists, LegsLong, LegsAre}
 use Rattle.cut_table.specs.Table.{Table, Sized}
 use Rattle.cut_rows.specs.declared.terms.Terms.{Terms}
 use Rattle.cut_rows.specs.declared.rows.Elapsed.{Elapsed}
@@ -175,5 +175,5 @@ pub record RowReady (x : RowLists) (i : ℕ) (old : Table) : Type 0 where
 -- row i of the calls held is filled, for whatever tables the lists are worked out from; r is how many calls it goes over
 unfoldable pub Rowed : (Tables → Instance) → RowLists → ℕ → Table → Table → ℕ → Type 0
 Rowed I x i old new r =
-    (t : Tables) → WorkedOut t (x .stops) → LegsAre t (x .held) (x .legs)
+    (t : Tables) → StopsOf t (x .held) (x .stops) → LegsAre t (x .held) (x .legs)
     → RowOf (tariff (I t)) (drop i (x .held)) i old new × Ended (tariff (I t)) (drop i (x .held)) r

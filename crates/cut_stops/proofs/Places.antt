@@ -19,7 +19,7 @@ use Rattle.models.specs.Records.{customerOf}
 use Rattle.evaluation.specs.Records.{Tables, lent}
 use Rattle.evaluation.specs.Tables.{recordIndex, distanceF, timeF}
 use Rattle.evaluation.proofs.Reading.{read-record}
-use Rattle.cut_stops.specs.Stops.{StopF, openingAt, penaltyAt, code, timesIn, priceIn, codesOf, recordFigures, figuresOf, codesEach, figuresEach, Numbers, numbers, Long, stopIn, stopAt, HoldsTo, WorkedOut}
+use Rattle.cut_stops.specs.Stops.{StopF, openingAt, penaltyAt, code, timesIn, priceIn, codesOf, recordFigures, figuresOf, codesEach, figuresEach, Numbers, numbers, Long, stopIn, stopAt, HoldsTo, WorkedOut, StopsTo, StopsOf}
 
 -- ---- a run of stores
 
@@ -167,6 +167,32 @@ worked-more t x n s codes' figures' W h es ec ef =
           by-test (eqb k n) (λ e. rw (eqb-true k n e) (stop-put x n s (W .long) h ∙ es))
           (λ e. stop-kept x n s k (eqb-false k n e) ∙ W .stops-are k (omega (arith, eqb-false k n e)));
     })
+
+-- the place of one call more
+pub stops-more : (t : Tables) (calls : List ℕ) (x : Numbers) (n : ℕ) (s : StopF) (codes' : List ℕ) (figures' : List Float) →
+    let c = getD calls n 0 in
+    StopsTo t calls x n → c < 64 → s ≡ stopIn t c → codes' ≡ with x c s .codes → figures' ≡ with x c s .figures → StopsTo t calls (numbers codes' figures') (n + 1)
+stops-more t calls x n s codes' figures' W h es ec ef =
+    let c = getD calls n 0 in
+    rw (ec, ef)
+    (record {
+      long =
+          record {
+            codes-long = length-sets (x .codes) (codesEach * c) (codesOf (s .customer)) ∙ W .long .codes-long;
+            figures-long = length-sets (x .figures) (figuresEach * c) (figuresOf s) ∙ W .long .figures-long;
+          };
+      stops-are =
+          λ k b.
+          let d = getD calls k 0 in
+          by-test (eqb d c) (λ e. rw (eqb-true d c e) (stop-put x c s (W .long) h ∙ es))
+          (λ e. stop-kept x c s d (eqb-false d c e) ∙ W .stops-are k (earlier k b (eqb-false d c e)));
+    })
+  where
+    earlier : (k : ℕ) → k < n + 1 → (getD calls k 0 ≡ getD calls n 0 → ⊥) → k < n
+    earlier k b other = by-test (eqb k n) (λ e. absurd (other (ap (λ (j : ℕ). getD calls j 0) (eqb-true k n e)))) (λ e. omega (arith, b, eqb-false k n e))
+
+pub stops-all : (t : Tables) (calls : List ℕ) (x : Numbers) (n : ℕ) → StopsTo t calls x n → length calls ≤ n → StopsOf t calls x
+stops-all t calls x n W h = record { long = W .long; stops-are = λ k b. W .stops-are k (omega arith) }
 
 pub worked-out : (t : Tables) (x : Numbers) (n : ℕ) → HoldsTo t x n → 64 ≤ n → WorkedOut t x
 worked-out t x n W h = record { long = W .long; stops-are = λ k b. W .stops-are k (omega arith) }

@@ -118,6 +118,14 @@ pub record HoldsTo (t : Tables) (x : Numbers) (n : ℕ) : Type 0 where
 abbrev pub WorkedOut : Tables → Numbers → Type 0
 WorkedOut t x = HoldsTo t x 64
 
+-- the lists hold the places of the first n of these calls as the tables have them
+pub record StopsTo (t : Tables) (calls : List ℕ) (x : Numbers) (n : ℕ) : Type 0 where
+  pub long : Long x
+  pub stops-are : (k : ℕ) → k < n → stopAt x (getD calls k 0) ≡ stopIn t (getD calls k 0)
+
+abbrev pub StopsOf : Tables → List ℕ → Numbers → Type 0
+StopsOf t calls x = StopsTo t calls x (length calls)
+
 -- the records of the 64 places, and tables with these records
 unfoldable pub recordsIn : Numbers → List (CustomerOf Float)
 recordsIn x = map (λ c. stopAt x c .customer) (count 0 64)

@@ -7,7 +7,7 @@ ghost use lib.Seq.{sets};
 ghost use Rattle.cut_theory.specs.Tab.{mostCut};
 ghost use Rattle.models.specs.Records.{windowOf, openingOf, penaltyOf, customerOf};
 ghost use Rattle.evaluation.specs.Records.{lent};
-ghost use Rattle.cut_stops.specs.Stops.{openingAt, penaltyAt, code, timesIn, priceIn, stopOf, codesOf, recordFigures, figuresOf, codesEach, figuresEach, numbers, Long, stopAt, WorkedOut, lookups, legLists, LegsLong, LegsWritten};
+ghost use Rattle.cut_stops.specs.Stops.{openingAt, penaltyAt, code, timesIn, priceIn, stopOf, codesOf, recordFigures, figuresOf, codesEach, figuresEach, numbers, Long, stopAt, WorkedOut, StopsOf, Below64, lookups, legLists, LegsLong, LegsWritten};
 use cut_table::cells::MOST_CUT;
 use distance::leg::leg_between;
 use evaluation::route::place_before;
@@ -179,6 +179,38 @@ pub fn put_stop(
     figures[f + 2] = stop.time_out;
     figures[f + 3] = stop.time_back;
     put_customer(stop.customer, c, &mut *codes, &mut *figures);
+}
+
+// Works out the places of these calls.
+pub fn work_out_calls(
+    calls: &[usize],
+    customers: [Customer; 64],
+    distances: &[f64],
+    times: &[f64],
+    size: usize,
+    codes: &mut [u32; ALL_CODES],
+    figures: &mut [f64; ALL_FIGURES],
+)
+    requires { ⌜ Long (numbers (now codes) (now figures)) × Below64 (now calls) ⌝ }
+    ensures { λ _.
+        let t = lent customers (now (distances .entry)) (now (times .entry)) size in
+        ⌜ StopsOf t (now (calls .entry)) (numbers (now (codes .exit)) (now (figures .exit))) ⌝ }
+{
+    let mut k: usize = 0;
+    while k < calls.len() {
+        let c = calls[k];
+        let out = leg_between(distances, times, size, 0, c);
+        let back = leg_between(distances, times, size, c, 0);
+        let stop = Stop {
+            customer: customers[c],
+            out: out.distance,
+            back: back.distance,
+            time_out: out.time,
+            time_back: back.time,
+        };
+        put_stop(stop, c, &mut *codes, &mut *figures);
+        k += 1;
+    }
 }
 
 // Works out every place.

@@ -21,17 +21,20 @@ use Rattle.cut_drops.specs.Refill.{Given, instanceWith, ListsOf, SomeLists, Sta
 use Rattle.cut_table.proofs.Writing.{front-written}
 use Rattle.split.proofs.Cutting.{table-falls, table-cut}
 
-module _ (E : Given) (customers : List Customer) (W : ListsOf E customers) where
-  -- the numbers are of these customers
-  pub worked : SomeLists E
-  unfolding SomeLists
-  worked = (customers, W)
+module _ (E : Given) (customers : List Customer) (calls tour : List ℕ) (e : calls ≡ tour) (W : ListsOf E tour customers) where
+  lists : ListsOf E calls customers
+  lists = subst (λ (l : List ℕ). ListsOf E l customers) (sym e) W
 
-  pub stayed-of : (calls tour dropped : List ℕ) (n : ℕ) (held dropped' : List ℕ) (t : Table) → calls ≡ tour
+  -- the numbers are of these customers
+  pub worked : SomeLists E calls
+  unfolding SomeLists
+  worked = (customers, lists)
+
+  pub stayed-of : (dropped : List ℕ) (n : ℕ) (held dropped' : List ℕ) (t : Table)
       → Holds E calls dropped n held dropped' t → Stayed (instanceWith E customers) tour dropped n held dropped' t
   unfolding Holds
-  stayed-of calls tour dropped n held dropped' t e H =
-      subst (λ (l : List ℕ). Stayed (instanceWith E customers) l dropped n held dropped' t) e (H customers W)
+  stayed-of dropped n held dropped' t H =
+      subst (λ (l : List ℕ). Stayed (instanceWith E customers) l dropped n held dropped' t) e (H customers lists)
 
 module _ {I : Instance} {tour dropped : List ℕ} {n : ℕ} {held dropped' : List ℕ} {t : Table} (S : Stayed I tour dropped n held dropped' t)
     (few : n ≤ mostCut) (long : n ≤ length held) where

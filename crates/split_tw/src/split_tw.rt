@@ -14,7 +14,7 @@ use cut_drops::hold::hold;
 use cut_rows::terms::Terms;
 use cut_stops::stops::ALL_CODES;
 use cut_stops::stops::ALL_FIGURES;
-use cut_stops::stops::work_out;
+use cut_stops::stops::work_out_calls;
 use cut_table::cells::CELLS;
 use cut_table::cells::MOST_CUT;
 use cut_table::cells::read_back;
@@ -61,7 +61,15 @@ pub fn settle(
 {
     let mut codes = [0u32; ALL_CODES];
     let mut figures = [0.0; ALL_FIGURES];
-    work_out(customers, distances, times, size, &mut codes, &mut figures);
+    work_out_calls(
+        tour,
+        customers,
+        distances,
+        times,
+        size,
+        &mut codes,
+        &mut figures,
+    );
     let top = infinity();
     let mut cost = [top; CELLS];
     let mut dist = [0.0; CELLS];

@@ -34,7 +34,7 @@ refill-requires c κs =
     let a = s .args in
     let E = lent g in
     let r = s .pre .0 .row in
-    let t = tablesWith E (some-of E (s .pre .1 .0)) in (
+    let t = tablesWith E (some-of E _ (s .pre .1 .0)) in (
       record {
         row =
             record {
@@ -47,7 +47,7 @@ refill-requires c κs =
             };
         reach-long = s .pre .0 .reach-long;
       },
-      listed (λ x. over x (a .terms)) (rowsOf E (now (a .held)) (legLists _ _)) t (some-lists E (s .pre .1 .0))
+      listed (λ x. over x (a .terms)) (rowsOf E (now (a .held)) (legLists _ _)) t (some-lists E _ (s .pre .1 .0))
           (legs-joined t (now (a .held)) (a .q) (legLists (now (a .legs)) (now (a .time-legs))) (legLists _ _) (s .pre .1 .1) (g .write-legs .ensures)),
     )
 

@@ -11,7 +11,7 @@ use Rattle.cut_table.specs.Table.{calls}
 use Rattle.cut_drops.specs.Refill.{rows, Given, given, tablesWith, Work, work}
 use Rattle.cut_drops.proofs.Noting.{legs-part}
 use Rattle.cut_drops.proofs.Settling.{filled-long}
-use Rattle.cut_drops.proofs.Turns.{some-of, some-lists, Turn, turn-begins, turn-on, turn-off, turn-ends}
+use Rattle.cut_drops.proofs.Turns.{some-of, some-lists, some-on, Turn, turn-begins, turn-on, turn-off, turn-ends}
 use borrow.Author.Needs.{needs}
 use Rattle.cut_drops.proofs.hold.drop_stuck.Statement.{statement}
 use Rattle.cut_drops.proofs.hold.drop_stuck.Tie as tie
@@ -79,7 +79,7 @@ row-or-drop-requires c κs =
     let E = lent k in
     let some = begun k .pre .lists in
     let v = l .loop .inv .roomy in
-    let f = l .loop .inv .settling (some-of E some) (some-lists E some) .filled in
+    let f = l .loop .inv .settling (some-of E _ some) (some-lists E _ some) .filled in
     let m = all-held k in
     record {
       few = omega (arith, v .few, v .short);
@@ -93,8 +93,8 @@ row-or-drop-requires c κs =
       below = v .below;
       rows-long = filled-long _ _ (l .loop .i) (now-at l .legs) (now-at l .rows) f;
       legs-long = f .legs-long;
-      legs-are = legs-part (tablesWith E (some-of E some)) _ (l .loop .left) (now-at l .legs) (f .legs-are);
-      lists = some;
+      legs-are = legs-part (tablesWith E (some-of E _ some)) _ (l .loop .left) (now-at l .legs) (f .legs-are);
+      lists = some-on E _ _ (l .loop .inv .listed) some;
     }
 
 add-i : tie.Need-add-i Inv-loop μ-loop
@@ -111,7 +111,7 @@ loop-again c =
     let E = lent k in
     let some = begun k .pre .lists in
     turn-on E _ (now (begun k .args .held)) (now (begun k .args .dropped)) (l .loop .left) (l .loop .i) (now-at l) (l .loop .inv) (t .loop-test .taken) _ (gone-by l) _
-    (work (calls _ _ _) (legLists _ _) (rows _ _ _ _)) (answer (c .before) .row-or-drop .ensures) (some-of E some) (some-lists E some) (c .if1 .taken)
+    (work (calls _ _ _) (legLists _ _) (rows _ _ _ _)) (answer (c .before) .row-or-drop .ensures) (some-of E _ some) (some-lists E _ some) (c .if1 .taken)
 
 sub-left : tie.Need-sub-left Inv-loop μ-loop
 sub-left c = let t = turned (c .before) in omega (arith, t .loop-test .taken)
@@ -128,7 +128,7 @@ loop-again-2 c =
     let some = begun k .pre .lists in
     let kept = answer (c .before) .row-or-drop .kept in
     turn-off E _ (now (begun k .args .held)) (now (begun k .args .dropped)) (l .loop .left) (l .loop .i) (now-at l) (l .loop .inv) (t .loop-test .taken) _ (gone-by l) _
-    (work (calls _ _ _) (legLists _ _) (rows _ _ _ _)) (answer (c .before) .row-or-drop .ensures) (some-of E some) (some-lists E some) (c .if1 .left)
+    (work (calls _ _ _) (legLists _ _) (rows _ _ _ _)) (answer (c .before) .row-or-drop .ensures) (some-of E _ some) (some-lists E _ some) (c .if1 .left)
     (omega (arith, kept)) (omega (arith, kept)) (omega (arith, kept))
 
 same-length : tie.Need-same-length Inv-loop μ-loop

@@ -8,8 +8,8 @@ use Rattle.cut_stops.specs.Stops.{legLists}
 use Rattle.cut_table.specs.Table.{calls}
 use Rattle.cut_drops.specs.Refill.{rows, Given, given, tablesWith, Work, work}
 use Rattle.cut_drops.proofs.Noting.{legs-whole}
-use Rattle.cut_drops.proofs.Settling.{few-taken, one-fewer, below-after, legs-kept}
-use Rattle.cut_drops.proofs.Turns.{some-of, some-lists, row-long, row-stays, row-drops}
+use Rattle.cut_drops.proofs.Settling.{few-taken, one-fewer, below-after, stops-after, legs-kept}
+use Rattle.cut_drops.proofs.Turns.{some-of, some-lists, some-on, row-long, row-stays, row-drops}
 use borrow.Author.Needs.{needs}
 use borrow.Author.Needs.{needs}
 use Rattle.cut_drops.proofs.hold.row_or_drop.Statement.{statement}
@@ -75,7 +75,7 @@ noted-row-requires c κs =
             few = omega (arith, m, p .few);
             below = p .below;
             legs-long = p .legs-long;
-            stops-long = some-lists (lent top) (p .lists) .long;
+            stops-long = some-lists (lent top) _ (p .lists) .long;
             table-long = p .rows-long .table-long;
           };
       reach-long = p .rows-long .reach-long;
@@ -133,14 +133,14 @@ close-gap-requires c κs =
     let b = p .may-drop .inside in
     let long = p .may-drop .held-long in
     let E = lent top in
-    let w = some-lists E (p .lists) in
-    let t = tablesWith E (some-of E (p .lists)) in
+    let w = some-lists E _ (p .lists) in
+    let t = tablesWith E (some-of E _ (p .lists)) in
     let less = d .drop-call .ensures .held-less in
     let legs = old top .legs in
     let L = legs-whole t _ (a .n) legs (few-taken (a .n) (a .n) (now (a .held)) (omega arith) long) (p .legs-are) in
     let m = one-fewer (a .n) (a .i) (now (a .held)) _ b long less in
     let z =
-    row-long E (a .n) (a .i) (a .gone) (old top) (p .few) long b (rows _ _ _ _) (r .noted-row .ensures) (some-of E (p .lists)) w L (p .rows-long .reach-long) in (
+    row-long E (a .n) (a .i) (a .gone) (old top) (p .few) long b (rows _ _ _ _) (r .noted-row .ensures) (some-of E _ (p .lists)) w L (p .rows-long .reach-long) in (
       record {
         row =
             record {
@@ -153,7 +153,10 @@ close-gap-requires c κs =
             };
         reach-long = z .reach-long;
       },
-      (p .lists, legs-kept (a .n) (a .i) (now (a .held)) _ b long less t legs L),
+      (
+        some-on E _ _ (λ customers W. stops-after (a .n) (a .i) (now (a .held)) _ b long less (tablesWith E customers) (E .stops) W) (p .lists),
+        legs-kept (a .n) (a .i) (now (a .held)) _ b long less t legs L,
+      ),
     )
 
 same-length-2 : tie.Need-same-length-2

@@ -21,7 +21,7 @@ use Rattle.clock.specs.declared.schedule.Finished.the-variants.{Impossible, Hom
 use Rattle.clock.specs.Records.{ClockF, clockOf, finishedOf}
 use Rattle.clock.specs.Clock.{begunF, pushF}
 use Rattle.evaluation.specs.Records.{Tables}
-use Rattle.cut_stops.specs.Stops.{stopOf, stopAt, WorkedOut, LegsLong, LegsAre}
+use Rattle.cut_stops.specs.Stops.{stopOf, stopAt, StopsOf, LegsLong, LegsAre}
 use Rattle.cut_table.specs.Table.{Table, table}
 use Rattle.cut_rows.specs.Stretch.{joinedF, legTo}
 use Rattle.cut_rows.specs.Runs.{Instance, overBy, tariff, RowLists, rowLists, Rowed}
@@ -118,7 +118,7 @@ module _ (p : tie.After-stop-at Inv-loop μ-loop) where
   next-cell : i + m + 1 ≡ i + (m + 1)
   next-cell = omega arith
 
-  called : (t : Tables) → WorkedOut t (x .stops) → LegsAre t (x .held) (x .legs)
+  called : (t : Tables) → StopsOf t (x .held) (x .stops) → LegsAre t (x .held) (x .legs)
       → (leg travel : Float) → leg ≡ legTo run (stopOf (p .stop-at .result) .out) (getD (x .legs .distances) (i + m) nan)
       → travel ≡ legTo run (stopOf (p .stop-at .result) .timeOut) (getD (x .legs .times) (i + m) nan)
       → CallIs t (drop i (x .held)) m (stopOf (p .stop-at .result)) leg travel

@@ -34,8 +34,8 @@ wrote c = let lists = c .before .before .before .before .before in lists .before
 abbrev held-at : tie.After-slice-known5 → tie.After-hold
 held-at c = c .before .before .before .before
 
-work-out-requires : tie.Need-work-out-requires
-work-out-requires c κs = search needs
+work-out-calls-requires : tie.Need-work-out-calls-requires
+work-out-calls-requires c κs = search needs
 
 infinity-requires : tie.Need-infinity-requires
 infinity-requires c κs = search needs
@@ -47,10 +47,10 @@ write-front-requires : tie.Need-write-front-requires
 write-front-requires c κs = search needs
 
 slice-aggregate-hold : tie.Need-slice-aggregate-hold
-slice-aggregate-hold c = let w = c .before .before .before .before .before in sym (top w .before .work-out .ensures .long .codes-long)
+slice-aggregate-hold c = let w = c .before .before .before .before .before in sym (top w .before .work-out-calls .ensures .long .codes-long)
 
 slice-aggregate-hold-2 : tie.Need-slice-aggregate-hold-2
-slice-aggregate-hold-2 c = let w = c .before in sym (top (w .before .before .before .before .before) .before .work-out .ensures .long .figures-long)
+slice-aggregate-hold-2 c = let w = c .before in sym (top (w .before .before .before .before .before) .before .work-out-calls .ensures .long .figures-long)
 
 hold-requires : tie.Need-hold-requires
 hold-requires c κs =
@@ -66,7 +66,7 @@ hold-requires c κs =
       },
       (
         unfilled _ _ _ (top w .infinity .ensures) (sym fl-zero) (sym fl-zero),
-        worked (given (now (a .distances)) (now (a .times)) (a .size) _ _ (termsOf s)) (a .customers) (top w .before .work-out .ensures),
+        worked (given (now (a .distances)) (now (a .times)) (a .size) _ _ (termsOf s)) (a .customers) _ (now (a .tour)) e (top w .before .work-out-calls .ensures),
       ),
     )
 
@@ -78,7 +78,7 @@ read-back-requires c κs =
     let a = s .args in
     let e = tour-front (now (a .tour)) (now (a .held)) _ (w .write-front .ensures) in
     let S =
-    stayed-of (given (now (a .distances)) (now (a .times)) (a .size) _ _ (termsOf s)) (a .customers) (top w .before .work-out .ensures) _ (now (a .tour)) _ (h .hold .result) _ _ (table _ _ _) e
+    stayed-of (given (now (a .distances)) (now (a .times)) (a .size) _ _ (termsOf s)) (a .customers) _ (now (a .tour)) e (top w .before .work-out-calls .ensures) _ (h .hold .result) _ _ (table _ _ _)
     (h .hold .ensures .0) in
     ((omega (arith, S .few, s .pre .0 .0), s .pre .0 .2), stayed-falls S (omega (arith, S .few, s .pre .0 .0)) (omega (arith, S .few, s .pre .1 .0, w .write-front .kept, h .hold .kept)))
 
@@ -108,7 +108,7 @@ returns c =
     let a = s .args in
     let e = tour-front (now (a .tour)) (now (a .held)) _ (w .write-front .ensures) in
     let S =
-    stayed-of (given (now (a .distances)) (now (a .times)) (a .size) _ _ (termsOf s)) (a .customers) (top w .before .work-out .ensures) _ (now (a .tour)) _ (h .hold .result) _ _ (table _ _ _) e
+    stayed-of (given (now (a .distances)) (now (a .times)) (a .size) _ _ (termsOf s)) (a .customers) _ (now (a .tour)) e (top w .before .work-out-calls .ensures) _ (h .hold .result) _ _ (table _ _ _)
     (h .hold .ensures .0) in
     let r = c .read-back .ensures in (
       stayed-settled S (omega (arith, S .few, s .pre .0 .0)) (omega (arith, S .few, s .pre .1 .0, w .write-front .kept, h .hold .kept)) _ _ (r .0) (r .1),
@@ -119,7 +119,7 @@ pub settle-spec : {M : Type 1} → statement M
 settle-spec =
     tie.close
     (tie.spec
-    work-out-requires
+    work-out-calls-requires
     infinity-requires
     array-write-cost
     write-front-requires
