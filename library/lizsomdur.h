@@ -30,11 +30,15 @@
  * entry from * places + to. Place 0 is the depot. There and back may differ. The diagonal is read only where a run goes from a place to itself, with
  * two calls in a row at one customer, as the runs given to a function may.
  *
+ * A leg that can't be driven is closed: LIZSOMDUR_NO_ROAD (hexadecimal FFFFFFF) stands for it in the C word and, where there are D words, in the D
+ * word too. Any leg may be closed, one way alone and the diagonal too.
+ *
  * ---- Runs
  *
  * A run leaves the depot at time 0, serves one or more calls in order and comes home. Its distance is that of all its legs, the depot's too; its
  * duration is the time at which it is home. It is legal when it keeps to all of these; each bound itself is still allowed:
  *
+ *   roads     none of its legs is closed
  *   load      the demands of its calls together are at most the capacity, and their second demands together at most the second capacity
  *   limits    its distance and its duration are at most their limits, where the sheet has them
  *   windows   before ready the bus waits. Service may begin until due. After that it is late: where the customer has no penalty, the run is illegal;
@@ -57,6 +61,7 @@
  *    1 a number out of its range
  *   21 a customer that an earlier E word has called already; the later of the two words is the bad one
  *    2 ready above due, or earliest above latest; the second of the two words is the bad one
+ *   22 a leg that is closed by distance and not by time, or the other way round; the D word is the bad one
  *    3 a wrong value in F, or something behind it, even one to three bytes, which make no whole word
  *   12 the words end before F; one to three bytes at the end are not looked at
  *
@@ -69,6 +74,7 @@
  *    5 more than 128 run ends, one below the one before it, or a last one (without any: 0) that is not the number of calls; in lizsomdur_mark also a
  *      run without calls, a break place beyond its run, or one that is not 0 on a sheet without a break
  *    4 lateness pay on a sheet for lizsomdur_reverse or lizsomdur_eliminate
+ *   23 a closed leg on a sheet for one of these two, whether the runs use it or not
  *
  * lizsomdur_plan tests its lists first: with 13 it sets `word` to 0, whatever the sheet is. The other three test the sheet first, then their lists in
  * the order above; a fault of the lists leaves `word` as it was. On a refusal nothing but `word` is written. When 0 is returned, `word` stays as it
@@ -95,6 +101,9 @@ extern "C" {
 
 /* The most calls, and the most runs, that a function is given. */
 #define LIZSOMDUR_CALLS 128
+
+/* The value of the C and D words of a leg that can't be driven. */
+#define LIZSOMDUR_NO_ROAD 0x0FFFFFFF
 
 /* Cuts the sheet's calls into legal runs, in their order, at least cost.
  *
@@ -134,14 +143,15 @@ enum {
     LIZSOMDUR_BEST = 8,                 /* none: as cheap as the planner's */
     LIZSOMDUR_DEARER = 9,               /* by how much */
     LIZSOMDUR_CHEAPER = 10,             /* by how much: only where the sheet has both lateness pay and a break */
-    LIZSOMDUR_WHEELCHAIR_OVERLOAD = 11  /* run, second load, second capacity: its load is at most the capacity */
+    LIZSOMDUR_WHEELCHAIR_OVERLOAD = 11, /* run, second load, second capacity: its load is at most the capacity */
+    LIZSOMDUR_ROAD_CLOSED = 12          /* run, number of the leg in it: 1 leaves the depot; nothing else is looked at in that run */
 };
 
 /* Marks a cutting of the sheet's calls against the planner's own. `places` has the break place of each run; a break may also be taken where none is
  * needed.
  *
- * The calls come first: they have to be those that the planner serves. Then the first run with a fault is told, and of its faults the first of load,
- * second load, break and window of one call after the other, missing break, distance, duration. Where there is none, the costs are compared.
+ * The calls come first: they have to be those that the planner serves. Then the first run with a fault is told, and of its faults the first of closed
+ * leg, load, second load, break and window of one call after the other, missing break, distance, duration. Where there is none, the costs are compared.
  *
  * verdict       its number
  * values        its values; those behind them stay as they were

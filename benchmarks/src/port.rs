@@ -21,7 +21,7 @@ pub fn split_tw(sheet: &[u8], rounds: u32) -> f64 {
     unsafe { timing_split_tw(sheet.as_ptr(), sheet.len(), rounds) }
 }
 
-/// The cost of the cut by capacity alone.
+/// The cost of the cut by loads and closed legs alone.
 pub fn split(sheet: &[u8], rounds: u32) -> f64 {
     // SAFETY: the pointer goes with its length.
     unsafe { timing_split(sheet.as_ptr(), sheet.len(), rounds) }

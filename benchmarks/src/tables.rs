@@ -120,7 +120,7 @@ pub fn all() -> Vec<Table> {
             &ALL,
             &BOTH,
         ),
-        by_calls("Cutting by capacity: `split`", Work::Split, &LOADED, &BOTH),
+        by_calls("Cutting by loads: `split`", Work::Split, &LOADED, &BOTH),
         by_calls(
             "Reversal: `two_opt_improve`, the tour as one run",
             reverse,

@@ -8,7 +8,7 @@
 #define LENGTH(list) (sizeof(list) / sizeof *(list))
 
 /* Five customers: the third and the fourth ask for the one wheelchair place, the fifth has a window with a penalty. Its calls and its end are added by
- * `write_sheet`.
+ * `write_sheet`, and where it is wanted, the ford from the first to the fifth is closed.
  */
 static const uint32_t START[] = {
     0x10000006, 0x20000004, 0x00000001, 0x30000003, 0x4000003C, 0x50000050, 0x60000018, 0x6000001E, 0x60000004,
@@ -25,8 +25,11 @@ static const uint32_t START[] = {
     0xC0000006, 0xC0000009, 0xC0000003, 0xC0000014, 0xC0000014, 0xC0000000,
 };
 
-/* The most calls that are used here. */
-enum { CALLS = 5 };
+/* The most calls that are used here, and the index of the word for the leg over the ford. */
+enum { CALLS = 5, FORD = 39 };
+
+/* What a sheet has beside the rest. */
+enum { WINDOWS = 1, CLOSED = 2 };
 
 static uint8_t sheet[4 * (LENGTH(START) + CALLS + 1)];
 static size_t sheet_length;
@@ -36,11 +39,13 @@ static void write_word(uint32_t word) {
         sheet[sheet_length++] = (uint8_t)(word >> (8 * byte));
 }
 
-/* The sheet with these calls, and with windows and penalty or without. */
-static void write_sheet(const size_t *calls, size_t count, int windows) {
+/* The sheet with these calls, with windows and penalty or without, and with the ford closed or open. */
+static void write_sheet(const size_t *calls, size_t count, int has) {
     sheet_length = 0;
     for (size_t k = 0; k < LENGTH(START); k++)
-        if (windows || START[k] >> 28 < 9 || START[k] >> 28 > 0xB)
+        if (has & CLOSED && k == FORD)
+            write_word(0xC0000000 | LIZSOMDUR_NO_ROAD);
+        else if (has & WINDOWS || START[k] >> 28 < 9 || START[k] >> 28 > 0xB)
             write_word(START[k]);
     for (size_t k = 0; k < count; k++)
         write_word(0xE0000000 | (uint32_t)calls[k]);
@@ -90,6 +95,7 @@ static const struct { uint32_t number; const char *name; size_t values; } VERDIC
     {LIZSOMDUR_DEARER, "dearer", 1},
     {LIZSOMDUR_CHEAPER, "cheaper", 1},
     {LIZSOMDUR_WHEELCHAIR_OVERLOAD, "wheelchair overload", 3},
+    {LIZSOMDUR_ROAD_CLOSED, "road closed", 2},
 };
 
 static void print_verdict(uint32_t verdict, const double *values) {
@@ -98,22 +104,24 @@ static void print_verdict(uint32_t verdict, const double *values) {
             print_doubles(VERDICTS[k].name, values, VERDICTS[k].values);
 }
 
-/* A tour, and a cutting of the same calls or, with `other` not 0, of that call in place of the first. */
-struct cutting { size_t tour[CALLS], count, other, ends[CALLS], places[CALLS], runs; };
+/* A tour, and a cutting of the same calls or, with `other` not 0, of that call in place of the first. `closed` is CLOSED or 0. */
+struct cutting { size_t tour[CALLS], count, other, ends[CALLS], places[CALLS], runs; int closed; };
 
 static const struct cutting CUTTINGS[] = {
-    {{2, 1}, 2, 3, {2}, {0}, 1},
-    {{2, 4, 5, 3}, 4, 0, {4}, {1}, 1},
-    {{3, 4}, 2, 0, {2}, {1}, 1},
-    {{2, 4}, 2, 0, {2}, {2}, 1},
-    {{2, 1}, 2, 0, {1, 2}, {0, 1}, 2},
-    {{4}, 1, 0, {1}, {0}, 1},
-    {{4, 2}, 2, 0, {2}, {1}, 1},
-    {{1, 3, 2}, 3, 0, {1, 3}, {0, 1}, 2},
-    {{1, 2}, 2, 0, {2}, {2}, 1},
-    {{1, 2}, 2, 0, {1, 2}, {0, 0}, 2},
-    {{5, 2}, 2, 0, {2}, {2}, 1},
-    {{1, 2}, 2, 0, {2}, {3}, 1},
+    {{2, 1}, 2, 3, {2}, {0}, 1, 0},
+    {{2, 4, 5, 3}, 4, 0, {4}, {1}, 1, 0},
+    {{3, 4}, 2, 0, {2}, {1}, 1, 0},
+    {{2, 4}, 2, 0, {2}, {2}, 1, 0},
+    {{2, 1}, 2, 0, {1, 2}, {0, 1}, 2, 0},
+    {{4}, 1, 0, {1}, {0}, 1, 0},
+    {{4, 2}, 2, 0, {2}, {1}, 1, 0},
+    {{1, 3, 2}, 3, 0, {1, 3}, {0, 1}, 2, 0},
+    {{1, 2}, 2, 0, {2}, {2}, 1, 0},
+    {{1, 2}, 2, 0, {1, 2}, {0, 0}, 2, 0},
+    {{5, 2}, 2, 0, {2}, {2}, 1, 0},
+    {{1, 2}, 2, 0, {2}, {3}, 1, 0},
+    {{1, 5}, 2, 0, {2}, {2}, 1, CLOSED},
+    {{1, 5}, 2, 0, {1, 2}, {0, 1}, 2, CLOSED},
 };
 
 static void mark(const struct cutting *cutting) {
@@ -123,7 +131,7 @@ static void mark(const struct cutting *cutting) {
     memcpy(calls, cutting->tour, sizeof calls);
     if (cutting->other != 0)
         calls[0] = cutting->other;
-    write_sheet(cutting->tour, cutting->count, 1);
+    write_sheet(cutting->tour, cutting->count, WINDOWS | cutting->closed);
     uint32_t number = lizsomdur_mark(sheet, sheet_length, calls, cutting->count, cutting->ends, cutting->runs, cutting->places, cutting->runs,
                                      &word, &verdict, values);
     printf("mark: %u word %zu ", (unsigned)number, word);
@@ -163,12 +171,15 @@ static void improve(void) {
 
 int main(void) {
     const size_t calls[] = {1, 5, 3, 4, 2};
-    write_sheet(calls, LENGTH(calls), 1);
+    write_sheet(calls, LENGTH(calls), WINDOWS);
     plan();
     improve();
     for (size_t k = 0; k < LENGTH(CUTTINGS); k++)
         mark(&CUTTINGS[k]);
     write_sheet(calls, LENGTH(calls), 0);
+    improve();
+    write_sheet(calls, LENGTH(calls), CLOSED);
+    plan();
     improve();
     sheet_length -= 4;
     plan();

@@ -1,6 +1,6 @@
 //! Sheets on an edge, and damaged ones.
 use crate::source::Source;
-use crate::word::{bytes, ended, kind, most, most_at, second_capacity, value, word};
+use crate::word::{bytes, ended, kind, most, most_at, second_capacity, value, word, CLOSED};
 
 /// The kinds of the numbers that a run is held against.
 const LIMITS: [u32; 7] = [0, 2, 4, 5, 6, 9, 0xA];
@@ -47,6 +47,13 @@ pub fn all(words: &[u32], wanted: u32) -> Vec<u32> {
     these.map(|&w| value(w)).collect()
 }
 
+/// A leg table, with 0 in place of a closed leg.
+fn opened(words: &[u32], kind: u32) -> Vec<u32> {
+    let legs = all(words, kind).into_iter();
+    legs.map(|leg| if leg == CLOSED { 0 } else { leg })
+        .collect()
+}
+
 /// What a run comes to that waits for nobody.
 struct Run {
     load: u32,
@@ -57,7 +64,8 @@ struct Run {
 }
 
 fn run(words: &[u32], calls: &[u32]) -> Run {
-    let [demands, services, legs, times] = [7, 8, 0xC, 0xD].map(|kind| all(words, kind));
+    let [demands, services] = [7, 8].map(|kind| all(words, kind));
+    let [legs, times] = [0xC, 0xD].map(|kind| opened(words, kind));
     let second = second_demands(words);
     let times = if times.is_empty() { &legs } else { &times };
     let places = value(words[0]);
@@ -102,7 +110,7 @@ pub fn damaged(source: &mut Source, words: &[u32]) -> Vec<u8> {
             break;
         }
         let at = place(source, words.len() as u32) as usize;
-        match source.below(11) {
+        match source.below(12) {
             0 => words[at] ^= 1 << source.below(32),
             1 => drop(words.remove(at)),
             2 => words.insert(at, word(source.below(16), source.below(20))),
@@ -113,6 +121,7 @@ pub fn damaged(source: &mut Source, words: &[u32]) -> Vec<u8> {
             7 => words = with_more_calls(source, words),
             8 => words = with_a_call_again(source, words),
             9 => damage_second(source, &mut words, at),
+            10 => damage_leg(source, &mut words),
             _ => words.swap(at, 0),
         }
     }
@@ -135,6 +144,22 @@ fn damage_second(source: &mut Source, words: &mut Vec<u32>, at: usize) {
         Some(&at) if source.one_in(3) => words.insert(at, words[at]),
         Some(&at) => words[at] = word(0, beyond(source, most_at(words, at))),
         None => words.insert(at, word(0, source.below(3))),
+    }
+}
+
+/// Closes or opens a leg in one table alone, or gives it a number between the longest leg's and a closed one's.
+fn damage_leg(source: &mut Source, words: &mut [u32]) {
+    let legs: Vec<usize> = (0..words.len())
+        .filter(|&at| [0xC, 0xD].contains(&kind(words[at])))
+        .collect();
+    if let Some(&at) = source.any(&legs) {
+        let leg = match source.below(6) {
+            0 => most(0xC) + 1,
+            1 => CLOSED - 1,
+            _ if value(words[at]) == CLOSED => source.below(3),
+            _ => CLOSED,
+        };
+        words[at] = word(kind(words[at]), leg);
     }
 }
 

@@ -1,6 +1,6 @@
 //! What a sample of questions and answers has, by how many of them.
 use crate::sheet::Sheet;
-use crate::word::{ended, has_second, kind};
+use crate::word::{ended, has_closed, has_second, is_closed, kind, most, word};
 use crate::{listing, reader};
 use std::fmt;
 
@@ -9,11 +9,12 @@ const LONG: usize = 100;
 const MANY: usize = 50;
 
 /// How the answers to cuttings begin, and what they are then.
-const MARKS: [(&str, &str); 14] = [
+const MARKS: [(&str, &str); 15] = [
     ("refused 13", "refused by 13"),
     ("refused 1", "by 1"),
     ("refused 5", "by 5"),
     ("verdict 1", "other calls"),
+    ("verdict 12", "road closed"),
     ("verdict 2", "overload"),
     ("verdict 11", "wheelchair overload"),
     ("verdict 3", "break too late"),
@@ -48,12 +49,17 @@ impl Features {
         self.questions += 1;
         self.count("refused", answer.starts_with("refused"));
         self.count("for a call twice", answer.starts_with("refused 21 "));
+        self.count("for closed apart", answer.starts_with("refused 22 "));
         self.count("with drops", answer.contains("drop "));
         self.count("with a break taken", answer.contains(" rest "));
         if let Ok(words) = reader::words(file) {
             self.sheet(&words);
-            let matters = has_second(&words) && listing::of(&without_second(&words)) != answer;
-            self.count("cut otherwise for them", matters);
+            let second = has_second(&words) && listing::of(&without_second(&words)) != answer;
+            self.count("cut otherwise for wheelchairs", second);
+            let differs = |leg: u32| listing::of(&opened(&words, leg)) != answer;
+            let closed = has_closed(&words);
+            self.count("cut otherwise with closed legs of 0", closed && differs(0));
+            self.count("with closed legs of 10000000", closed && differs(most(0xC)));
         }
     }
 
@@ -63,6 +69,7 @@ impl Features {
         self.count("with a symmetric table", sheet.distances.symmetric());
         self.count("of 50 calls or more", sheet.tour.len() >= MANY);
         self.count("with wheelchair places", has_second(words));
+        self.count("with closed legs", has_closed(words));
     }
 
     /// An accepted sheet, its runs, and what is made of them.
@@ -70,15 +77,24 @@ impl Features {
         self.questions += 1;
         self.sheet(words);
         self.count("with a second load over", answer.contains("violation 6 "));
+        self.count(
+            "with a run over a closed leg",
+            answer.contains("violation 7 "),
+        );
         let longest = routes.iter().map(Vec::len).max().unwrap_or(0);
         self.count("with a run of 4 calls or more", longest >= 4);
         self.count("with a run of 100 calls or more", longest >= LONG);
         self.count("with an empty run", routes.iter().any(Vec::is_empty));
         self.count("with violations", answer.contains("violation "));
         self.count("with a feasible run", answer.contains("\nfeasible "));
-        self.count("with a call too heavy", answer.contains("dropped "));
+        let dropped = answer.contains("dropped ");
+        self.count("with a call left out by `split`", dropped);
+        self.count(
+            "with closed legs and one left out",
+            dropped && has_closed(words),
+        );
         let reversed = lines(answer, "reversed ");
-        self.count("without lateness pay", !reversed.is_empty());
+        self.count("with improved runs", !reversed.is_empty());
         let turned = std::iter::zip(&reversed, routes).filter(|(new, old)| new[1..] != old[..]);
         let turned = turned.map(|(_, old)| old.len()).max().unwrap_or(0);
         self.count("with a run turned", turned > 0);
@@ -101,6 +117,18 @@ impl Features {
             self.sheet(&words);
         }
     }
+}
+
+/// The sheet with a leg of this length in place of every closed one.
+fn opened(words: &[u32], leg: u32) -> Vec<u32> {
+    let open = |&w: &u32| {
+        if is_closed(w) {
+            word(kind(w), leg)
+        } else {
+            w
+        }
+    };
+    words.iter().map(open).collect()
 }
 
 /// The sheet with seats alone.

@@ -20,6 +20,7 @@ mod questions;
 mod random;
 mod reader;
 mod record;
+mod roads;
 mod ruled;
 mod run_answer;
 mod runs;

@@ -24,6 +24,7 @@ pub const BEST: u32 = 8;
 pub const DEARER: u32 = 9;
 pub const CHEAPER: u32 = 10;
 pub const WHEELCHAIR_OVERLOAD: u32 = 11;
+pub const ROAD_CLOSED: u32 = 12;
 
 /// The most calls, and the most run ends.
 const MOST: usize = 128;
@@ -36,7 +37,7 @@ pub fn mark(sheet: &Sheet, served: &[usize], cost: u64, cutting: &Cutting) -> Re
     }
 }
 
-/// The first number that fits. An accepted sheet gives no reason for 14 and 2, and 4 is the improvers'.
+/// The first number that fits. An accepted sheet gives no reason for 14, 21, 2 and 22, and 4 and 23 are the improvers'.
 fn refusal(sheet: &Sheet, cutting: &Cutting) -> Option<u32> {
     let customers = 1..sheet.customers.len();
     if cutting.places.len() < cutting.ends.len() {
@@ -94,8 +95,11 @@ fn first_difference(one: &[usize], other: &[usize]) -> u64 {
     alike as u64 + 1
 }
 
-/// What the run costs, or its first fault.
+/// What the run costs, or its first fault. A closed leg is the only fault of its run.
 fn run_cost(sheet: &Sheet, calls: &[usize], place: usize) -> Result<u64, Verdict> {
+    if let Some(leg) = sheet.closed_leg(calls) {
+        return Err((ROAD_CLOSED, vec![leg as u64]));
+    }
     let demands = calls.iter().map(|&c| sheet.customers[c].demand() as u64);
     within(OVERLOAD, demands.sum(), sheet.capacity as u64)?;
     let second = calls.iter().map(|&c| sheet.second_demands[c] as u64);
@@ -167,7 +171,7 @@ fn behind(values: &[u64], (fault, own): Verdict) -> Verdict {
     (fault, [values, &own].concat())
 }
 
-/// The numbers of a sheet are whole and at most 10,000,000.
+/// The numbers of a sheet are whole and, but for closed legs, at most 10,000,000.
 fn whole(x: f64) -> u64 {
     x as u64
 }

@@ -20,6 +20,8 @@ pub fn of(words: &[u32]) -> Plan {
     let (routes, distance) = split_tw(words, &sheet, &sheet.tour);
     let (dropped, served) = drops(words, &sheet);
     assert_eq!(routes.concat(), served, "the Rust serves the held calls");
+    let closed = routes.iter().find_map(|run| sheet.closed_leg(run));
+    assert_eq!(closed, None, "the Rust takes no infinite leg");
     let runs: Vec<_> = routes
         .into_iter()
         .map(|run| {
@@ -39,8 +41,11 @@ pub fn of(words: &[u32]) -> Plan {
     }
 }
 
-/// What the Rust reports of a run with the clock's break, if it is allowed.
+/// What the Rust reports of a run with the clock's break, if it is allowed. A run over a closed leg is not, and the Rust is not asked about it.
 pub fn evaluated(sheet: &Sheet, run: &[usize]) -> Option<RouteEval> {
+    if sheet.closed_leg(run).is_some() {
+        return None;
+    }
     route_eval(run, 0, &sheet.distances, &sheet.customers, &sheet.limits)
 }
 

@@ -1,4 +1,5 @@
 //! Random accepted sheets in words, of all mixes of features.
+use crate::roads::close;
 use crate::source::Source;
 use crate::word::{ended, most, value, word};
 
@@ -126,7 +127,7 @@ fn number(source: &mut Source, scale: &Scale, kind: u32, bound: u32) -> u32 {
     word(kind, value)
 }
 
-/// One sheet in four has wheelchair places; of these one in eight has no second capacity, which is then 0.
+/// One sheet in four has wheelchair places; of these one in eight has no second capacity, which is then 0. One in four has closed legs.
 fn sheet(source: &mut Source, scale: &Scale, places: u32, calls: u32) -> Vec<u32> {
     let second = scale.full || source.one_in(4);
     let mut words = vec![word(1, places)];
@@ -146,6 +147,9 @@ fn sheet(source: &mut Source, scale: &Scale, places: u32, calls: u32) -> Vec<u32
     }
     let tour = source.some(places - 1, calls);
     words.extend(tour.iter().map(|&index| word(0xE, 1 + index)));
+    if source.one_in(4) {
+        close(source, &mut words);
+    }
     ended(words)
 }
 

@@ -1,5 +1,5 @@
 //! Whether bytes are an accepted sheet in words; if not, the refusal's number and word. Written from the scope document and the requests alone.
-use crate::word::{kind, most, value};
+use crate::word::{kind, most, value, CLOSED};
 
 /// What the words so far say.
 #[derive(Default)]
@@ -10,6 +10,8 @@ struct Seen {
     places: usize,
     /// Kind and value of the last word.
     last: Option<(u32, u32)>,
+    /// The distances so far.
+    distances: Vec<u32>,
     /// The customers called so far.
     called: Vec<u32>,
 }
@@ -45,8 +47,10 @@ impl Seen {
         if self.words == 0 {
             self.places = value as usize;
         }
-        if kind == 0xE {
-            self.called.push(value);
+        match kind {
+            0xC => self.distances.push(value),
+            0xE => self.called.push(value),
+            _ => (),
         }
         self.counts[kind as usize] += 1;
         self.words += 1;
@@ -67,6 +71,8 @@ impl Seen {
             Some(21)
         } else if self.pair_falls(kind, value) {
             Some(2)
+        } else if kind == 0xD && self.closed_apart(value) {
+            Some(22)
         } else if kind == 0xF && value as usize != self.words {
             Some(3)
         } else {
@@ -116,8 +122,15 @@ impl Seen {
             0xE => value >= 1 && (value as usize) < self.places,
             0xF => true,
             0 => self.last.is_some_and(|(first, _)| value <= most(first)),
+            0xC | 0xD if value == CLOSED => true,
             _ => value <= most(kind),
         }
+    }
+
+    /// Whether the next time is closed and the distance of the same leg is not, or the other way round.
+    fn closed_apart(&self, value: u32) -> bool {
+        let distance = self.distances[self.count(0xD)];
+        (value == CLOSED) != (distance == CLOSED)
     }
 
     /// Due below ready, or latest below earliest.

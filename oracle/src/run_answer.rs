@@ -1,10 +1,11 @@
-//! What the Rust makes of a run list, as text: the visits of each run, whether it may be made and what it costs, on sheets without lateness pay each run reversed and the runs left by elimination, and the cut of the tour by capacity.
+//! What the Rust makes of a run list, as text: the visits of each run, whether it may be made and what it costs, on sheets without lateness pay and closed legs each run reversed and the runs left by elimination, and the cut of the tour by loads and closed legs. Of a run over a closed leg the Rust is asked nothing: what is said of it is written from the requests.
 use crate::evaluation::{effective_cost, has_soft_windows, route_feasible, RouteEvaluator};
 use crate::judges::{eliminate_routes, split};
 use crate::local_search::two_opt_improve;
 use crate::models::{Route, Violation, ViolationType};
+use crate::plan;
 use crate::sheet::Sheet;
-use crate::word::exchanged;
+use crate::word::{exchanged, has_closed, unconstrained};
 use std::fmt::Write;
 
 /// That of an accepted sheet in words.
@@ -18,7 +19,7 @@ pub fn of(words: &[u32], routes: &[Vec<usize>]) -> String {
     for route in routes {
         evaluated(&mut text, sheet, route);
     }
-    if !has_soft_windows(&sheet.customers) {
+    if !has_soft_windows(&sheet.customers) && !has_closed(words) {
         for route in routes {
             reversed(&mut text, sheet, route);
         }
@@ -47,6 +48,9 @@ fn built(sheet: &Sheet, route: &[usize]) -> (Route, Vec<Violation>) {
 
 /// The visits, the violations by number with their figures, and the totals. The Rust builds the run twice: by seats, and by wheelchair places in place of seats, for the second load.
 fn visits(text: &mut String, sheet: &Sheet, second: &Sheet, route: &[usize]) {
+    if let Some(leg) = sheet.closed_leg(route) {
+        return not_driven(text, leg);
+    }
     let [(built, violations), (second, second_violations)] =
         [sheet, second].map(|sheet| built(sheet, route));
     for (v, w) in std::iter::zip(built.visits(), second.visits()) {
@@ -67,6 +71,15 @@ fn visits(text: &mut String, sheet: &Sheet, second: &Sheet, route: &[usize]) {
         totals.extend([index as f64 + 1.0, start]);
     }
     line(text, "route", &totals);
+}
+
+/// The number of a closed leg.
+const CLOSED_LEG: usize = 7;
+
+/// A run over a closed leg has no visits, and this one violation; all totals are 0.
+fn not_driven(text: &mut String, leg: usize) {
+    line(text, "violation", &[CLOSED_LEG, leg]);
+    line(text, "route", &[0; 6]);
 }
 
 /// The number of a second load above capacity.
@@ -121,6 +134,9 @@ fn reversed(text: &mut String, sheet: &Sheet, route: &[usize]) {
 
 /// Whether the run may be made, and what it costs.
 fn evaluated(text: &mut String, sheet: &Sheet, route: &[usize]) {
+    if sheet.closed_leg(route).is_some() {
+        return *text += "infeasible infinite\n";
+    }
     let Sheet {
         distances,
         customers,
@@ -140,24 +156,32 @@ fn evaluated(text: &mut String, sheet: &Sheet, route: &[usize]) {
     }
 }
 
-/// Served customers, run ends, dropped positions (from 1), cost and distance. The Rust gives runs and distance; the dropped calls are those that no vehicle holds, and the rest follows from the runs.
+/// Served customers, run ends, dropped positions (from 1), cost and distance: those of the plan by `split_tw` of the sheet without limits, break and windows. Where no leg is closed, they are those of the Rust's `split`.
 fn by_capacity(text: &mut String, words: &[u32], sheet: &Sheet) {
-    let (tour, fixed) = (&sheet.tour, sheet.fixed);
-    let (routes, distance) = split(words, sheet);
-    let fits = |&position: &usize| {
-        let customer = tour[position - 1];
-        sheet.customers[customer].demand() <= sheet.capacity
-            && sheet.second_demands[customer] <= sheet.second_capacity
-    };
-    let (held, dropped): (Vec<usize>, Vec<usize>) = (1..=tour.len()).partition(fits);
-    let held: Vec<usize> = held.iter().map(|&position| tour[position - 1]).collect();
-    assert_eq!(routes.concat(), held, "the Rust serves the held calls");
+    let plan = plan::of(&unconstrained(words));
+    let routes: Vec<Vec<usize>> = plan.runs.iter().map(|(run, _)| run.clone()).collect();
+    if !has_closed(words) {
+        let (own_routes, distance) = split(words, sheet);
+        assert_eq!(own_routes, routes, "both cut alike");
+        assert_eq!(distance, plan.distance, "both cut alike");
+        assert_eq!(too_heavy(sheet), plan.dropped, "both drop alike");
+    }
     let ends: Vec<usize> = (1..=routes.len())
         .map(|runs| routes[..runs].concat().len())
         .collect();
-    let cost = distance + routes.len() as f64 * fixed;
-    line(text, "served", &held);
+    let dropped: Vec<usize> = plan.dropped.iter().map(|position| position + 1).collect();
+    line(text, "served", &plan.served);
     line(text, "ends", &ends);
     line(text, "dropped", &dropped);
-    line(text, "split", &[cost, distance]);
+    line(text, "split", &[plan.cost, plan.distance]);
+}
+
+/// The positions of the calls that no vehicle holds, from 0: those that `split` leaves out.
+fn too_heavy(sheet: &Sheet) -> Vec<usize> {
+    let heavy = |&position: &usize| {
+        let customer = sheet.tour[position];
+        sheet.customers[customer].demand() > sheet.capacity
+            || sheet.second_demands[customer] > sheet.second_capacity
+    };
+    (0..sheet.tour.len()).filter(heavy).collect()
 }

@@ -5,7 +5,7 @@ use crate::edges::{all, on_edge};
 use crate::features::Features;
 use crate::record::Out;
 use crate::source::Source;
-use crate::word::{bytes, ended, kind, value};
+use crate::word::{bytes, ended, kind, unconstrained, value};
 use crate::{random, reader, run_answer};
 
 /// A question of this kind is a run list.
@@ -67,16 +67,6 @@ fn calls(source: &mut Source, words: &[u32], many: u32) -> Vec<u32> {
         return all(words, 0xE);
     }
     (0..many).map(|_| 1 + source.below(customers)).collect()
-}
-
-/// The same sheet without limits, break and windows.
-fn unconstrained(words: &[u32]) -> Vec<u32> {
-    let before = words[..words.len() - 1].iter().copied();
-    ended(
-        before
-            .filter(|&w| ![4, 5, 6, 9, 0xA].contains(&kind(w)))
-            .collect(),
-    )
 }
 
 /// The same sheet without the penalties of customers that have a window.

@@ -3,6 +3,7 @@ use crate::distance::DistanceMatrix;
 use crate::evaluation::RouteLimits;
 use crate::load::{self, Pair};
 use crate::models::{Customer, TimeWindow, Vehicle, VehicleBreak};
+use crate::word::{kind, value, CLOSED};
 
 pub struct Sheet {
     /// As the Rust is given it.
@@ -13,6 +14,7 @@ pub struct Sheet {
     pub fixed: f64,
     pub limits: RouteLimits,
     pub customers: Vec<Customer>,
+    /// With infinity for each closed leg, in both tables: so `split_tw` is given them, and it alone.
     pub distances: DistanceMatrix,
     pub tour: Vec<usize>,
 }
@@ -22,13 +24,18 @@ struct Words<'a>(&'a [u32]);
 
 impl Words<'_> {
     /// The value of the next word, if it has this kind.
-    fn next_if(&mut self, kind: u32) -> Option<f64> {
+    fn value_if(&mut self, wanted: u32) -> Option<u32> {
         let (&word, rest) = self.0.split_first()?;
-        if word >> 28 != kind {
+        if kind(word) != wanted {
             return None;
         }
         self.0 = rest;
-        Some(f64::from(word & 0x0FFF_FFFF))
+        Some(value(word))
+    }
+
+    /// The same as a float.
+    fn next_if(&mut self, wanted: u32) -> Option<f64> {
+        self.value_if(wanted).map(f64::from)
     }
 
     fn next(&mut self, kind: u32) -> f64 {
@@ -41,8 +48,14 @@ impl Words<'_> {
         [seats, self.next_if(0).unwrap_or(0.0)].map(|number| number as i32)
     }
 
-    fn row(&mut self, kind: u32, count: usize) -> Vec<f64> {
-        (0..count).map(|_| self.next(kind)).collect()
+    /// The legs of this kind: a closed one is infinitely long, and takes as long.
+    fn legs(&mut self, kind: u32) -> Vec<f64> {
+        std::iter::from_fn(|| self.value_if(kind))
+            .map(|leg| match leg {
+                CLOSED => f64::INFINITY,
+                leg => f64::from(leg),
+            })
+            .collect()
     }
 }
 
@@ -66,12 +79,10 @@ impl Sheet {
             customers.push(customer(&mut words, id, asked, held));
             second_demands.push(asked[1]);
         }
-        let legs = places * places;
         let mut distances =
-            DistanceMatrix::from_data(places, words.row(0xC, legs)).expect("a square table");
-        if let Some(first) = words.next_if(0xD) {
-            let mut times = vec![first];
-            times.extend(words.row(0xD, legs - 1));
+            DistanceMatrix::from_data(places, words.legs(0xC)).expect("a square table");
+        let times = words.legs(0xD);
+        if !times.is_empty() {
             distances = distances.with_travel_times(times).expect("a square table");
         }
         let tour = std::iter::from_fn(|| words.next_if(0xE).map(|c| c as usize)).collect();
@@ -85,6 +96,13 @@ impl Sheet {
             distances,
             tour,
         }
+    }
+
+    /// The number of a run's first leg without a road: 1 leaves the depot, one more than there are calls returns to it.
+    pub fn closed_leg(&self, calls: &[usize]) -> Option<usize> {
+        let stops = [&[0], calls, &[0]].concat();
+        let closed = |leg: &[usize]| self.distances.get(leg[0], leg[1]).is_infinite();
+        stops.windows(2).position(closed).map(|index| index + 1)
     }
 
     /// A vehicle with the sheet's capacity, fixed cost, limits and break.

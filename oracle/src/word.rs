@@ -12,6 +12,19 @@ pub fn value(word: u32) -> u32 {
     word & 0x0FFF_FFFF
 }
 
+/// In a leg table: there is no road.
+pub const CLOSED: u32 = 0x0FFF_FFFF;
+
+/// Whether a word is a leg without a road, by distance or by time.
+pub fn is_closed(word: u32) -> bool {
+    [0xC, 0xD].contains(&kind(word)) && value(word) == CLOSED
+}
+
+/// Whether an accepted sheet has a leg without a road.
+pub fn has_closed(words: &[u32]) -> bool {
+    words.iter().any(|&w| is_closed(w))
+}
+
 /// The end of the kind's range.
 pub fn most(kind: u32) -> u32 {
     match kind {
@@ -40,6 +53,16 @@ pub fn second_capacity(words: &[u32]) -> Option<usize> {
 /// Whether wheelchair places are said anywhere on an accepted sheet.
 pub fn has_second(words: &[u32]) -> bool {
     words.iter().any(|&w| kind(w) == 0)
+}
+
+/// The same sheet without limits, break and windows.
+pub fn unconstrained(words: &[u32]) -> Vec<u32> {
+    let before = words[..words.len() - 1].iter().copied();
+    ended(
+        before
+            .filter(|&w| ![4, 5, 6, 9, 0xA].contains(&kind(w)))
+            .collect(),
+    )
 }
 
 /// An accepted sheet with seats and wheelchair places exchanged, in demands and capacities.

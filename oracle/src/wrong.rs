@@ -8,10 +8,13 @@ const LISTED: [&str; 6] = ["run", "drop", "visit", "violation", "reversed", "lef
 /// Two words of which one may stand for the other.
 const OPPOSITES: [&str; 2] = ["feasible", "infeasible"];
 
+/// Words behind which the first number says what the others are: each such number makes others of them.
+const NUMBERED: [&str; 2] = ["violation", "verdict"];
+
 /// Numbers in a line from this one on are of one kind.
 const LAST: usize = 8;
 
-/// What is changed: a number of a line, from 1 and counted anew behind a word, or 0 for the line that begins with the word; `word` is the last one before the number.
+/// What is changed: a number of a line, from 1 and counted anew behind a word, or 0 for the line that begins with the word; `word` is the last one before the number, with the number that says what the others are.
 #[derive(Clone, PartialEq)]
 struct Kind {
     word: String,
@@ -104,6 +107,9 @@ fn spots(answer: &str) -> Vec<Spot> {
             if kind.number > 0 || whole {
                 let kind = kind.clone();
                 spots.push(Spot { line, at, kind });
+            }
+            if kind.number == 1 && NUMBERED.contains(&kind.word.as_str()) {
+                kind.word = format!("{} {word}", kind.word);
             }
         }
     }

@@ -20,7 +20,7 @@ use Rattle.sheet_loaded.specs.Loaded.{Arrays, Holds}
 use Rattle.sheet_loaded.proofs.Loading.{calls-are}
 use Rattle.sheet_loaded.proofs.HeadHeld.{held-capacity, held-fixed, held-limits}
 use Rattle.bench_timing.specs.declared.work.Work.{Work}
-use Rattle.bench_timing.specs.Work.{Callable, instanceIn, workF, lastOf, onSheet, instanceOf, timed}
+use Rattle.bench_timing.specs.Work.{Callable, instanceIn, givesF, lastOf, onSheet, instanceOf, timed}
 
 same-instance : {c c' : List (CustomerOf Float)} {d d' t t' : List Float} {n n' : ℕ} {k k' : Load} {f f' : Float} {l l' : LimitsF} → c ≡ c' → d ≡ d' → t ≡ t' → n ≡ n' → k ≡ k' → f ≡ f' → l ≡ l'
     → _≡_ {A = Instance} (record { tables = record { customers = c; distances = d; times = t; size = n }; capacity = k; fixed = f; limits = l })
@@ -44,7 +44,7 @@ module _ {s : Sheet} {calls : List ℕ} {l : Loaded} {old new : Arrays} (H : Hol
 pub last-more : (k : ℕ) (x : Float) → lastOf (k + 1) x ≡ x
 last-more k x = rw (add-one k) refl
 
-last-none : (n : ℕ) → lastOf n (fl 0) ≡ fl 0
+pub last-none : (n : ℕ) → lastOf n (fl 0) ≡ fl 0
 last-none zero = refl
 last-none (suc n) = refl
 
@@ -58,7 +58,7 @@ module _ (f : Sheet → List ℕ → Float) (bytes : List ℕ) where
   on-refused number word e = sym (ap (onSheet f) e ∙ fl-zero)
 
 module _ (work : Work) (n : ℕ) (bytes : List ℕ) where
-  pub timed-accepted : (s : Sheet) (tour : List ℕ) → read bytes ≡ sheet s tour → lastOf n (workF work (instanceOf s) tour) ≡ timed work n (read bytes)
+  pub timed-accepted : (s : Sheet) (tour : List ℕ) → read bytes ≡ sheet s tour → lastOf n (givesF work (instanceOf s) tour) ≡ timed work n (read bytes)
   timed-accepted s tour e = sym (ap (timed work n) e)
 
   pub timed-refused : (number word : ℕ) → read bytes ≡ refusedAt number word → ofBits binary64 0 ≡ timed work n (read bytes)
@@ -68,12 +68,12 @@ module _ (work : Work) (n : ℕ) (bytes : List ℕ) where
 
 module _ {s : Sheet} {calls : List ℕ} {l : Loaded} {old new : Arrays} (H : Holds s calls l old new)
     (bytes : List ℕ) (e : read bytes ≡ sheet s calls) (r : Float) where
-  pub repeated-on : (work : Work) (n : ℕ)
-      → r ≡ lastOf n (workF work (instanceIn l (take (l .«distance_count») (new .distances)) (take (l .«time_count») (new .times))) (take (l .calls) (new .tour)))
+  pub rounds-on : (work : Work) (n : ℕ)
+      → r ≡ lastOf n (givesF work (instanceIn l (take (l .«distance_count») (new .distances)) (take (l .«time_count») (new .times))) (take (l .calls) (new .tour)))
       → r ≡ timed work n (read bytes)
-  repeated-on work n h =
-      h ∙ ap (λ (I : Instance). lastOf n (workF work I (take (l .calls) (new .tour)))) (instance-is H)
-      ∙ ap (λ (t : List ℕ). lastOf n (workF work (instanceOf s) t)) (calls-are H)
+  rounds-on work n h =
+      h ∙ ap (λ (I : Instance). lastOf n (givesF work I (take (l .calls) (new .tour)))) (instance-is H)
+      ∙ ap (λ (t : List ℕ). lastOf n (givesF work (instanceOf s) t)) (calls-are H)
       ∙ timed-accepted work n bytes s calls e
 
   pub counted-on : r ≡ ofInt binary64 (pos (l .calls)) → r ≡ onSheet (λ s calls. fl (length calls)) (read bytes)

@@ -1,5 +1,6 @@
 -- What the timed calls give. The numbers are those of the float-level definitions, on the sheet as it is held. Definitions only.
 use Prim.Native.Nat.{ℕ, zero, suc, _≤_}
+use mathlib.Core.Bool.{Bool, false, cond}
 use mathlib.Core.List.{List, map}
 use lib.Ieee.{Float}
 use lib.ListN.{length}
@@ -15,8 +16,8 @@ use Rattle.sheet_read.specs.Parts.{depots}
 use Rattle.cut_stops.specs.Stops.{Below64}
 use Rattle.cut_rows.specs.Runs.{Instance, lent}
 use Rattle.split_tw.specs.SplitTw.{splitTwF}
-use Rattle.split.specs.Split as Split
-use Rattle.split.specs.Split.{splitF}
+use Rattle.split.specs.Bare.{bareOf}
+use Rattle.improve_base.specs.Leg.{shut}
 use Rattle.improve_base.specs.Search.{SearchF, searchF}
 use Rattle.two_opt.specs.TwoOpt.{improvedDistanceF}
 use Rattle.route_elimination.specs.Insertion.{GivenF}
@@ -43,12 +44,7 @@ unfoldable pub splitTwCost : Instance → List ℕ → Float
 splitTwCost I tour = splitTwF I tour .cost
 
 unfoldable pub splitCost : Instance → List ℕ → Float
-splitCost I tour =
-    let t = I .tables in
-    splitF
-    (record { customers = t .customers; distances = t .distances; size = t .size; capacity = I .capacity; fixed = I .fixed })
-    tour
-    .cost
+splitCost I tour = splitTwF (bareOf I) tour .cost
 
 -- what an improver is told
 abbrev pub told : Instance → SearchF
@@ -69,6 +65,17 @@ workF SplitTw I tour = splitTwCost I tour
 workF Split I tour = splitCost I tour
 workF TwoOpt I tour = reversedDistance I tour
 workF (Eliminate run) I tour = runsLeft run I tour
+
+-- the improvers don't take a closed leg
+abbrev pub barred : Work → (distances times : List Float) → Bool
+barred SplitTw distances times = false
+barred Split distances times = false
+barred TwoOpt distances times = shut distances times
+barred (Eliminate run) distances times = shut distances times
+
+-- what the work gives; 0 where it doesn't take the sheet
+abbrev pub givesF : Work → Instance → List ℕ → Float
+givesF work I tour = cond (barred work (I .tables .distances) (I .tables .times)) (fl 0) (workF work I tour)
 
 -- ---- the rounds
 
@@ -99,4 +106,4 @@ instanceOf s =
     }
 
 abbrev pub timed : Work → ℕ → Reading → Float
-timed work n r = lastOf n (onSheet (λ s tour. workF work (instanceOf s) tour) r)
+timed work n r = lastOf n (onSheet (λ s tour. givesF work (instanceOf s) tour) r)

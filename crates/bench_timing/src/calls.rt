@@ -1,4 +1,5 @@
-// Each work, as a program outside calls it. All give 0 for refused bytes and without a round.
+// Each work, as a program outside calls it. All give 0 for refused bytes and without a round, and the improvers also
+// where a leg is closed.
 ghost use mathlib.Core.Path.{_≡_};
 ghost use Rattle.definitions.specs.Reader as Reader;
 ghost use Rattle.bench_timing.specs.declared.work.Work.the-variants as Works;
@@ -14,7 +15,7 @@ pub extern "C" fn timing_split_tw(sheet: &[u8], rounds: u32) -> f64
     on_bytes(sheet, Work::SplitTw, rounds)
 }
 
-// The cost of the cut by capacity alone.
+// The cost of the cut by loads and closed legs alone.
 #[no_mangle]
 pub extern "C" fn timing_split(sheet: &[u8], rounds: u32) -> f64
     ensures { λ r. ⌜ r ≡ timed Works.Split rounds (Reader.read (now (sheet .entry))) ⌝ }

@@ -1,13 +1,14 @@
 // Work done a number of times on a sheet that is read once.
 ghost use mathlib.Core.Path.{_≡_};
-ghost use Rattle.split.specs.Split as Split;
-ghost use Rattle.split.specs.Split.{splitF};
+ghost use mathlib.Core.Bool.{false};
 ghost use Rattle.definitions.specs.Reader as Reader;
+ghost use Rattle.improve_base.specs.Leg.{AllOpen, shut};
 ghost use Rattle.sheet_loaded.specs.Held.{Found};
-ghost use Rattle.bench_timing.specs.Work.{Callable, instanceIn, splitTwCost, reversedDistance, runsLeft, workF, lastOf, timed};
+ghost use Rattle.bench_timing.specs.Work.{Callable, instanceIn, splitTwCost, splitCost, reversedDistance, runsLeft, workF, barred, givesF, lastOf, timed};
 use crate::every::write_every;
 use cut_table::cells::MOST_CUT;
 use improve_base::search::search_of;
+use refuse_numbers::closures::any_closed;
 use route_elimination::route_elimination::eliminate_routes;
 use sheet_loaded::load::Loaded;
 use sheet_loaded::load::load;
@@ -60,21 +61,20 @@ fn split_tw_cost(
     cut.cost
 }
 
-// The cost of the cut by capacity alone.
+// The cost of the cut by loads and closed legs alone.
 fn split_cost(
     tour: &[usize],
     held: Loaded,
     distances: &[f64],
+    times: &[f64],
     served: &mut [usize; 128],
     ends: &mut [usize; 128],
     dropped: &mut [usize; 128],
 ) -> f64
     requires { ⌜ Callable (now tour) ⌝ }
     ensures { λ r.
-        let head = held .head in
-        let sheet = Split.lent (held .customers) (now (distances .entry))
-        (head .places) (head .capacity) (head .«fixed_cost») in
-        ⌜ r ≡ splitF sheet (now (tour .entry)) .cost ⌝ }
+        let sheet = instanceIn held (now (distances .entry)) (now (times .entry)) in
+        ⌜ r ≡ splitCost sheet (now (tour .entry)) ⌝ }
 {
     let head = held.head;
     let customers = held.customers;
@@ -82,6 +82,7 @@ fn split_cost(
         tour,
         customers,
         distances,
+        times,
         head.places,
         head.capacity,
         head.fixed_cost,
@@ -101,6 +102,7 @@ fn reversed_distance(
     current: &mut [usize; 128],
 ) -> f64
     requires { ⌜ Callable (now tour) ⌝ }
+    requires { ⌜ AllOpen (now distances) × AllOpen (now times) ⌝ }
     ensures { λ r.
         let sheet = instanceIn held (now (distances .entry)) (now (times .entry)) in
         ⌜ r ≡ reversedDistance sheet (now (tour .entry)) ⌝ }
@@ -130,6 +132,7 @@ fn runs_left(
     ends: &mut [usize; 128],
 ) -> f64
     requires { ⌜ Callable (now tour) ⌝ }
+    requires { ⌜ AllOpen (now distances) × AllOpen (now times) ⌝ }
     ensures { λ r.
         let sheet = instanceIn held (now (distances .entry)) (now (times .entry)) in
         ⌜ r ≡ runsLeft run sheet (now (tour .entry)) ⌝ }
@@ -167,6 +170,7 @@ fn once(
     third: &mut [usize; 128],
 ) -> f64
     requires { ⌜ Callable (now tour) ⌝ }
+    requires { ⌜ barred work (now distances) (now times) ≡ false ⌝ }
     ensures { λ r.
         let sheet = instanceIn held (now (distances .entry)) (now (times .entry)) in
         ⌜ r ≡ workF work sheet (now (tour .entry)) ⌝ }
@@ -185,6 +189,7 @@ fn once(
             tour,
             held,
             distances,
+            times,
             &mut *first,
             &mut *second,
             &mut *third,
@@ -212,6 +217,7 @@ fn repeated(
     times: &[f64],
 ) -> f64
     requires { ⌜ Callable (now tour) ⌝ }
+    requires { ⌜ barred work (now distances) (now times) ≡ false ⌝ }
     ensures { λ r.
         let sheet = instanceIn held (now (distances .entry)) (now (times .entry)) in
         ⌜ r ≡ lastOf n (workF work sheet (now (tour .entry))) ⌝ }
@@ -237,6 +243,38 @@ fn repeated(
     given
 }
 
+// Whether one of the two tables closes a leg.
+fn is_shut(distances: &[f64], times: &[f64]) -> bool
+    ensures { λ r. ⌜ r ≡ shut (now (distances .entry)) (now (times .entry)) ⌝ }
+{
+    any_closed(distances) || any_closed(times)
+}
+
+// Whether a closed leg bars the work: the improvers take none.
+fn is_barred(work: Work, distances: &[f64], times: &[f64]) -> bool
+    ensures { λ r. ⌜ r ≡ barred work (now (distances .entry)) (now (times .entry)) ⌝ }
+{
+    match work {
+        Work::SplitTw => false,
+        Work::Split => false,
+        Work::TwoOpt => is_shut(distances, times),
+        Work::Eliminate(_) => is_shut(distances, times),
+    }
+}
+
+// The same where the work takes the sheet, and else 0.
+fn rounds(n: u32, work: Work, tour: &[usize], held: Loaded, distances: &[f64], times: &[f64]) -> f64
+    requires { ⌜ Callable (now tour) ⌝ }
+    ensures { λ r.
+        let sheet = instanceIn held (now (distances .entry)) (now (times .entry)) in
+        ⌜ r ≡ lastOf n (givesF work sheet (now (tour .entry))) ⌝ }
+{
+    if is_barred(work, distances, times) {
+        return 0.0;
+    }
+    repeated(n, work, tour, held, distances, times)
+}
+
 // The same on an accepted sheet.
 fn on_sheet(bytes: &[u8], found: Contents, work: Work, n: u32) -> f64
     requires { ⌜ Found (now bytes) found ⌝ }
@@ -246,7 +284,7 @@ fn on_sheet(bytes: &[u8], found: Contents, work: Work, n: u32) -> f64
     let mut times = [0.0; 4096];
     let mut tour = [0usize; MOST_CUT];
     let held = load(bytes, found, &mut distances, &mut times, &mut tour);
-    repeated(
+    rounds(
         n,
         work,
         &tour[..held.calls],

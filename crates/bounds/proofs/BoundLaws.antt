@@ -10,15 +10,19 @@ use Rattle.basics.proofs.TestLaws.{by-test}
 use Rattle.basics.specs.Options.{_>>=_, holds, Holds, valueOr}
 use Rattle.basics.proofs.OptionLaws.{same, clash, bound}
 use Rattle.definitions.specs.Domain.{mostCalls, mostNumber, mostDemand, mostPenalty}
-use Rattle.definitions.specs.Sheet.{Window, Break, Customer, Sheet, customer, distance, time}
+use Rattle.definitions.specs.Sheet.{Window, Break, Customer, Sheet, customer, distance, time, drive}
 use Rattle.definitions.specs.Window.{late, lateness, begins, Entry, enter}
 use Rattle.definitions.specs.Limits.{excused}
-use Rattle.definitions.specs.Run.{tooLate, ready, Label, start, placeAfter, serveAt, serve, breakAt, serveAll, Run, lastOf, legsFrom, distanceFrom, Totals, home, ride, load}
+use Rattle.definitions.specs.Run.{tooLate, ready, Label, start, placeAfter, serveAt, serve, breakAt, serveAll, Run, lastOf, distanceFrom, lengthOf, Totals, home, ride, load}
 use Rattle.definitions.specs.Clock.{Clock, sooner, smaller, tick, clockFrom, counts, clock, startOf}
 use Rattle.definitions.proofs.LoadLaws.{AtMost, none-most, plus-most, most-more}
-use Rattle.definitions.specs.Visits.{readyFor, entered, visited, lastLabel}
+use Rattle.definitions.specs.Visits.{arrivesAt, readyFor, entered, visited, lastLabel}
+use Rattle.definitions.specs.Improver.{legsFrom, openLeg}
+use Rattle.theorems.proofs.Roads.{distance-on, distance-last, home-has}
+use Rattle.theorems.proofs.Legality.{ridden, ticked}
+use Rattle.theorems.proofs.Serving.{serve-leg}
 use Rattle.bounds.specs.Sized.{Small, SmallWindow, SmallBreak, SmallCustomer, Sized}
-use Rattle.bounds.proofs.Inside.{distance-small, time-small, customer-small, break-small}
+use Rattle.bounds.proofs.Inside.{distance-small, time-small, leg-small, customer-small, break-small}
 use Rattle.bounds.specs.Bounds.{mostLate, mostPay, Early, arriveBy, readyBy, SmallEntry, EarlyClock, begun, SmallTotals, LabelFits, TotalsFit}
 
 -- ---- one call
@@ -71,6 +75,11 @@ later-calls : (o : Option Label) (j k : ℕ) → j ≤ k → Holds (Early j) o �
 later-calls none j k h E = tt
 later-calls (some l) j k h E = more-calls j k h E
 
+-- a length, or the 0 that stands for none
+pub or-zero : (o : Option ℕ) → Holds Small o → Small (valueOr 0 o)
+or-zero none h = omega arith
+or-zero (some n) h = h
+
 -- the legs from p through the calls and home
 pub legs-most : (leg : ℕ → ℕ → ℕ) → ((a b : ℕ) → Small (leg a b)) → (p : ℕ) (calls : List ℕ) → legsFrom leg p calls ≤ (length calls + 1) * mostNumber
 legs-most leg near p [] = omega (arith, near p 0)
@@ -86,18 +95,20 @@ module _ (s : Sheet) (S : Sized s) where
       where
         go : (o : Option Label) → serve s here j a c l ≡ o → Holds (Early (suc k)) o
         go none e = tt
-        go (some m) e = serve-early k few (customer s c) (customer-small s S c) here H j (time s a c) (time-small s S a c) l E m e
+        go (some m) e =
+            let x = serve-leg s here j a c l m e in
+            serve-early k few (customer s c) (customer-small s S c) here H j (x .0 .travel) (leg-small s S a c (x .0) (x .1) .1) l E m (x .2)
 
     -- a call is visited as it is served, and where it is reached too late without any lateness
     pub readiness-most : (l : Label) → Early k l → readyFor s here a c l ≤ readyBy k
-    readiness-most l E = go (ready here (l .time + time s a c)) refl
+    readiness-most l E = go (ready here (arrivesAt s a c l)) refl
       where
-        arrival : l .time + time s a c ≤ arriveBy k
-        arrival = omega (arith, time-small s S a c)
+        arrival : arrivesAt s a c l ≤ arriveBy k
+        arrival = omega (arith, or-zero (time s a c) (time-small s S a c))
 
-        go : (o : Option ℕ) → ready here (l .time + time s a c) ≡ o → valueOr (l .time + time s a c) o ≤ readyBy k
+        go : (o : Option ℕ) → ready here (arrivesAt s a c l) ≡ o → valueOr (arrivesAt s a c l) o ≤ readyBy k
         go none e = omega (arith, arrival)
-        go (some r) e = ready-most here H k (l .time + time s a c) arrival r e
+        go (some r) e = ready-most here H k (arrivesAt s a c l) arrival r e
 
     pub visited-early : (l : Label) → Early k l → Early (suc k) (visited s here j a c l)
     unfolding visited
@@ -166,8 +177,22 @@ module _ (s : Sheet) (S : Sized s) where
 
   -- ---- distance and load
 
-  pub distance-most : (a : ℕ) (calls : List ℕ) → distanceFrom s a calls ≤ (length calls + 1) * mostNumber
-  distance-most a calls = legs-most (distance s) (distance-small s S) a calls
+  pub distance-most : (a : ℕ) (calls : List ℕ) (d : ℕ) → distanceFrom s a calls ≡ some d → d ≤ (length calls + 1) * mostNumber
+  distance-most a [] d e = let x = distance-last s a d e in omega (arith, leg-small s S a 0 (x .0) (x .1) .0, x .2)
+  distance-most a (c ∷ cs) d e =
+      let x = distance-on s a c cs d e in
+      omega (arith, leg-small s S a c (x .0) (x .1) .0, distance-most c cs (x .2) (x .3), x .4)
+
+  -- of a run, and of its legs as the improvers have them
+  pub length-most : (calls : List ℕ) → lengthOf s calls ≤ (length calls + 1) * mostNumber
+  length-most calls = go (distanceFrom s 0 calls) refl
+    where
+      go : (o : Option ℕ) → distanceFrom s 0 calls ≡ o → valueOr 0 o ≤ (length calls + 1) * mostNumber
+      go none e = omega arith
+      go (some d) e = distance-most 0 calls d e
+
+  pub open-small : (a b : ℕ) → Small (openLeg s a b)
+  open-small a b = or-zero (distance s a b) (distance-small s S a b)
 
   pub load-most : (calls : List ℕ) → AtMost (length calls * mostDemand) (load s calls)
   load-most [] = none-most
@@ -175,33 +200,35 @@ module _ (s : Sheet) (S : Sized s) where
 
   -- ---- what a run comes to
 
-  pub home-most : (calls : List ℕ) (l : Label) → Early (length calls) l → SmallTotals (length calls) (home s calls l)
-  home-most calls l E =
-      record {
-        distance-most = distance-most 0 calls;
-        duration-most = omega (arith, time-small s S (lastOf 0 calls) 0);
+  pub home-most : (calls : List ℕ) (l : Label) → Early (length calls) l → (t : Totals) → home s calls l ≡ some t → SmallTotals (length calls) t
+  home-most calls l E t e =
+      let (d, r, b, w, h) = home-has s calls l t e in
+      subst (SmallTotals (length calls)) h
+      (record {
+        distance-most = distance-most 0 calls d r;
+        duration-most = omega (arith, leg-small s S (lastOf 0 calls) 0 b w .1);
         lateness-most = E .lateness-most;
         pay-most = E .pay-most;
-      }
+      })
 
-  homes-most : (calls : List ℕ) (o : Option Label) → Holds (Early (length calls)) o → (t : Totals) → (o >>= λ l. some (home s calls l)) ≡ some t → SmallTotals (length calls) t
-  homes-most calls none E t e = clash e
-  homes-most calls (some l) E t e = subst (SmallTotals (length calls)) (same e) (home-most calls l E)
+  -- a label that is there
+  labelled : (n : ℕ) (o : Option Label) (l : Label) → o ≡ some l → Holds (Early n) o → Early n l
+  labelled n o l e E = subst (Holds (Early n)) e E
 
   pub ride-most : (r : Run) → length (r .calls) ≤ mostCalls → (t : Totals) → ride s r ≡ some t → SmallTotals (length (r .calls)) t
-  unfolding ride
-  ride-most r few t e = homes-most (r .calls) (serveAll s (r .place) 1 0 (some start) (r .calls)) (serve-all-most (r .place) (r .calls) few) t e
+  ride-most r few t e =
+      let (l, q, h) = ridden s (r .calls) (r .place) t e in
+      home-most (r .calls) l (labelled (length (r .calls)) _ l q (serve-all-most (r .place) (r .calls) few)) t h
 
   counts-early : (b : Option Break) (back n : ℕ) (x : Clock) → EarlyClock n x → Holds (Early n) (counts b back x)
   counts-early none back n x E = E .before-early
   counts-early (some b) back n x E = by-test (holds (x .before) (λ l. excused b (l .time + back))) (λ t. rw t (E .before-early)) (λ f. rw f (E .after-early))
 
   pub clock-most : (calls : List ℕ) → length calls ≤ mostCalls → (t : Totals) → clock s calls ≡ some t → SmallTotals (length calls) t
-  unfolding clock
   clock-most calls few t e =
       let x = clockFrom s 1 0 begun calls in
-      let back = time s (lastOf 0 calls) 0 in
-      homes-most calls (counts (s .head .rest) back x) (counts-early (s .head .rest) back (length calls) x (labels-most calls few)) t e
+      let (b, w, l, c, h) = ticked s calls t e in
+      home-most calls l (labelled (length calls) _ l c (counts-early (s .head .rest) (b .travel) (length calls) x (labels-most calls few))) t h
 
   -- when the break starts
   pub start-most : (calls : List ℕ) (place : ℕ) → length calls ≤ mostCalls → (t : ℕ) → startOf s (record { calls = calls; place = place }) ≡ some t → t ≤ arriveBy (length calls)
@@ -214,7 +241,8 @@ module _ (s : Sheet) (S : Sized s) where
       let z : length done ≤ length calls = simp length-take (omega arith) in
       let B : SmallBreak (x .0) = subst (λ (o : Option Break). Holds SmallBreak o) (x .1) (S .rest-small) in
       let E : Early (length done) (y .0) = subst (λ (o : Option Label). Holds (Early (length done)) o) (y .1) (serve-all-most 0 done (omega arith)) in
-      omega (arith, same (y .2), time-small s S (lastOf 0 done) (getD calls k 0))
+      let w = bound (drive s (lastOf 0 done) (getD calls k 0)) _ t (y .2) in
+      omega (arith, same (w .2), leg-small s S (lastOf 0 done) (getD calls k 0) (w .0) (w .1) .1)
 
 -- ---- below the limit
 

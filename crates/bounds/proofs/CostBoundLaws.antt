@@ -8,12 +8,12 @@ use mathlib.Core.Option.{Option, none, some}
 use lib.ListN.{length, length-append, length-map}
 use Rattle.basics.proofs.TestLaws.{and-left}
 use Rattle.basics.specs.Options.{valueOr}
-use Rattle.basics.proofs.OptionLaws.{granted, unbound, clash}
+use Rattle.basics.proofs.OptionLaws.{bound, granted, unbound, clash}
 use Rattle.basics.specs.Lists.{isEmpty, sum, All}
 use Rattle.basics.proofs.ListLaws.{length-count}
 use Rattle.definitions.specs.Domain.{mostCalls, mostNumber}
 use Rattle.definitions.specs.Sheet.{Sheet}
-use Rattle.definitions.specs.Run.{Run, distanceFrom, Totals, ride, fits, price, payOf, runCost}
+use Rattle.definitions.specs.Run.{Run, distanceFrom, lengthOf, Totals, ride, fits, price, payOf, runCost}
 use Rattle.definitions.specs.Clock.{clock, Arc, arc}
 use Rattle.definitions.specs.Cutting.{joined, cuttingCost, Best, nothing, cheapest}
 use Rattle.definitions.specs.Drop.{callAt, callsAt, drops, planBy, plainArc}
@@ -25,7 +25,7 @@ use Rattle.theorems.proofs.Dropping.{drops-parts}
 use Rattle.bounds.specs.Sized.{Small, Sized}
 use Rattle.whole.specs.Whole.{limit}
 use Rattle.bounds.specs.Bounds.{mostPay}
-use Rattle.bounds.proofs.BoundLaws.{legs-most, distance-most, ride-most, clock-most}
+use Rattle.bounds.proofs.BoundLaws.{legs-most, distance-most, length-most, ride-most, clock-most}
 use Rattle.bounds.specs.CostBounds.{mostCost, mostFar, Called, Priced}
 
 pub cost-fits : (j cost : ℕ) → j ≤ mostCalls → cost ≤ j * mostCost → cost ≤ limit
@@ -65,26 +65,27 @@ module _ (s : Sheet) (S : Sized s) where
   -- `split` pays for no lateness
   pub plain-priced : Priced (plainArc s)
   unfolding plainArc
-  plain-priced = record { no-run = refl; run-most = most }
+  plain-priced = record { no-run = unbound (distanceFrom s 0 []) _ (λ d. refl); run-most = most }
     where
       most : (calls : List ℕ) (a : Arc) → length calls ≤ mostCalls → plainArc s calls ≡ some a → a .cost ≤ length calls * mostCost
       most calls a few e =
-          let g = granted (not (isEmpty calls) && fits s calls) (record { place = 0; cost = price s (distanceFrom s 0 calls) 0 }) a e in
+          let (d, r, q) = bound (distanceFrom s 0 calls) _ a e in
+          let g = granted (not (isEmpty calls) && fits s calls) (record { place = 0; cost = price s d 0 }) a q in
           let h = some-length calls (and-left (not (isEmpty calls)) _ (g .0)) in
-          subst (λ (x : Arc). x .cost ≤ length calls * mostCost) (g .1) (price-most (length calls) (distanceFrom s 0 calls) 0 h (distance-most s S 0 calls) (omega arith))
+          subst (λ (x : Arc). x .cost ≤ length calls * mostCost) (g .1) (price-most (length calls) d 0 h (distance-most s S 0 calls d r) (omega arith))
 
   -- with any break place
   pub run-cost-most : (r : Run) → Called r → length (r .calls) ≤ mostCalls → runCost s r ≤ length (r .calls) * mostCost
   unfolding runCost
   run-cost-most r h few =
-      price-most (length (r .calls)) (distanceFrom s 0 (r .calls)) (payOf (ride s r)) (some-length (r .calls) h) (distance-most s S 0 (r .calls)) (paid (ride s r) refl)
+      price-most (length (r .calls)) (lengthOf s (r .calls)) (payOf (ride s r)) (some-length (r .calls) h) (length-most s S (r .calls)) (paid (ride s r) refl)
     where
       paid : (o : Option Totals) → ride s r ≡ o → payOf o ≤ length (r .calls) * mostPay
       paid none e = omega arith
       paid (some t) e = ride-most s S r few t e .pay-most
 
-  pub run-distance-most : (r : Run) → Called r → length (r .calls) ≤ mostCalls → distanceFrom s 0 (r .calls) ≤ length (r .calls) * mostFar
-  run-distance-most r h few = omega (arith, distance-most s S 0 (r .calls), some-length (r .calls) h)
+  pub run-distance-most : (r : Run) → Called r → length (r .calls) ≤ mostCalls → lengthOf s (r .calls) ≤ length (r .calls) * mostFar
+  run-distance-most r h few = omega (arith, length-most s S (r .calls), some-length (r .calls) h)
 
 -- ---- cuttings
 
@@ -103,8 +104,8 @@ module _ (s : Sheet) (S : Sized s) (runs : List Run) (called : All Called runs) 
   pub cutting-cost-most : cuttingCost s runs ≤ length (joined runs) * mostCost
   cutting-cost-most = runs-most (runCost s) mostCost (run-cost-most s S) runs called few
 
-  pub cutting-distance-most : sum (λ r. distanceFrom s 0 (r .calls)) runs ≤ length (joined runs) * mostFar
-  cutting-distance-most = runs-most (λ r. distanceFrom s 0 (r .calls)) mostFar (run-distance-most s S) runs called few
+  pub cutting-distance-most : sum (λ r. lengthOf s (r .calls)) runs ≤ length (joined runs) * mostFar
+  cutting-distance-most = runs-most (λ r. lengthOf s (r .calls)) mostFar (run-distance-most s S) runs called few
 
 module _ (arc : List ℕ → Option Arc) (P : Priced arc) where
   -- any cutting of the calls
@@ -130,7 +131,7 @@ module _ (arc : List ℕ → Option Arc) (P : Priced arc) where
 
   -- and its distance
   pub best-distance-most : (s : Sheet) → Sized s → (calls : List ℕ) → length calls ≤ mostCalls → (b : Best) → cheapest arc calls ≡ some b
-      → sum (λ r. distanceFrom s 0 (r .calls)) (b .runs) ≤ length calls * mostFar
+      → sum (λ r. lengthOf s (r .calls)) (b .runs) ≤ length calls * mostFar
   best-distance-most s S calls few b e =
       let c = best-of arc (P .no-run) calls .cuts b e in
       let z : length (joined (b .runs)) ≡ length calls = ap length (c .0) in
@@ -162,11 +163,11 @@ module _ (arc : List ℕ → Option Arc) (P : Priced arc) (tour : List ℕ) (few
       held = callsAt tour (drops arc tour .held)
 
       go : (o : Option Best) → cheapest arc held ≡ o
-          → (valueOr nothing o .cost ≤ limit) × (sum (λ r. distanceFrom s 0 (r .calls)) (valueOr nothing o .runs) ≤ limit)
+          → (valueOr nothing o .cost ≤ limit) × (sum (λ r. lengthOf s (r .calls)) (valueOr nothing o .runs) ≤ limit)
       go none e = (omega arith, omega arith)
       go (some b) e = (
         cost-fits (length held) (b .cost) held-few (best-most arc P held held-few b e),
-        far-fits (length held) (sum (λ r. distanceFrom s 0 (r .calls)) (b .runs)) held-few (best-distance-most arc P s S held held-few b e),
+        far-fits (length held) (sum (λ r. lengthOf s (r .calls)) (b .runs)) held-few (best-distance-most arc P s S held held-few b e),
       )
 
 -- ---- the improvers

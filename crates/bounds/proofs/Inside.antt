@@ -3,7 +3,7 @@ use Prim.Native.Nat.{ℕ, _+_, _-_, _*_, _≤_, _<_}
 use native.Mathlib.Omega.{arith}
 use native.Mathlib.Nat.{mul-le-mul-right, zero-add}
 use mathlib.Core.Path.{_≡_, refl, sym, ap, subst, _∙_}
-use mathlib.Core.Bool.{true, false, cond, not, _||_}
+use mathlib.Core.Bool.{Bool, true, false, cond, not, _||_, or-false}
 use mathlib.Core.List.{List, [], _∷_}
 use mathlib.Core.Option.{Option, none, some}
 use lib.ListN.{length, getD, take}
@@ -14,16 +14,17 @@ use Rattle.basics.proofs.TestLaws.{by-test, or-left, or-right, not-false, and-l
 use Rattle.basics.specs.Options.{Holds}
 use Rattle.basics.specs.Lists.{isEmpty, any, sum, All, Same}
 use Rattle.basics.proofs.ListLaws.{all-imp, all-getD, any-fails, fails-not}
-use Rattle.definitions.specs.Domain.{isPlaces, isDemand, isCapacity, isNumber, isCall, mostCalls, mostNumber, mostDemand, mostCapacity, mostPenalty}
+use Rattle.definitions.specs.Domain.{isPlaces, isDemand, isCapacity, isNumber, isClosed, isLeg, isCall, mostCalls, mostNumber, mostDemand, mostCapacity, mostPenalty}
 use Rattle.definitions.specs.Load.{eachOf}
-use Rattle.definitions.specs.Sheet.{Window, Break, Customer, Sheet, records, depot, customer, distance, timeTable, time}
+use Rattle.definitions.specs.Sheet.{Window, Break, Customer, Sheet, Leg, records, depot, customer, road, distance, timeTable, time, drive}
 use Rattle.definitions.specs.Run.{lastOf, breakAt}
 use Rattle.definitions.specs.Drop.{callsAt}
 use Rattle.definitions.proofs.LoadLaws.{tested-most}
 use Rattle.definitions.specs.Refusals.{unfit, badOptional, badBreak, badWindow, badCustomer, Within, WithinCalls, repeats}
 use Rattle.theorems.proofs.Ranges.{in-range, tables-even, break-in-range, window-in-range, customer-in-range}
 use Rattle.theorems.proofs.Repeats.{tour-few}
-use Rattle.bounds.specs.Sized.{Small, SmallWindow, SmallBreak, SmallCustomer, timesOf, Sized, Place}
+use Rattle.theorems.proofs.Roads.{drive-has}
+use Rattle.bounds.specs.Sized.{Small, LegNumber, SmallWindow, SmallBreak, SmallCustomer, timesOf, Sized, Place}
 
 -- ---- the facts of `Sized` follow from the tests
 
@@ -58,8 +59,8 @@ customer-kept c e =
       penalty-small = limit-kept mostPenalty (c .penalty) (R .penalty);
     }
 
-numbers-kept : (l : List ℕ) → any (unfit some isNumber) l ≡ false → All Small l
-numbers-kept l e = all-imp (λ (n : ℕ). unfit some isNumber n ≡ false) Small (λ n h. kept n mostNumber h) l (any-fails (unfit some isNumber) l e)
+legs-kept : (l : List ℕ) → any (unfit some isLeg) l ≡ false → All LegNumber l
+legs-kept l e = all-imp (λ (n : ℕ). unfit some isLeg n ≡ false) LegNumber (λ n h. not-false (isLeg n) h) l (any-fails (unfit some isLeg) l e)
 
 records-kept : (s : Sheet) → length (s .customers) ≡ s .head .places → any (badCustomer some) (records s) ≡ false → All SmallCustomer (s .customers)
 records-kept s z e =
@@ -70,7 +71,7 @@ times-long : (full : ℕ) (distances times : List ℕ) → length distances ≡ 
 times-long full distances [] z e = z
 times-long full distances (t ∷ ts) z e = eqb-true (length (t ∷ ts)) full e
 
-times-kept : (distances times : List ℕ) → All Small distances → All Small times → All Small (timeTable distances times)
+times-kept : (distances times : List ℕ) → All LegNumber distances → All LegNumber times → All LegNumber (timeTable distances times)
 times-kept distances [] a b = a
 times-kept distances (t ∷ ts) a b = b
 
@@ -92,10 +93,14 @@ sized s W =
       records-all = W .counted;
       records-small = records-kept s (W .counted) (R .customers);
       distances-all = square;
-      distances-small = numbers-kept (s .legs .distances) (R .distances);
+      distances-legs = legs-kept (s .legs .distances) (R .distances);
       times-all = times-long full (s .legs .distances) (s .legs .times) square (not-false _ (T .times));
-      times-small = times-kept (s .legs .distances) (s .legs .times) (numbers-kept (s .legs .distances) (R .distances)) (numbers-kept (s .legs .times) (R .times));
+      times-legs = times-kept (s .legs .distances) (s .legs .times) (legs-kept (s .legs .distances) (R .distances)) (legs-kept (s .legs .times) (R .times));
     }
+
+-- a length is small
+road-small : (n : ℕ) → LegNumber n → Holds Small (road n)
+road-small n h = by-test (isClosed n) (λ t. rw t tt) (λ f. rw f (leb-true n mostNumber (sym (or-false (isNumber n)) ∙ subst (λ (b : Bool). isNumber n || b ≡ true) f h)))
 
 -- ---- inside the tables
 
@@ -174,11 +179,17 @@ module _ (s : Sheet) where
 
     -- ---- each number that is looked up is small, outside the tables too
 
-    pub distance-small : (a b : ℕ) → Small (distance s a b)
-    distance-small a b = all-getD Small (s .legs .distances) (a * s .head .places + b) 0 (S .distances-small) (omega arith)
+    pub distance-small : (a b : ℕ) → Holds Small (distance s a b)
+    distance-small a b = road-small (getD (s .legs .distances) (a * s .head .places + b) 0) (all-getD LegNumber (s .legs .distances) (a * s .head .places + b) 0 (S .distances-legs) refl)
 
-    pub time-small : (a b : ℕ) → Small (time s a b)
-    time-small a b = all-getD Small (timesOf s) (a * s .head .places + b) 0 (S .times-small) (omega arith)
+    pub time-small : (a b : ℕ) → Holds Small (time s a b)
+    time-small a b = road-small (getD (timesOf s) (a * s .head .places + b) 0) (all-getD LegNumber (timesOf s) (a * s .head .places + b) 0 (S .times-legs) refl)
+
+    -- so is a leg that can be driven, in both
+    pub leg-small : (a b : ℕ) (l : Leg) → drive s a b ≡ some l → Small (l .length) × Small (l .travel)
+    leg-small a b l e =
+        let x = drive-has s a b l e in
+        (subst (Holds Small) (x .0) (distance-small a b), subst (Holds Small) (x .1) (time-small a b))
 
     pub customer-small : (c : ℕ) → SmallCustomer (customer s c)
     customer-small c =

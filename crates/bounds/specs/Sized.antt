@@ -1,16 +1,21 @@
 -- What is known of a sheet within the limits, fact by fact: each number is at most what the Domain allows.
 use Prim.Native.Nat.{ℕ, _*_, _≤_, _<_}
 use mathlib.Core.Path.{_≡_}
+use mathlib.Core.Bool.{true}
 use mathlib.Core.List.{List}
 use lib.ListN.{length}
 use Rattle.basics.specs.Options.{Holds}
 use Rattle.basics.specs.Lists.{All}
-use Rattle.definitions.specs.Domain.{mostNumber, mostDemand, mostCapacity, mostPenalty}
+use Rattle.definitions.specs.Domain.{mostNumber, mostDemand, mostCapacity, mostPenalty, isLeg}
 use Rattle.definitions.specs.Sheet.{Window, Break, Customer, Sheet, timeTable}
 use Rattle.definitions.proofs.LoadLaws.{AtMost}
 
 abbrev pub Small : ℕ → Type 0
 Small n = n ≤ mostNumber
+
+-- a number of a leg table: a small one, or that of a closed leg
+abbrev pub LegNumber : ℕ → Type 0
+LegNumber n = isLeg n ≡ true
 
 pub record SmallWindow (w : Window) : Type 0 where
   pub ready-small : Small (w .ready)
@@ -43,9 +48,9 @@ pub record Sized (s : Sheet) : Type 0 where
   pub records-all : length (s .customers) ≡ s .head .places
   pub records-small : All SmallCustomer (s .customers)
   pub distances-all : length (s .legs .distances) ≡ s .head .places * s .head .places
-  pub distances-small : All Small (s .legs .distances)
+  pub distances-legs : All LegNumber (s .legs .distances)
   pub times-all : length (timesOf s) ≡ s .head .places * s .head .places
-  pub times-small : All Small (timesOf s)
+  pub times-legs : All LegNumber (timesOf s)
 
 -- a is a place of the sheet, the depot or a customer
 abbrev pub Place : Sheet → ℕ → Type 0

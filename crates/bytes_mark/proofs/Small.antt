@@ -5,7 +5,7 @@ use native.Mathlib.Nat.{zero-add}
 use mathlib.Core.Path.{_≡_, refl, ap, subst, _∙_}
 use mathlib.Core.Bool.{Bool, true, false, not}
 use mathlib.Core.List.{List, [], _∷_}
-use mathlib.Core.Option.{Option, none, some}
+use mathlib.Core.Option.{Option, none, some, Option·map}
 use lib.ListN.{length, drop}
 use lib.Dec.{ltb, eqb}
 use borrow.Author.Tests.{ltb-false}
@@ -15,16 +15,17 @@ use Rattle.basics.proofs.OptionLaws.{same, clash}
 use Rattle.basics.specs.Lists.{All}
 use Rattle.definitions.specs.Domain.{mostCalls}
 use Rattle.definitions.specs.Load.{seated}
-use Rattle.definitions.specs.Sheet.{Break, Sheet, time}
+use Rattle.definitions.specs.Sheet.{Break, Sheet}
 use Rattle.definitions.specs.Limits.{within}
-use Rattle.definitions.specs.Run.{ready, Label, start, serve, Run, breakAt, Totals, ride, load, fits, placed}
+use Rattle.definitions.specs.Run.{ready, Label, start, serve, Run, breakAt, firstClosed, Totals, ride, load, fits, placed}
 use Rattle.definitions.specs.RunList.{runsFrom, runsOf, callsOf}
 use Rattle.definitions.specs.Cutting.{joined, cuttingCost}
 use Rattle.definitions.specs.Drop.{Result, splitTw}
 use Rattle.definitions.specs.Lent.{Lent, wholeSheet, marking}
 use Rattle.definitions.specs.Refusals.{refusalOf}
 use Rattle.definitions.specs.Answers.{gives, unlessRefused, answer, markOf}
-use Rattle.definitions.specs.Marker.{Verdict, overloadOf, breakMissing, tooFar, tooLong, withPlaces, breakOr, differ, callFault, walkFault, totalFault, runFault, firstFault, against, markAgainst, mark}
+use Rattle.definitions.specs.Marker.{Verdict, overloadOf, breakMissing, tooFar, tooLong, roadClosed, withPlaces, breakOr, differ, arrivalFault, callFault, walkFault, totalFault, runFault, firstFault, against, markAgainst, mark}
+use Rattle.theorems.proofs.Roads.{by-leg, closed-is}
 use Rattle.theorems.proofs.RunListLaws.{calls-back}
 use Rattle.theorems.proofs.Accepted.{Accepted, accepted-within}
 use Rattle.bounds.specs.Sized.{Place, Sized}
@@ -68,12 +69,24 @@ differ-small k (x ∷ xs) (y ∷ ys) p h =
     (λ f. let e : some k ≡ some p = (rw f at h) in omega (arith, same e))
 
 module _ (s : Sheet) (S : Sized s) (n : ℕ) (few : n ≤ limit) where
-  call-small : (here : Option Break) (k a c : ℕ) (l : Label) → k ≤ limit → c ≤ limit → Fits (callFault s n here k a c l)
-  call-small here k a c l p q = go (ready here (l .time + time s a c)) refl
+  arrival-small : (here : Option Break) (k c arrival : ℕ) → k ≤ limit → c ≤ limit → Fits (arrivalFault s n here k c arrival)
+  arrival-small here k c arrival p q = go (ready here arrival) refl
     where
-      go : (o : Option ℕ) → ready here (l .time + time s a c) ≡ o → Fits (callFault s n here k a c l)
-      go none e = rw (e, callFault) (few, p, q)
-      go (some r) e = rw (e, callFault) (few, p, q)
+      go : (o : Option ℕ) → ready here arrival ≡ o → Fits (arrivalFault s n here k c arrival)
+      go none e = rw (e, arrivalFault) (few, p, q)
+      go (some r) e = rw (e, arrivalFault) (few, p, q)
+
+  call-small : (here : Option Break) (k a c : ℕ) (l : Label) → k ≤ limit → c ≤ limit → Fits (callFault s n here k a c l)
+  call-small here k a c l p q =
+      by-leg s a c (λ e. rw (e, callFault) (few, p)) (λ g e. rw (e, callFault) (arrival-small here k c (l .time + g .travel) p q))
+
+  -- a leg has a number up to one more than the run has calls
+  closed-small : (calls : List ℕ) → length calls ≤ mostCalls → Holds Fits (Option·map (roadClosed n) (firstClosed s calls))
+  closed-small calls h = go (firstClosed s calls) refl
+    where
+      go : (o : Option ℕ) → firstClosed s calls ≡ o → Holds Fits (Option·map (roadClosed n) o)
+      go none e = tt
+      go (some leg) e = let x = closed-is s calls leg e in (few, omega (arith, x .number, x .inside))
 
   walk-small : (place k a : ℕ) (l : Label) (calls : List ℕ) → k + length calls ≤ limit → All (Place s) calls → Holds Fits (walkFault s n place k a l calls)
   unfolding walkFault
@@ -108,8 +121,9 @@ module _ (s : Sheet) (S : Sized s) (n : ℕ) (few : n ≤ limit) where
       let heavy = overloadOf n (load s (r .calls)) (s .head .capacity) in
       let walked = walkFault s n (r .place) 1 0 start (r .calls) in
       let home = ride s r >>= totalFault s n r in
-      or-small (given unfit heavy) (orElse walked home) (given-small unfit heavy (load-small (r .calls) i))
-      (or-small walked home (walk-small (r .place) 1 0 start (r .calls) (omega (arith, i .0)) (i .1)) (go (ride s r)))
+      or-small (Option·map (roadClosed n) (firstClosed s (r .calls))) (orElse (given unfit heavy) (orElse walked home)) (closed-small (r .calls) (i .0))
+      (or-small (given unfit heavy) (orElse walked home) (given-small unfit heavy (load-small (r .calls) i))
+      (or-small walked home (walk-small (r .place) 1 0 start (r .calls) (omega (arith, i .0)) (i .1)) (go (ride s r))))
     where
       go : (o : Option Totals) → Holds Fits (o >>= totalFault s n r)
       go none = tt

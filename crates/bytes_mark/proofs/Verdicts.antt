@@ -11,7 +11,7 @@ use types.Run.{OneOf}
 use Rattle.definitions.specs.Marker.{Verdict}
 use Rattle.definitions.specs.Room.{written}
 use Rattle.marker.specs.declared.verdict.Verdict as Code
-use Rattle.marker.specs.declared.verdict.Verdict.the-variants.{OtherCalls, Overload, BreakTooLate, WindowMissed, BreakMissing, TooFar, TooLong, Best, Dearer, Cheaper, WheelchairOverload}
+use Rattle.marker.specs.declared.verdict.Verdict.the-variants.{OtherCalls, Overload, BreakTooLate, WindowMissed, BreakMissing, TooFar, TooLong, Best, Dearer, Cheaper, WheelchairOverload, RoadClosed}
 use Rattle.marker.proofs.verdict.Verdict.{the-type}
 use Rattle.marker.specs.Figures.{numberIn, valuesIn}
 
@@ -28,6 +28,9 @@ five P h (a ∷ b ∷ c ∷ d ∷ e ∷ f ∷ l) n = absurd (omega arith)
 module _ (old : List Float) (n : length old ≡ 5) where
   pub one : (a : Float) → set old 0 a ≡ written (a ∷ []) old
   one a = five (λ (l : List Float). set l 0 a ≡ written (a ∷ []) l) (λ p q r s t. refl) old n
+
+  pub two : (a b : Float) → set (set old 0 a) 1 b ≡ written (a ∷ b ∷ []) old
+  two a b = five (λ (l : List Float). set (set l 0 a) 1 b ≡ written (a ∷ b ∷ []) l) (λ p q r s t. refl) old n
 
   pub three : (a b c : Float) → set (set (set old 0 a) 1 b) 2 c ≡ written (a ∷ b ∷ c ∷ []) old
   three a b c = five (λ (l : List Float). set (set (set l 0 a) 1 b) 2 c ≡ written (a ∷ b ∷ c ∷ []) l) (λ p q r s t. refl) old n
@@ -53,6 +56,7 @@ tagged Best = refl
 tagged (Dearer by) = refl
 tagged (Cheaper by) = refl
 tagged (WheelchairOverload run load capacity) = refl
+tagged (RoadClosed run leg) = refl
 
 five-tags : (n : ℕ) → OneOf (2 ∷ 3 ∷ 4 ∷ 5 ∷ 6 ∷ []) n → (2 ≤ n) × (n ≤ 6)
 five-tags n (inl e) = (omega arith, omega arith)
@@ -61,17 +65,18 @@ five-tags n (inr (inr (inl e))) = (omega arith, omega arith)
 five-tags n (inr (inr (inr (inl e)))) = (omega arith, omega arith)
 five-tags n (inr (inr (inr (inr e)))) = (omega arith, omega arith)
 
-other-tags : (n : ℕ) → OneOf (0 ∷ 1 ∷ 7 ∷ 8 ∷ 9 ∷ 10 ∷ []) n → 2 ≤ n → n ≤ 6 → ⊥
+other-tags : (n : ℕ) → OneOf (0 ∷ 1 ∷ 7 ∷ 8 ∷ 9 ∷ 10 ∷ 11 ∷ []) n → 2 ≤ n → n ≤ 6 → ⊥
 other-tags n (inl e) h k = omega arith
 other-tags n (inr (inl e)) h k = omega arith
 other-tags n (inr (inr (inl e))) h k = omega arith
 other-tags n (inr (inr (inr (inl e)))) h k = omega arith
 other-tags n (inr (inr (inr (inr (inl e))))) h k = omega arith
-other-tags n (inr (inr (inr (inr (inr e))))) h k = omega arith
+other-tags n (inr (inr (inr (inr (inr (inl e)))))) h k = omega arith
+other-tags n (inr (inr (inr (inr (inr (inr e)))))) h k = omega arith
 
 -- the faults on a ride are the verdicts 3 to 7
 pub ride-fault : (v : Code.Verdict) → OneOf (2 ∷ 3 ∷ 4 ∷ 5 ∷ 6 ∷ []) (tagOf the-type v) → (3 ≤ numberIn v) × (numberIn v ≤ 7)
 ride-fault v o = let b = five-tags (tagOf the-type v) o in (omega (arith, tagged v, b .0), omega (arith, tagged v, b .1))
 
-pub no-other : (v : Code.Verdict) → OneOf (0 ∷ 1 ∷ 7 ∷ 8 ∷ 9 ∷ 10 ∷ []) (tagOf the-type v) → (3 ≤ numberIn v) × (numberIn v ≤ 7) → ⊥
+pub no-other : (v : Code.Verdict) → OneOf (0 ∷ 1 ∷ 7 ∷ 8 ∷ 9 ∷ 10 ∷ 11 ∷ []) (tagOf the-type v) → (3 ≤ numberIn v) × (numberIn v ≤ 7) → ⊥
 no-other v o h = other-tags (tagOf the-type v) o (omega (arith, tagged v, h .0)) (omega (arith, tagged v, h .1))

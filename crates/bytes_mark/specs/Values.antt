@@ -2,7 +2,7 @@
 use Prim.Native.Nat.{_≤_}
 use Rattle.whole.specs.Whole.{limit}
 use Rattle.marker.specs.declared.verdict.Verdict.{Verdict}
-use Rattle.marker.specs.declared.verdict.Verdict.the-variants.{OtherCalls, Overload, BreakTooLate, WindowMissed, BreakMissing, TooFar, TooLong, Best, Dearer, Cheaper, WheelchairOverload}
+use Rattle.marker.specs.declared.verdict.Verdict.the-variants.{OtherCalls, Overload, BreakTooLate, WindowMissed, BreakMissing, TooFar, TooLong, Best, Dearer, Cheaper, WheelchairOverload, RoadClosed}
 
 -- each whole number that it has is one that a float holds exactly
 abbrev pub Small : Verdict → Type 0
@@ -17,3 +17,4 @@ Small Best = Unit {0}
 Small (Dearer by) = Unit {0}
 Small (Cheaper by) = Unit {0}
 Small (WheelchairOverload run load capacity) = (run ≤ limit) × (load ≤ limit)
+Small (RoadClosed run leg) = (run ≤ limit) × (leg ≤ limit)

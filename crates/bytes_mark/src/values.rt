@@ -25,6 +25,7 @@ pub fn number_of(v: Verdict) -> u32
         Verdict::Dearer { .. } => 9,
         Verdict::Cheaper { .. } => 10,
         Verdict::WheelchairOverload { .. } => 11,
+        Verdict::RoadClosed { .. } => 12,
     }
 }
 
@@ -43,6 +44,16 @@ fn write_three(a: f64, b: f64, c: f64, values: &mut [f64])
     values[0] = a;
     values[1] = b;
     values[2] = c;
+}
+
+// The two of a closed leg: the run, and the leg's number in it.
+fn write_leg(run: usize, leg: usize, values: &mut [f64])
+    requires { ⌜ (run ≤ limit) × (leg ≤ limit) ⌝ }
+    requires { ⌜ length (now values) ≡ 5 ⌝ }
+    ensures { λ _. ⌜ now (values .exit) ≡ written (fl run ∷ fl leg ∷ []) (now (values .entry)) ⌝ }
+{
+    values[0] = run as f64;
+    values[1] = leg as f64;
 }
 
 // The three of a load over what the vehicle holds: the run, and in one measure its load and the capacity.
@@ -130,6 +141,7 @@ pub fn write_values(v: Verdict, values: &mut [f64])
             load,
             capacity,
         } => write_load(run, load, capacity, &mut *values),
+        Verdict::RoadClosed { run, leg } => write_leg(run, leg, &mut *values),
         Verdict::Best => {}
         Verdict::Dearer { by } => write_one(by, &mut *values),
         Verdict::Cheaper { by } => write_one(by, &mut *values),

@@ -2,15 +2,15 @@
 use Prim.Native.Nat.{ℕ, _≤_}
 use native.Mathlib.Omega.{arith}
 use mathlib.Core.Path.{_≡_, refl, sym, ap, subst, _∙_}
-use mathlib.Core.Bool.{Bool, false}
+use mathlib.Core.Bool.{Bool, false, true, _||_}
 use mathlib.Core.List.{List, [], _∷_, map}
 use mathlib.Core.Option.{Option, none, some, Option·map}
 use lib.Seq.{take-all}
 use lib.Dec.{leb}
-use borrow.Author.Tests.{leb-true}
-use Rattle.basics.proofs.TestLaws.{not-false, or-left, or-right}
+use borrow.Author.Tests.{leb-true, eqb-true}
+use Rattle.basics.proofs.TestLaws.{by-test, not-false, not-of-true, or-left, or-right}
 use Rattle.basics.specs.Lists.{any}
-use Rattle.definitions.specs.Domain.{isNumber}
+use Rattle.definitions.specs.Domain.{noRoad, isNumber, isClosed, isLeg}
 use Rattle.definitions.specs.Sheet.{Window, Break, Customer, SheetOf, Sheet, records, mapWindow, mapBreak, mapCustomer, mapSheet}
 use Rattle.definitions.specs.Lent.{Call}
 use Rattle.definitions.specs.Refusals.{unfit, badOptional, badBreak, badWindow, badCustomer, Within}
@@ -63,8 +63,14 @@ module _ {A B C : Type 0} (bad : A → Bool) (to : A → B) (back : B → C) (he
   exact-list [] h = refl
   exact-list (x ∷ l) h = λ i. each x (or-left (bad x) (any bad l) h) i ∷ exact-list l (or-right (bad x) (any bad l) h) i
 
-numbers : (l : List ℕ) → any (unfit some isNumber) l ≡ false → map value (map fl l) ≡ map some l
-numbers = exact-list (unfit some isNumber) fl value some number
+-- a leg's number, or that of a closed one
+leg : (n : ℕ) → unfit some isLeg n ≡ false → value (fl n) ≡ some n
+leg n h =
+    by-test (isNumber n) (λ t. number n (not-of-true (isNumber n) t))
+    (λ f. let closed = eqb-true n noRoad (subst (λ (b : Bool). b || isClosed n ≡ true) f (not-false (isLeg n) h)) in value-fl n (omega (arith, closed)))
+
+legs : (l : List ℕ) → any (unfit some isLeg) l ≡ false → map value (map fl l) ≡ map some l
+legs = exact-list (unfit some isLeg) fl value some leg
 
 -- ---- the sheet
 
@@ -91,7 +97,7 @@ module _ (s : Sheet) (W : Within s) where
         customers =
             exact-list (badCustomer some) flCustomer (mapCustomer value) (mapCustomer some) exact-customer (s .customers)
             (subst (λ (l : List Customer). any (badCustomer some) l ≡ false) all-records (R .customers)) i;
-        legs = record { distances = numbers (s .legs .distances) (R .distances) i; times = numbers (s .legs .times) (R .times) i };
+        legs = record { distances = legs (s .legs .distances) (R .distances) i; times = legs (s .legs .times) (R .times) i };
       }
 
   -- a call answers on it what it answers on the sheet of whole numbers

@@ -7,10 +7,10 @@ use mathlib.Core.Option.{Option, none, some, Option·map}
 use lib.ListN.{length-map, take}
 use Rattle.basics.specs.Options.{present}
 use Rattle.basics.specs.Lists.{isEmpty, any}
-use Rattle.definitions.specs.Domain.{isPenalty, isNumber}
+use Rattle.definitions.specs.Domain.{isPenalty, isNumber, isClosed, closedApart, isLeg}
 use Rattle.definitions.specs.Sheet.{WindowOf, BreakOf, CustomerOf, SheetOf, Sheet, records, mapWindow, mapBreak, mapCustomer, mapSheet, soft, anySoft}
 use Rattle.definitions.specs.Lent.{Lent, whole, wholeSheet, Call}
-use Rattle.definitions.specs.Refusals.{unfit, badOptional, badBreak, badWindow, badCustomer, badDepot, badSheet, outOfRange, windowFalls, breakFalls, pairsFall, refusals, refusalOf}
+use Rattle.definitions.specs.Refusals.{unfit, badOptional, badBreak, badWindow, badCustomer, badDepot, badSheet, outOfRange, windowFalls, breakFalls, pairsFall, disagree, closuresDiffer, anyClosed, refusals, refusalOf}
 use Rattle.definitions.specs.Answers.{unlessRefused, answer}
 
 -- ---- maps
@@ -82,6 +82,11 @@ module _ {F : Type 0} (value : F → Option ℕ) where
       go none = refl
       go (some w) = refl
 
+  disagree-meant : (ds ts : List F) → disagree itself (map value ds) (map value ts) ≡ disagree value ds ts
+  disagree-meant [] ts = refl
+  disagree-meant (d ∷ ds) [] = refl
+  disagree-meant (d ∷ ds) (t ∷ ts) = ap (λ (b : Bool). closedApart (whole value d) (whole value t) || b) (disagree-meant ds ts)
+
   soft-meant : (c : CustomerOf F) → soft (mapCustomer value c) ≡ soft c
   soft-meant c = rw (present-map (mapWindow value) (c .window), present-map value (c .penalty)) refl
 
@@ -99,8 +104,8 @@ module _ {F : Type 0} (value : F → Option ℕ) where
           records-meant,
           depot-meant (records s),
           any-map (mapCustomer value) (badCustomer value) (badCustomer itself) customer-meant (records s),
-          any-map value (unfit value isNumber) (unfit itself isNumber) (λ x. refl) (s .legs .distances),
-          any-map value (unfit value isNumber) (unfit itself isNumber) (λ x. refl) (s .legs .times),
+          any-map value (unfit value isLeg) (unfit itself isLeg) (λ x. refl) (s .legs .distances),
+          any-map value (unfit value isLeg) (unfit itself isLeg) (λ x. refl) (s .legs .times),
         )
         refl
 
@@ -111,6 +116,15 @@ module _ {F : Type 0} (value : F → Option ℕ) where
         (ap (λ (b : Bool). breakFalls value (s .head .rest) || b)
         (any-map (mapCustomer value) (λ (c : CustomerOf F). windowFalls value (c .window))
         (λ (c : CustomerOf (Option ℕ)). windowFalls itself (c .window)) window-falls (records s)))
+
+    closures-meant : closuresDiffer itself (mapSheet value s .legs) ≡ closuresDiffer value (s .legs)
+    unfolding closuresDiffer
+    closures-meant = disagree-meant (s .legs .distances) (s .legs .times)
+
+    closed-meant : anyClosed itself (mapSheet value s .legs) ≡ anyClosed value (s .legs)
+    unfolding anyClosed
+    closed-meant =
+        any-map value (λ (x : F). isClosed (whole value x)) (λ (o : Option ℕ). isClosed (whole itself o)) (λ x. refl) (s .legs .distances)
 
     pay-meant : anySoft (records (mapSheet value s)) ≡ anySoft (records s)
     unfolding anySoft
@@ -168,8 +182,10 @@ module _ {F : Type 0} (value : F → Option ℕ) where
         empty-map value (s .legs .times),
         bad-meant s,
         pairs-meant s,
+        closures-meant s,
         present-map (mapBreak value) (s .head .rest),
         pay-meant s,
+        closed-meant s,
       )
       refl
 

@@ -20,9 +20,9 @@ use Rattle.models.specs.declared.head.Head.{Head}
 use Rattle.lending.specs.Padding.{padded}
 use Rattle.refuse_order.specs.Lent.{sheetOf, Gathered}
 use Rattle.refuse_order.specs.Order.{Refuses, Images}
-use Rattle.split.specs.Answer.{ResultF, Counted}
+use Rattle.split_tw.specs.Answer.{ResultF, Counted}
 use Rattle.cut_exact.proofs.Image.{flResult}
-use Rattle.split.specs.declared.split.SplitResult.{SplitResult}
+use Rattle.split_tw.specs.declared.answer.SplitResult.{SplitResult}
 use Rattle.call_cuts.specs.declared.cutting.Cut.{Cut}
 use Rattle.call_cuts.specs.declared.cutting.Cut.the-variants as Cases
 use Rattle.call_shared.specs.Answers.{Answers}

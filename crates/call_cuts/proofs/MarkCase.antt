@@ -17,7 +17,7 @@ use Rattle.whole.specs.Value.{value}
 use Rattle.whole.specs.Whole.{limit}
 use Rattle.models.specs.declared.customer.Customer.{Customer}
 use Rattle.refuse_order.specs.Lent.{Gathered}
-use Rattle.split.specs.Answer.{ResultF}
+use Rattle.split_tw.specs.Answer.{ResultF}
 use Rattle.cut_rows.specs.Runs.{lent}
 use Rattle.split_tw.specs.SplitTw.{splitTwF}
 use Rattle.cut_exact.proofs.Image.{flResult}

@@ -12,12 +12,12 @@ use Rattle.theorems.proofs.Accepted.{Accepted}
 use Rattle.whole.specs.Value.{value}
 use Rattle.models.specs.declared.customer.Customer.{Customer}
 use Rattle.refuse_order.specs.Lent.{sheetOf, lentOf, Gathered}
-use Rattle.split.specs.Split as Split
-use Rattle.split.specs.Split.{splitF}
-use Rattle.cut_rows.specs.Runs as Runs
+use Rattle.cut_rows.specs.Runs.{Instance, lent}
+use Rattle.split.specs.Split.{bareLent}
 use Rattle.split_tw.specs.SplitTw.{splitTwF}
-use Rattle.cut_exact.proofs.Image.{Image, flResult}
+use Rattle.cut_exact.proofs.Image.{flResult}
 use Rattle.cut_exact.proofs.SplitTwExact.{ImageTw}
+use Rattle.cut_exact.proofs.BareImage.{bare-image}
 use Rattle.cut_exact.proofs.Exact.{split-exact, split-tw-exact}
 use Rattle.call_shared.proofs.Accepting.{limits-held, tables-hold}
 use Rattle.call_cuts.proofs.CutAnswers.{Asked, meantWith, Matches}
@@ -30,11 +30,11 @@ module _ (k : Call) (Q : Asked) (calls ends breaks rooms : List ℕ) (customers 
   s = meantWith Q customers
 
   -- what is lent to either
-  abbrev plain : Split.Instance
-  plain = let h = Q .head in Split.lent (Q .array) (Q .distances) (h .places) (h .capacity) (h .«fixed_cost»)
+  abbrev plain : Instance
+  plain = let h = Q .head in bareLent (Q .array) (Q .distances) (Q .times) (h .places) (h .capacity) (h .«fixed_cost»)
 
-  abbrev timed : Runs.Instance
-  timed = let h = Q .head in Runs.lent (Q .array) (Q .distances) (Q .times) (h .places) (h .capacity) (h .«fixed_cost») (h .limits)
+  abbrev timed : Instance
+  timed = let h = Q .head in lent (Q .array) (Q .distances) (Q .times) (h .places) (h .capacity) (h .«fixed_cost») (h .limits)
 
   -- the sheet that is meant stands in it
   pub timed-holds : ImageTw s timed
@@ -48,19 +48,11 @@ module _ (k : Call) (Q : Asked) (calls ends breaks rooms : List ℕ) (customers 
         fixed-holds = ap (λ (x : SheetOf Float). x .head .fixed) held;
       }
 
-  plain-holds : Image s plain
-  plain-holds =
-      let tables = timed-holds .tables-hold in
-      record {
-        customers-hold = tables .records-are;
-        distances-hold = tables .distances-are;
-        size-holds = tables .size-is;
-        capacity-holds = timed-holds .capacity-holds;
-        fixed-holds = timed-holds .fixed-holds;
-      }
-
-  pub split-holds : splitF plain (Q .tour) ≡ flResult (split s (Q .tour))
-  split-holds = split-exact s (accepted .within) (Q .tour) (accepted .tour) plain plain-holds
+  pub split-holds : splitTwF plain (Q .tour) ≡ flResult (split s (Q .tour))
+  split-holds =
+      let h = Q .head in
+      split-exact s (accepted .within) (Q .tour) (accepted .tour) plain
+      (bare-image s (Q .array) (Q .distances) (Q .times) (h .places) (h .capacity) (h .«fixed_cost») (h .limits) timed-holds)
 
   pub split-tw-holds : splitTwF timed (Q .tour) ≡ flResult (splitTw s (Q .tour))
   split-tw-holds = split-tw-exact s (accepted .within) (Q .tour) (accepted .tour) timed timed-holds

@@ -13,7 +13,7 @@ use Rattle.whole.specs.Value.{value}
 use Rattle.models.specs.declared.customer.Customer.{Customer}
 use Rattle.models.specs.declared.head.Head.{Head}
 use Rattle.refuse_order.specs.Lent.{sheetOf, lentOf}
-use Rattle.split.specs.declared.split.SplitResult.{SplitResult}
+use Rattle.split_tw.specs.declared.answer.SplitResult.{SplitResult}
 use Rattle.call_cuts.specs.declared.cutting.Cut.{Cut}
 use Rattle.call_cuts.specs.declared.cutting.Cut.the-variants as Cases
 use Rattle.call_shared.specs.Answers.{Answers}

@@ -4,7 +4,7 @@ ghost use Rattle.call_cuts.specs.Cutting.{splitFor, splitTwFor, Cuts};
 use models::customer::Customer;
 use models::head::Head;
 use refuse_order::by_call::refuse_cutting;
-use split::split::SplitResult;
+use split_tw::answer::SplitResult;
 
 // What is written is told by its counts.
 pub enum Cut {
@@ -12,7 +12,7 @@ pub enum Cut {
     Cut(SplitResult),
 }
 
-// By capacity alone.
+// By loads and closed legs alone.
 pub fn split(
     head: Head,
     all: [Customer; 64],
@@ -50,6 +50,7 @@ pub fn split(
         tour,
         all,
         distances,
+        times,
         head.places,
         head.capacity,
         head.fixed_cost,
@@ -60,7 +61,7 @@ pub fn split(
     Cut::Cut(counts)
 }
 
-// By capacity, windows, limits and break.
+// By loads, closed legs, windows, limits and break.
 pub fn split_tw(
     head: Head,
     all: [Customer; 64],

@@ -1,6 +1,6 @@
 -- The answer of `eliminate_routes` and what it writes: refused with nothing written, or the calls and the run ends that are left. Assumes nothing.
 use Prim.Native.Nat.{ℕ, _≤_}
-use mathlib.Core.Path.{_≡_, sym, ap, _∙_}
+use mathlib.Core.Path.{_≡_, refl, sym, ap, _∙_}
 use mathlib.Core.Bool.{false}
 use mathlib.Core.List.{List, [], _∷_}
 use lib.ListN.{length}
@@ -22,7 +22,7 @@ use Rattle.route_elimination.specs.declared.route_elimination.Left.{Left}
 use Rattle.call_improvers.specs.declared.eliminating.Elimination.the-variants as Cases
 use Rattle.call_shared.specs.Answers.{Answers}
 use Rattle.call_improvers.specs.Eliminating.{eliminateFor, leftOf, eliminationIn, Eliminates}
-use Rattle.call_improvers.proofs.ImproverAnswers.{Asked, meantWith, toldF, Refused, Imaged, improver-accepted, refused-improver, given-improver}
+use Rattle.call_improvers.proofs.ImproverAnswers.{Asked, meantWith, toldF, Refused, Open, Imaged, improver-accepted, improver-open, refused-improver, given-improver}
 use Rattle.call_improvers.proofs.EliminationCase.{givenBy, elimination-holds}
 
 -- runs as they are written
@@ -51,15 +51,15 @@ module _ (Q : Asked) (ends : List ℕ) (out : Lists) (number : ℕ) (refuses : R
   abbrev pub answered : List Customer → Answer Eliminated
   answered = eliminateFor (Q .head) (Q .distances) (Q .times) (Q .calls) ends (out .calls) (out .ends)
 
-  -- an accepted run list is as the code asks for it, and the lists are long enough for it
-  pub elimination-room : number ≡ 0 → length (Q .array) ≡ 64
+  -- an accepted run list is as the code asks for it, the lists are long enough for it, and the tables close no leg
+  pub elimination-room : Imaged Q number → number ≡ 0 → length (Q .array) ≡ 64
       → ((length (Q .calls) ≤ mostCalls) × (length ends ≤ mostCalls) × (endsFall 0 ends (length (Q .calls)) ≡ false))
-      × ((length (Q .calls) ≤ length (out .calls)) × (length ends ≤ length (out .ends)))
-  elimination-room z full =
+      × (((length (Q .calls) ≤ length (out .calls)) × (length ends ≤ length (out .ends))) × Open Q)
+  elimination-room images z full =
       let a = improver-accepted eliminating Q ends rooms number refuses z full in
       let s = meantWith Q (padded (Q .count) (Q .array)) in (
         (few-calls s (Q .calls) (a .calls), ltb-false mostCalls (length ends) (a .runs .few), a .runs .ends),
-        (a .results .0, a .results .1 .0),
+        ((a .results .0, a .results .1 .0), improver-open eliminating Q ends rooms number refuses refl images z full),
       )
 
   pub refused-elimination : (number ≡ 0 → ⊥)

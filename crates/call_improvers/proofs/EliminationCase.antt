@@ -1,13 +1,16 @@
 -- On a sheet that is meant and accepted, route elimination by what it is told leaves the runs that crates/definitions says. Assumes nothing.
 use Prim.Native.Nat.{ℕ}
 use mathlib.Core.Path.{_≡_, refl, ap}
+use mathlib.Core.Bool.{false}
 use mathlib.Core.List.{List}
+use mathlib.Core.Option.{some}
 use lib.Ieee.{Float}
 use Rattle.definitions.specs.Sheet.{SheetOf, Sheet}
 use Rattle.definitions.specs.Improver.{givenOf}
 use Rattle.definitions.specs.RunList.{runsOf}
 use Rattle.definitions.specs.Elimination.{eliminated}
 use Rattle.definitions.specs.Lent.{eliminating}
+use Rattle.definitions.specs.Refusals.{anyClosed}
 use Rattle.theorems.proofs.Accepted.{Accepted}
 use Rattle.whole.specs.Value.{value}
 use Rattle.models.specs.declared.customer.Customer.{Customer}
@@ -33,11 +36,12 @@ module _ (Q : Asked) (cs : List Customer) (held : Matches Q cs) (I : Evaluation.
   given = givenBy Q (told s (tablesIn Q))
 
   -- what is given holds the sheet that is meant
-  given-holds : Image s given
+  given-holds : anyClosed some (s .legs) ≡ false → Image s given
   unfolding searchF
-  given-holds =
+  given-holds O =
       record {
         tables-hold = I;
+        none-closed = O;
         capacity-holds = ap (λ (x : SheetOf Float). x .head .capacity) held;
         fixed-holds = ap (λ (x : SheetOf Float). x .head .fixed) held;
         limits-hold = refl;
@@ -47,4 +51,4 @@ module _ (Q : Asked) (cs : List Customer) (held : Matches Q cs) (I : Evaluation.
   -- the runs that are left
   pub elimination-holds : (ends rooms : List ℕ) → Accepted value eliminating (lentWith Q ends rooms cs)
       → eliminatedF given (runsOf (Q .calls) ends) ≡ eliminated (givenOf s) (runsOf (Q .calls) ends)
-  elimination-holds ends rooms a = elimination-exact s (a .within) given given-holds (Q .calls) ends (a .calls) (a .runs .ends)
+  elimination-holds ends rooms a = elimination-exact s (a .within) given (given-holds (a .drivable refl)) (Q .calls) ends (a .calls) (a .runs .ends)

@@ -1,6 +1,7 @@
 -- The answer of an improver, whichever it is, from what it is told of the sheet that is meant. Assumes nothing.
 use Prim.Native.Nat.{ℕ}
 use mathlib.Core.Path.{_≡_, ap, _∙_}
+use mathlib.Core.Bool.{true}
 use mathlib.Core.List.{List, [], map}
 use lib.ListN.{length}
 use lib.Ieee.{Float}
@@ -10,6 +11,7 @@ use Rattle.definitions.specs.Sheet.{Sheet, own}
 use Rattle.definitions.specs.Lent.{Lent, Call}
 use Rattle.definitions.specs.Answers.{Answer, refused, gives, answer}
 use Rattle.theorems.proofs.Accepted.{Accepted}
+use Rattle.bounds.proofs.Inside.{sized}
 use Rattle.whole.specs.Value.{value}
 use Rattle.models.specs.Image.{flSheet}
 use Rattle.models.specs.Records.{customerOf}
@@ -20,7 +22,9 @@ use Rattle.refuse_order.specs.Lent.{sheetFor, lentFor}
 use Rattle.refuse_order.specs.Order.{Refuses, Images}
 use Rattle.evaluation.specs.Records.{Tables, LimitsF, lent, limitsOf}
 use Rattle.evaluation.specs.Image.{Image}
+use Rattle.improve_base.specs.Leg.{AllOpen}
 use Rattle.improve_base.specs.Search.{SearchF, searchF, told}
+use Rattle.improve_base.proofs.LegExact.{tables-open}
 use Rattle.call_shared.specs.Answers.{Answers}
 use Rattle.call_shared.proofs.Accepting.{lentSheet, meant, limits-held, tables-hold}
 use Rattle.call_shared.proofs.CallAnswers.{accepted, refused-call, accepted-call}
@@ -58,6 +62,10 @@ module _ (Q : Asked) where
   abbrev pub Refused : Call → (ends rooms : List ℕ) → ℕ → Type 0
   Refused k ends rooms number = Refuses k (lentWith ends rooms) (Q .count) (Q .array) number
 
+  -- as the code of the improvers asks for the tables
+  abbrev pub Open : Type 0
+  Open = AllOpen (Q .distances) × AllOpen (Q .times)
+
   abbrev pub Imaged : ℕ → Type 0
   Imaged number = Images (sheetFor (Q .head) (Q .distances) (Q .times)) (Q .count) (Q .array) number
 
@@ -67,6 +75,16 @@ module _ (k : Call) (Q : Asked) (ends rooms : List ℕ) (number : ℕ) (refuses 
   improver-accepted z full =
       accepted k (Q .head) (Q .array) (Q .count) (Q .distances) (Q .times) [] (Q .calls) ends [] rooms number refuses z
       (padded (Q .count) (Q .array)) (gathered-from (Q .array) full (Q .count))
+
+  -- and its tables close no leg
+  pub improver-open : k .improves ≡ true → Imaged Q number → number ≡ 0 → length (Q .array) ≡ 64 → Open Q
+  improver-open improves images z full =
+      let cs = padded (Q .count) (Q .array) in
+      let G = gathered-from (Q .array) full (Q .count) in
+      let a = improver-accepted z full in
+      let placed = not-false (isPlaces (Q .head .places)) (a .ranged .places) in
+      let I = tables-hold (Q .head) cs (Q .distances) (Q .times) (Q .count) (Q .array) G (images z cs G) placed (a .customers) in
+      tables-open (meantWith Q cs) (sized (meantWith Q cs) (a .within)) (a .drivable improves) (tablesIn Q) I (a .within .closed-alike)
 
   module _ {A R : Type 0} (result : Sheet → A) (of : Answer A → R) where
     -- of the customers lent

@@ -1,6 +1,6 @@
 -- The answer of `two_opt_improve` and what it writes: refused with nothing written, or the calls and the distance of the improved run. Assumes nothing.
 use Prim.Native.Nat.{ℕ, _≤_}
-use mathlib.Core.Path.{_≡_, sym, ap, _∙_}
+use mathlib.Core.Path.{_≡_, refl, sym, ap, _∙_}
 use mathlib.Core.List.{List, [], _∷_}
 use lib.ListN.{length}
 use lib.Ieee.{Float}
@@ -24,7 +24,7 @@ use Rattle.call_improvers.specs.declared.reversing.Reversed.{Reversed}
 use Rattle.call_improvers.specs.declared.reversing.Reversed.the-variants as Reverseds
 use Rattle.call_shared.specs.Answers.{Answers}
 use Rattle.call_improvers.specs.Reversing.{reverseFor, reversedIn, Reverses}
-use Rattle.call_improvers.proofs.ImproverAnswers.{Asked, lentWith, tablesIn, meantWith, toldF, Refused, Imaged, improver-accepted, refused-improver, given-improver}
+use Rattle.call_improvers.proofs.ImproverAnswers.{Asked, lentWith, tablesIn, meantWith, toldF, Refused, Open, Imaged, improver-accepted, improver-open, refused-improver, given-improver}
 
 -- a run of so many calls and that distance
 abbrev answerOf : ℕ → Float → Reversed
@@ -49,9 +49,12 @@ module _ (Q : Asked) (list : List ℕ) (number : ℕ) (refuses : Refused Q rever
   abbrev pub answered : List Customer → Answer Improved
   answered = reverseFor (Q .head) (Q .distances) (Q .times) run list
 
-  -- the list is long enough for an accepted run
-  pub reversal-room : number ≡ 0 → length (Q .array) ≡ 64 → length run ≤ length list
-  reversal-room z full = improver-accepted reversing Q [] rooms number refuses z full .results .0
+  -- the list is long enough for an accepted run, and the tables close no leg
+  pub reversal-room : Imaged Q number → number ≡ 0 → length (Q .array) ≡ 64 → (length run ≤ length list) × Open Q
+  reversal-room images z full = (
+    improver-accepted reversing Q [] rooms number refuses z full .results .0,
+    improver-open reversing Q [] rooms number refuses refl images z full,
+  )
 
   pub refused-reversal : (number ≡ 0 → ⊥) → Reverses answered (Q .count) (Q .array) list (Reverseds.Refused number) list
   refused-reversal h = record { answer = by reversedIn; calls-left = by (leftBy list) }
@@ -61,7 +64,7 @@ module _ (Q : Asked) (list : List ℕ) (number : ℕ) (refuses : Refused Q rever
 
   -- on a sheet that is meant the code's run is the whole-number one
   exact : (cs : List Customer) → Accepted value reversing (lentWith Q [] rooms cs) → Image (meantWith Q cs) (tablesIn Q) → AsDefined (meantWith Q cs) (tablesIn Q) run
-  exact cs a I = two-opt-exact (meantWith Q cs) (a .within) (tablesIn Q) I run (a .calls)
+  exact cs a I = two-opt-exact (meantWith Q cs) (a .within) (a .drivable refl) (tablesIn Q) I run (a .calls)
 
   pub given-reversal : Imaged Q number → number ≡ 0 → (search : SearchF) → search ≡ toldF Q (limitsOf (Q .head .limits))
       → (d : Float) → d ≡ improvedDistanceF (tablesIn Q) search run → {list' : List ℕ} → list' ≡ written (improvedF (tablesIn Q) search run) list

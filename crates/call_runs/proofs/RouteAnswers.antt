@@ -1,8 +1,10 @@
 -- The answer of `build_route` and what it writes: refused with nothing written, or the counts of the lists that are written, for which there is room. Assumes nothing.
 use Prim.Native.Nat.{ℕ, suc, _≤_, zero-le, min}
 use native.Mathlib.Omega.{arith}
+use native.Mathlib.Nat.{le-refl}
 use mathlib.Core.Path.{_≡_, refl, sym, ap, subst, _∙_}
 use mathlib.Core.List.{List, [], _∷_}
+use mathlib.Core.Option.{Option, none, some}
 use lib.ListN.{length, take, length-map}
 use lib.Ieee.{Float}
 use Rattle.basics.proofs.TestLaws.{not-false}
@@ -10,12 +12,14 @@ use Rattle.bounds.proofs.Inside.{few-calls}
 use Rattle.definitions.specs.Domain.{mostCalls, isPlaces}
 use Rattle.definitions.specs.Load.{Load, noLoad}
 use Rattle.definitions.specs.Sheet.{SheetOf, Sheet}
-use Rattle.definitions.specs.Run.{Label}
+use Rattle.definitions.specs.Run.{Label, start, firstClosed}
+use Rattle.definitions.specs.Clock.{clock, placeOr}
 use Rattle.definitions.specs.Visits as Whole
-use Rattle.definitions.specs.Visits.{visitsFrom, buildRoute}
+use Rattle.definitions.specs.Visits.{visitsFrom, openRoute, buildRoute}
 use Rattle.definitions.specs.Lent.{Lent, violationRoom, visiting}
 use Rattle.definitions.specs.Room.{written}
 use Rattle.definitions.specs.Answers.{Answer, gives}
+use Rattle.theorems.proofs.Visiting.{route-closed, route-open}
 use Rattle.theorems.proofs.Violations.{violations-room}
 use Rattle.models.specs.declared.customer.Customer.{Customer}
 use Rattle.models.specs.declared.head.Head.{Head}
@@ -28,7 +32,7 @@ use Rattle.evaluation.specs.Records.{LimitsF, Tables, lent, limitsOf}
 use Rattle.visits.specs.declared.evaluator.Built.{Built}
 use Rattle.visits.specs.Visiting.{loadIn}
 use Rattle.visits.specs.Building.{RouteF, Builds, builtOf, buildRouteF}
-use Rattle.visits.specs.Image.{flViolation, flRoute}
+use Rattle.visits.specs.Image.{flVisit, flViolation, flRoute}
 use Rattle.visits.proofs.BuildExact.{built-exact}
 use Rattle.call_runs.specs.declared.visiting.Listed.{Listed}
 use Rattle.call_runs.specs.declared.visiting.Route.the-variants as Cases
@@ -47,9 +51,14 @@ unfolding visitsFrom
 visits-counted s place k a l n [] = refl
 visits-counted s place k a l n (c ∷ cs) = ap suc (visits-counted s place (suc k) c _ _ cs)
 
-route-counted : (s : Sheet) (calls : List ℕ) → length (buildRoute s calls .visits) ≡ length calls
-unfolding buildRoute
-route-counted s calls = visits-counted s _ 1 0 _ noLoad calls
+-- and none of a run with a closed leg
+route-counted : (s : Sheet) (calls : List ℕ) → length (buildRoute s calls .visits) ≤ length calls
+unfolding openRoute
+route-counted s calls = go (firstClosed s calls) refl
+  where
+    go : (o : Option ℕ) → firstClosed s calls ≡ o → length (buildRoute s calls .visits) ≤ length calls
+    go (some leg) e = rw (route-closed s calls leg e) zero-le
+    go none e = rw (route-open s calls e, visits-counted s (placeOr (clock s calls)) 1 0 start noLoad calls) (le-refl (length calls))
 
 module _ (t : Tables) (capacity : Load) (limits : LimitsF) (s : Sheet) (run : List ℕ) (b : Built) (B : Builds t capacity limits run b)
     (exact : buildRouteF t capacity limits run ≡ flRoute (buildRoute s run)) where
@@ -60,7 +69,7 @@ module _ (t : Tables) (capacity : Load) (limits : LimitsF) (s : Sheet) (run : Li
   held = B .built-is ∙ exact
 
   count-held : b .count ≡ length (x .visits)
-  count-held = B .count-is ∙ sym (route-counted s run)
+  count-held = B .count-is ∙ ap (λ (r : RouteF). length (r .visits)) exact ∙ length-map (x .visits) flVisit
 
   found-held : b .found ≡ length (x .violations)
   found-held = B .found-is ∙ ap (λ (r : RouteF). length (r .violations)) exact ∙ length-map (x .violations) flViolation
@@ -88,7 +97,7 @@ module _ (t : Tables) (capacity : Load) (limits : LimitsF) (s : Sheet) (run : Li
         route-is = ap Cases.Built figures-held;
         visits-are = ap (λ (r : RouteF). r .visits) held;
         violations-are = ap (λ (r : RouteF). r .violations) held;
-        visits-fit = omega (arith, B .count-is, v);
+        visits-fit = omega (arith, count-held, route-counted s run, v);
         violations-fit = omega (arith, found-held, violations-room s run, w);
       }
 

@@ -3,6 +3,7 @@ use Prim.Native.Nat.{ℕ, _+_, _-_, _<_, _≤_}
 use native.Mathlib.Omega.{arith}
 use mathlib.Core.Path.{_≡_, refl, ap, _∙_}
 use mathlib.Core.List.{List}
+use mathlib.Core.Option.{Option}
 use lib.ListN.{length, getD, set, length-set}
 use lib.Seq.{getD-set-same}
 use lib.Dec.{ltb}
@@ -10,9 +11,11 @@ use borrow.Author.Tests.{ltb-true, ltb-false}
 use Rattle.basics.proofs.TestLaws.{by-test}
 use Rattle.cut_theory.specs.Tab.{cells}
 use Rattle.cut_theory.proofs.TabLaws.{length-tab}
+use Rattle.distance.specs.declared.leg.Leg.{Leg}
 use Rattle.evaluation.specs.Records.{Tables}
+use Rattle.evaluation.specs.Tables.{legF}
 use Rattle.cut_table.specs.Table.{Table}
-use Rattle.cut_stops.specs.Stops.{StopsOf, Lookups, lookupsIn, LegLists, LegsAre, LegsWritten}
+use Rattle.cut_stops.specs.Stops.{StopsOf, LegLists, LegsAre, LegsWritten}
 use Rattle.cut_rows.specs.Tariff.{Tariff, TableOf}
 use Rattle.cut_rows.specs.Runs.{Instance, tariff, RowLists, Rowed}
 use Rattle.cut_rows.proofs.Along.{held-row}
@@ -21,7 +24,7 @@ use Rattle.cut_drops.specs.Refill.{Rows, RowsLong, NotedRow, FrontOf, Re
 -- ---- the legs of the calls held
 
 -- the legs before number q stay, and the others are written
-pub legs-joined : (t : Tables) (held : List ℕ) (q : ℕ) (old new : LegLists) → LegsTo (lookupsIn t) held q old → LegsWritten (lookupsIn t) held q old new
+pub legs-joined : (t : Tables) (held : List ℕ) (q : ℕ) (old new : LegLists) → LegsTo (legF t) held q old → LegsWritten (legF t) held q old new
     → LegsAre t held new
 unfolding LegsAre LegsTo
 legs-joined t held q old new L W k p h =
@@ -34,16 +37,16 @@ legs-joined t held q old new L W k p h =
     (λ f. W .written k (ltb-false k q f) p h)
 
 -- where they are all of the calls', those before any number are; and the other way round, where no call has that number
-pub legs-part : (t : Tables) (held : List ℕ) (q : ℕ) (legs : LegLists) → LegsAre t held legs → LegsTo (lookupsIn t) held q legs
+pub legs-part : (t : Tables) (held : List ℕ) (q : ℕ) (legs : LegLists) → LegsAre t held legs → LegsTo (legF t) held q legs
 unfolding LegsAre LegsTo
 legs-part t held q legs L k p b h = L k p h
 
-pub legs-whole : (t : Tables) (held : List ℕ) (q : ℕ) (legs : LegLists) → length held ≤ q → LegsTo (lookupsIn t) held q legs → LegsAre t held legs
+pub legs-whole : (t : Tables) (held : List ℕ) (q : ℕ) (legs : LegLists) → length held ≤ q → LegsTo (legF t) held q legs → LegsAre t held legs
 unfolding LegsAre LegsTo
 legs-whole t held q legs f L k p h = L k p (omega arith) h
 
 -- all are, as they are written at first
-pub legs-begun : (by : Lookups) (held : List ℕ) (n : ℕ) (old new : LegLists) → LegsWritten by held 0 old new → LegsTo by held n new
+pub legs-begun : (by : ℕ → ℕ → Option Leg) (held : List ℕ) (n : ℕ) (old new : LegLists) → LegsWritten by held 0 old new → LegsTo by held n new
 unfolding LegsTo
 legs-begun by held n old new W k p b h = W .written k (omega arith) p h
 

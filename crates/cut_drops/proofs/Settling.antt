@@ -26,10 +26,11 @@ use Rattle.cut_theory.proofs.CarriedLaws.{next}
 use Rattle.definitions.specs.Drop.{callAt, callsAt, Held, dropAt, allHeld}
 use Rattle.definitions.specs.Room.{written}
 use Rattle.evaluation.specs.Records.{Tables}
+use Rattle.evaluation.specs.Tables.{legF}
 use Rattle.cut_table.specs.Table.{Calls, DropCall}
 use Rattle.cut_table.proofs.Writing.{front-written}
 use Rattle.cut_table.proofs.Holding.{Holding, all-holding, call-goes}
-use Rattle.cut_stops.specs.Stops.{Below64, lookupsIn, LegLists, LegsLong, LegsAre, Numbers, stopIn, stopAt, StopsOf}
+use Rattle.cut_stops.specs.Stops.{Below64, LegLists, LegsLong, LegsAre, Numbers, stopIn, stopAt, StopsOf}
 use Rattle.cut_rows.specs.Tariff.{stretches, runsOf, farsOf, TableOf}
 use Rattle.cut_rows.specs.Runs.{Instance, tariff}
 use Rattle.cut_drops.specs.Drops.{haveF, stuckF, dropFromF, dropsF}
@@ -80,7 +81,7 @@ module _ (n i : ℕ) (held held' : List ℕ) (b : i < n) (long : n ≤ length he
   stops-after t x w = subst (λ (l : List ℕ). StopsOf t l x) (sym less) (without-stops t x i (take n held) w)
 
   -- the legs before the dropped call are those of the calls that are left
-  pub legs-kept : (t : Tables) (legs : LegLists) → LegsAre t (take n held) legs → LegsTo (lookupsIn t) (take (n - 1) held') i legs
+  pub legs-kept : (t : Tables) (legs : LegLists) → LegsAre t (take n held) legs → LegsTo (legF t) (take (n - 1) held') i legs
   unfolding LegsAre LegsTo
   legs-kept t legs L k p g h =
       let a = L k p (omega (arith, length-take-le n held long)) in
@@ -195,7 +196,7 @@ module _ (I : Instance) (tour : List ℕ) where
 
   -- at first all calls are held, and no row is filled
   pub all-settling : (n : ℕ) (x : Work) → length tour ≡ n → take n (x .calls .held) ≡ tour → take n (x .calls .positions) ≡ count 1 n
-      → LegsTo (lookupsIn (I .tables)) (take n (x .calls .held)) n (x .legs) → TableOf (tariff I) (take n (x .calls .held)) 0 (x .rows .table)
+      → LegsTo (legF (I .tables)) (take n (x .calls .held)) n (x .legs) → TableOf (tariff I) (take n (x .calls .held)) 0 (x .rows .table)
       → LegsLong (x .legs) → length (x .rows .reach) ≡ cells → Settling I tour (x .calls .dropped) n 0 x
   unfolding dropsF
   all-settling n x e eh ep L T ll lr =

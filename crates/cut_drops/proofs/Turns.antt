@@ -19,7 +19,7 @@ use Rattle.cut_table.specs.Table.{Calls, DropCall}
 use Rattle.cut_rows.specs.Tariff.{stretches, runsOf, farsOf}
 use Rattle.cut_rows.specs.Runs.{Instance, over, tariff, RowLists}
 use Rattle.cut_drops.specs.Drops.{haveF}
-use Rattle.cut_drops.specs.Refill.{Rows, RowsLong, NotedRow, Noted, Refilled, Given, lookupsGiven, tablesWith, instanceWith, ListsOf, SomeLists, Work, work, Filled, Turned, RowOrDrop, Unfilled, StuckReady, Holds}
+use Rattle.cut_drops.specs.Refill.{Rows, RowsLong, NotedRow, Noted, Refilled, Given, legsGiven, tablesWith, instanceWith, ListsOf, SomeLists, Work, work, Filled, Turned, RowOrDrop, Unfilled, StuckReady, Holds}
 use Rattle.cut_drops.proofs.Noting.{noted-long, legs-joined, noted-at, refilled-at}
 use Rattle.cut_drops.proofs.Settling.{legs-kept, below-after, stops-after, have-is, filled-more, front-after, early-after, Settling, Roomy, one-on, one-less, all-settling, stayed}
 
@@ -83,7 +83,7 @@ module _ (E : Given) where
 
       -- it has none: its last call goes, the legs from there on are written, and the rows before it filled again
       pub row-drops : lt (getD (new .table .cost) (i + 1) nan) top ≡ false → (y : Work) → DropCall n i gone (x .calls) (y .calls)
-          → LegsWritten (lookupsGiven E) (take (n - 1) (y .calls .held)) i (x .legs) (y .legs)
+          → LegsWritten (legsGiven E) (take (n - 1) (y .calls .held)) i (x .legs) (y .legs)
           → Refilled byTables (rowsOf (take (n - 1) (y .calls .held)) (y .legs)) i new (y .rows) → RowOrDrop E n i gone false x y
       unfolding RowOrDrop
       row-drops h y D G A customers W F =

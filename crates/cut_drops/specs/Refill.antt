@@ -4,6 +4,7 @@ use Prim.Native.Nat.{ℕ, suc, _+_, _-_, _<_, _≤_}
 use mathlib.Core.Path.{_≡_}
 use mathlib.Core.Bool.{Bool, true, false}
 use mathlib.Core.List.{List}
+use mathlib.Core.Option.{Option}
 use lib.ListN.{length, getD, set, take, drop, replicate}
 use lib.Ieee.{Float, nan, inf}
 use Rattle.basics.specs.Lists.{count}
@@ -15,11 +16,13 @@ use Rattle.cut_theory.specs.Carried.{Carry, carriedTo}
 use Rattle.definitions.specs.Drop.{callsAt}
 use Rattle.definitions.specs.Room.{written}
 use Rattle.whole.specs.Whole.{fl}
+use Rattle.distance.specs.declared.leg.Leg.{Leg}
+use Rattle.distance.specs.Lookup.{driveF}
 use Rattle.cut_table.specs.Table.{Table, table, Sized, Calls, MayDrop, DropCall}
 use Rattle.models.specs.declared.customer.Customer.{Customer}
 use Rattle.evaluation.specs.Records as Records
 use Rattle.evaluation.specs.Records.{Tables}
-use Rattle.cut_stops.specs.Stops.{Numbers, numbers, StopsOf, Below64, Lookups, lookups, LegLists, LegsLong, LegIs, LegsAre}
+use Rattle.cut_stops.specs.Stops.{Numbers, numbers, StopsOf, Below64, LegLists, LegsLong, LegIs, LegsAre}
 use Rattle.cut_rows.specs.Tariff.{Tariff, stretches, runsOf, farsOf, TableOf, HeldRow, Ended}
 use Rattle.cut_rows.specs.declared.terms.Terms.{Terms}
 use Rattle.cut_rows.specs.Runs.{Instance, over, tariff, RowLists, RowReady}
@@ -84,7 +87,7 @@ module _ (T : Tariff) (held : List ℕ) where
   EarlyBelow q reach = (s : ℕ) → s < q → getD reach s 0 < q → Reached reach s
 
 -- the legs before number q are those of the calls
-unfoldable pub LegsTo : Lookups → List ℕ → ℕ → LegLists → Type 0
+unfoldable pub LegsTo : (ℕ → ℕ → Option Leg) → List ℕ → ℕ → LegLists → Type 0
 LegsTo by held q legs = (k : ℕ) → 0 < k → k < q → k < length held → LegIs by held legs k
 
 -- the lists are worked out from some tables
@@ -121,8 +124,8 @@ given distances times size codes figures terms =
     record { distances = distances; times = times; size = size; stops = numbers codes figures; terms = terms }
 
 module _ (E : Given) where
-  abbrev pub lookupsGiven : Lookups
-  lookupsGiven = lookups (E .distances) (E .times) (E .size)
+  abbrev pub legsGiven : ℕ → ℕ → Option Leg
+  legsGiven = driveF (E .distances) (E .times) (E .size)
 
   -- with these customers
   abbrev pub tablesWith : List Customer → Tables
@@ -172,7 +175,7 @@ pub record TurnReady (E : Given) (n i gone : ℕ) (x : Work) : Type 0 where
   pub below : Below64 (take n (x .calls .held))
   pub rows-long : RowsLong (x .rows)
   pub legs-long : LegsLong (x .legs)
-  pub legs-are : LegsTo (lookupsGiven E) (take n (x .calls .held)) n (x .legs)
+  pub legs-are : LegsTo (legsGiven E) (take n (x .calls .held)) n (x .legs)
   pub lists : SomeLists E (take n (x .calls .held))
 
 -- a turn, where the rows below i are filled
@@ -203,7 +206,7 @@ pub record StuckReady (E : Given) (n : ℕ) (x : Work) : Type 0 where
   pub positions-are : take n (x .calls .positions) ≡ count 1 n
   pub reach-long : length (x .rows .reach) ≡ cells
   pub legs-long : LegsLong (x .legs)
-  pub legs-are : LegsTo (lookupsGiven E) (take n (x .calls .held)) n (x .legs)
+  pub legs-are : LegsTo (legsGiven E) (take n (x .calls .held)) n (x .legs)
   pub unfilled : Unfilled (x .rows .table)
   pub lists : SomeLists E (take n (x .calls .held))
 

@@ -5,7 +5,7 @@ ghost use lib.ListN.{take};
 ghost use Rattle.cut_stops.specs.Stops.{legLists, LegsWritten};
 ghost use Rattle.cut_table.specs.Table.{table, calls};
 ghost use Rattle.cut_rows.specs.Runs.{over, rowLists};
-ghost use Rattle.cut_drops.specs.Refill.{rows, NoteReady, LegsTo, Refilled, given, lookupsGiven, SomeLists, work, TurnReady, RowOrDrop, Unfilled, Front, StuckReady, Holds};
+ghost use Rattle.cut_drops.specs.Refill.{rows, NoteReady, LegsTo, Refilled, given, legsGiven, SomeLists, work, TurnReady, RowOrDrop, Unfilled, Front, StuckReady, Holds};
 use crate::refill::noted_row;
 use crate::refill::refill;
 use cut_rows::terms::Terms;
@@ -37,13 +37,13 @@ pub fn close_gap(
     requires { let x = rowLists (now held) (now legs) (now «time_legs») (now codes) (now figures) in
         ⌜ NoteReady x q (rows (now cost) (now dist) (now pred) (now reach)) ⌝ }
     requires { let E = given (now distances) (now times) size (now codes) (now figures) terms in
-        ⌜ SomeLists E (now held) × LegsTo (lookupsGiven E) (now held) q (legLists (now legs) (now «time_legs»)) ⌝ }
+        ⌜ SomeLists E (now held) × LegsTo (legsGiven E) (now held) q (legLists (now legs) (now «time_legs»)) ⌝ }
     ensures { λ _.
         let E = given (now (distances .entry)) (now (times .entry)) size
         (now (codes .entry)) (now (figures .entry)) terms in
         let old = legLists (now (legs .entry)) (now («time_legs» .entry)) in
         let new = legLists (now (legs .exit)) (now («time_legs» .exit)) in
-        ⌜ LegsWritten (lookupsGiven E) (now (held .entry)) q old new ⌝ }
+        ⌜ LegsWritten (legsGiven E) (now (held .entry)) q old new ⌝ }
     ensures { λ _.
         let x = rowLists (now (held .entry)) (now (legs .exit)) (now («time_legs» .exit))
         (now (codes .entry)) (now (figures .entry)) in

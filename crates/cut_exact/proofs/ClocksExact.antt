@@ -1,6 +1,7 @@
 -- On a sheet within the limits the clocks of a stretch on floats, with a break and without one, are those of its calls as a run of crates/definitions. Assumes nothing.
 use Prim.Native.Nat.{ℕ, zero, suc, _+_, _-_, _*_, _≤_, _<_}
 use native.Mathlib.Omega.{arith}
+use native.Mathlib.Numerals.{add-one}
 use native.Mathlib.Nat.{add-zero, mul-zero, zero-add, le-of-lt, suc-ne-zero}
 use mathlib.Core.Path.{_≡_, refl, sym, ap, ap₂, subst, _∙_}
 use mathlib.Core.List.{List, [], _∷_, _++_}
@@ -15,35 +16,42 @@ use Rattle.basics.proofs.TestLaws.{by-test}
 use Rattle.basics.specs.Options.{_>>=_, Holds}
 use Rattle.basics.proofs.OptionLaws.{same}
 use Rattle.basics.specs.Lists.{All}
-use Rattle.bounds.specs.Sized.{Small, SmallWindow, SmallCustomer, Sized, Place}
+use Rattle.bounds.specs.Sized.{Small, SmallWindow, SmallCustomer, SmallBreak, Sized, Place}
 use Rattle.basics.proofs.ListLaws.{all-take}
-use Rattle.bounds.proofs.Inside.{depot-inside, last-inside, call-inside, time-small, customer-small}
-use Rattle.bounds.specs.Bounds.{mostPay, Early, readyBy}
-use Rattle.bounds.proofs.BoundLaws.{enter-most, late-pay-most, serve-all-most, distance-most}
+use Rattle.bounds.proofs.Inside.{depot-inside, call-inside, leg-small, customer-small}
+use Rattle.bounds.specs.Bounds.{mostPay, Early, EarlyClock, readyBy}
+use Rattle.bounds.proofs.BoundLaws.{enter-most, late-pay-most, serve-all-most, clock-early, start-early}
 use Rattle.definitions.specs.Domain.{mostCalls, mostPenalty}
-use Rattle.definitions.specs.Sheet.{Window, Break, Customer, Sheet, customer, time}
+use Rattle.definitions.specs.Sheet.{Window, Break, Customer, Sheet, customer, Leg, drive}
 use Rattle.definitions.specs.Window.{late, lateness, Entry, enter}
 use Rattle.definitions.specs.Run.{Label, start, ready, serveAt, serve, serveAll, breakAt, lastOf, distanceFrom, Totals, home}
-use Rattle.definitions.specs.Clock.{clock}
+use Rattle.definitions.specs.Clock.{Clock, tick, clockFrom, counts, clock}
+use Rattle.theorems.proofs.Roads.{by-leg, distance-home, home-is, homeBy}
+use Rattle.theorems.proofs.Legality.{clock-closed}
 use Rattle.whole.specs.Whole.{fl, limit}
 use Rattle.whole.proofs.WholeLaws.{fl-add, fl-sub, fl-mul}
 use Rattle.whole.proofs.LargerLaws.{larger-fl}
 use Rattle.models.specs.Image.{flWindow, flBreak, flCustomer}
 use Rattle.models.proofs.Exact.{late-exact}
-use Rattle.clock.specs.Clock.{begunF, finishF}
-use Rattle.clock.specs.Image.{flTotals}
+use Rattle.clock.specs.Clock.{pushF}
+use Rattle.clock.specs.Image.{flTotals, flClock}
 use Rattle.clock.proofs.ServingExact.{through}
+use Rattle.clock.proofs.HomeExact.{finish-exact}
+use Rattle.distance.proofs.Exact.{flLeg}
 use Rattle.evaluation.specs.Records.{Tables}
-use Rattle.evaluation.specs.Schedule.{clockFromF, endF}
-use Rattle.evaluation.specs.Tables as Lookup
-use Rattle.evaluation.specs.Tables.{recordF, timeF, placeBefore}
+use Rattle.evaluation.specs.Tables.{recordF, legF, placeBefore}
 use Rattle.evaluation.specs.Image.{Image}
-use Rattle.evaluation.proofs.ClockExact.{record-exact, distance-exact, time-exact, distance-from-exact, schedule-exact}
+use Rattle.evaluation.proofs.ClockExact.{record-exact, leg-exact, tick-exact}
 use Rattle.evaluation.proofs.RouteExact.{plain-clock}
 use Rattle.cut_rows.specs.declared.rows.Elapsed.{Elapsed}
 use Rattle.cut_rows.specs.Stretch.{joinedF, wayOf}
-use Rattle.cut_rows.specs.Runs.{chargeF, enterF, visitF, timedOf, clockOf, End, endOf, backTime}
-use Rattle.cut_exact.proofs.StretchExact.{place-last, place-inside, way-exact}
+use Rattle.cut_rows.specs.Runs.{chargeF, enterF, visitF, timedOf, clockOf, End, endOf, backOf}
+use Rattle.cut_rows.proofs.Clocks.{ended, end-closed, end-finished}
+use Rattle.cut_exact.proofs.StretchExact.{gone, place-last, has-gone, place-inside, way-exact}
+
+-- before the first call
+abbrev begun : Clock
+begun = record { before = some start; after = none }
 
 -- ---- the images
 
@@ -51,7 +59,7 @@ abbrev pub flTimed : Label → Elapsed
 flTimed l = record { time = fl (l .time); «late_cost» = fl (l .pay) }
 
 abbrev pub flEnd : Totals → End
-flEnd t = record { duration = fl (t .duration); pay = fl (t .pay) }
+flEnd t = record { distance = fl (t .distance); duration = fl (t .duration); pay = fl (t .pay) }
 
 -- ---- a call without a break
 
@@ -107,6 +115,20 @@ module _ (s : Sheet) where
       shift : (j n : ℕ) → suc j + n ≡ j + suc n
       shift j n = omega arith
 
+-- the clock, one call more
+clock-snoc : (s : Sheet) (j a : ℕ) (x : Clock) (l : List ℕ) (c : ℕ) → clockFrom s j a x (l ++ (c ∷ [])) ≡ tick s (j + length l) (lastOf a l) c (clockFrom s j a x l)
+unfolding clockFrom
+clock-snoc s j a x [] c = ap (λ (n : ℕ). tick s n a c x) (sym (add-zero j))
+clock-snoc s j a x (d ∷ l) c = clock-snoc s (suc j) d (tick s j a d x) l c ∙ ap (λ (n : ℕ). tick s n (lastOf d l) c (clockFrom s (suc j) d (tick s j a d x) l)) (shift j (length l))
+  where
+    shift : (j n : ℕ) → suc j + n ≡ j + suc n
+    shift j n = omega arith
+
+-- home, by its parts
+home-parts : (s : Sheet) (calls : List ℕ) (l : Label) → home s calls l ≡ (distanceFrom s 0 calls >>= λ d. drive s (lastOf 0 calls) 0 >>= λ b. some (homeBy s calls d (b .travel) l))
+unfolding home
+home-parts s calls l = refl
+
 -- ---- the calls of a stretch
 
 module _ (s : Sheet) (S : Sized s) (t : Tables) (I : Image s t) (st : List ℕ) (inside : All (Place s) st) where
@@ -141,19 +163,21 @@ module _ (s : Sheet) (S : Sized s) (t : Tables) (I : Image s t) (st : List ℕ) 
       none-yet (suc m) x e z = absurd (suc-ne-zero m z)
 
       one : (x : Label) → Early m x → after m ≡ some x
-          → visitF (recordF t (getD st m 0)) (joinedF (fl (x .time)) (timeF t (placeBefore st m) (getD st m 0)) (eqb m 0)) (fl (x .pay))
+          → (legF t (placeBefore st m) (getD st m 0) >>= λ g. visitF (recordF t (getD st m 0)) (joinedF (fl (x .time)) (g .time) (eqb m 0)) (fl (x .pay)))
           ≡ Option·map flTimed (serve s none (1 + m) (placeBefore st m) (getD st m 0) x)
       one x E e =
           let c = getD st m 0 in
           let a = placeBefore st m in
-          let d = time s a c in
-          let near = time-small s S a c in
+          let p = call-inside s S st m inside in
+          by-leg s a c (λ q. rw (leg-exact s S t I a c (place-inside s st S inside m) p, q))
+          (λ g q. let near = leg-small s S a c g q .1 in
           rw (
-            record-exact s S t I c (call-inside s S st m inside),
-            time-exact s S t I a c (place-inside s st S inside m) (call-inside s S st m inside),
-            joined-time m (x .time) d (none-yet m x e) (omega (arith, E .time-most)) (omega (arith, near)),
+            record-exact s S t I c p,
+            leg-exact s S t I a c (place-inside s st S inside m) p,
+            q,
+            joined-time m (x .time) (g .travel) (none-yet m x e) (omega (arith, E .time-most)) (omega (arith, near)),
           )
-          (visit-exact m few (customer s c) (customer-small s S c) (1 + m) d near x E)
+          (visit-exact m few (customer s c) (customer-small s S c) (1 + m) (g .travel) near x E))
 
   -- ---- home
 
@@ -167,33 +191,98 @@ module _ (s : Sheet) (S : Sized s) (t : Tables) (I : Image s t) (st : List ℕ) 
     run-few : length run ≤ mostCalls
     run-few = omega (arith, length-take-le m st h)
 
-    back-exact : backTime t st m ≡ timeF t (lastOf 0 run) 0
-    back-exact = ap (λ (a : ℕ). timeF t a 0) (sym (place-last s st m h))
+    back-exact : backOf t st m ≡ Option·map flLeg (drive s (lastOf 0 run) 0)
+    back-exact =
+        leg-exact s S t I (placeBefore st m) 0 (place-inside s st S inside m) (depot-inside s S)
+        ∙ ap (λ (a : ℕ). Option·map flLeg (drive s a 0)) (sym (place-last s st m h))
 
-    way-same : wayOf (Lookup.distanceF t) st m ≡ fl (distanceFrom s 0 run)
-    way-same = way-exact s st S inside (Lookup.distanceF t) (distance-exact s S t I) m h few
+    way-same : wayOf (legF t) st m ≡ Option·map fl (distanceFrom s 0 run)
+    way-same = way-exact s st S inside (legF t) (leg-exact s S t I) m h few
 
     end-plain : s .head .rest ≡ none → endOf t st m none ≡ Option·map flEnd (clock s run)
     unfolding endOf
     end-plain z =
-        let back = time s (lastOf 0 run) 0 in
-        rw (timed-exact m h few, back-exact, time-exact s S t I (lastOf 0 run) 0 (last-inside s 0 run (depot-inside s S) run-inside) (depot-inside s S), plain-clock s S t I run run-few run-inside z)
-        (through (after m) flTimed _ flEnd (λ l. some (home s run l)) (λ l e. let E = subst (Holds (Early m)) e (after-early m h few) in
-        rw (fl-add (l .time) back (omega (arith, E .time-most)) (omega (arith, time-small s S (lastOf 0 run) 0)))))
-
-    end-broken : (b : Break) → s .head .rest ≡ some b → endOf t st m (some (flBreak b)) ≡ Option·map flEnd (clock s run)
-    unfolding endOf clockOf endF
-    end-broken b z =
-        ap₂ (λ (x y : Float). finishF x y (clockFromF t (begunF (flBreak b)) run) >>= λ u. some (record { duration = u .duration; pay = u .cost })) (way-same ∙ sym far) back-exact
-        ∙ ap (λ o. o >>= λ u. some (record { duration = u .duration; pay = u .cost })) (schedule-exact s S t I b z run run-few run-inside)
-        ∙ go (clock s run)
+        rw (timed-exact m h few, plain-clock s S t I run run-few run-inside z)
+        (through (after m) flTimed _ flEnd (home s run) (λ l e. one l (subst (Holds (Early m)) e (after-early m h few))))
       where
-        far : Ieee.add binary64 (Lookup.legsF t (fl 0) 0 run) (Lookup.distanceF t (lastOf 0 run) 0) ≡ fl (distanceFrom s 0 run)
-        far = distance-from-exact s S t I 0 0 run (depot-inside s S) run-inside (omega (arith, distance-most s S 0 run, run-few)) ∙ ap fl (zero-add (distanceFrom s 0 run))
+        go : (l : Label) → Early m l → (o : Option ℕ) (p : Option Leg) → drive s (lastOf 0 run) 0 ≡ p
+            → (Option·map fl o >>= λ far. Option·map flLeg p >>= λ back. some (record { distance = far; duration = Ieee.add binary64 (fl (l .time)) (back .time); pay = fl (l .pay) }))
+            ≡ Option·map flEnd (o >>= λ d. p >>= λ b. some (homeBy s run d (b .travel) l))
+        go l E none p q = refl
+        go l E (some d) none q = refl
+        go l E (some d) (some b) q =
+            ap (λ (x : Float). some (record { distance = fl d; duration = x; pay = fl (l .pay) }))
+            (fl-add (l .time) (b .travel) (omega (arith, E .time-most)) (omega (arith, leg-small s S (lastOf 0 run) 0 b q .1)))
 
-        go : (o : Option Totals) → (Option·map flTotals o >>= λ u. some (record { duration = u .duration; pay = u .cost })) ≡ Option·map flEnd o
-        go none = refl
-        go (some u) = refl
+        one : (l : Label) → Early m l
+            → (wayOf (legF t) st m >>= λ far. backOf t st m >>= λ back. some (record { distance = far; duration = Ieee.add binary64 (fl (l .time)) (back .time); pay = fl (l .pay) }))
+            ≡ Option·map flEnd (home s run l)
+        one l E = rw (way-same, back-exact) (go l E (distanceFrom s 0 run) (drive s (lastOf 0 run) 0) refl ∙ ap (Option·map flEnd) (sym (home-parts s run l)))
+
+    -- ---- with a break
+
+    module _ (b : Break) (z : s .head .rest ≡ some b) where
+      -- the clock of the first calls of the run, in whole numbers
+      abbrev ticked : ℕ → Clock
+      ticked k = clockFrom s 1 0 begun (take k st)
+
+      ticked-early : (k : ℕ) → k ≤ length st → k ≤ mostCalls → EarlyClock k (ticked k)
+      ticked-early k l f = clock-early s S k f 0 1 0 begun (take k st) (omega (arith, length-take-le k st l)) (record { before-early = start-early; after-early = tt })
+
+      ticks-more : (k : ℕ) → k < length st → ticked (suc k) ≡ tick s (k + 1) (placeBefore st k) (getD st k 0) (ticked k)
+      ticks-more k l =
+          ap (clockFrom s 1 0 begun) (take-suc st k 0 l)
+          ∙ clock-snoc s 1 0 begun (take k st) (getD st k 0)
+          ∙ ap₂ (λ (n a : ℕ). tick s n a (getD st k 0) (ticked k)) (number (length (take k st)) k (length-take-le k st (le-of-lt l))) (place-last s st k (le-of-lt l))
+        where
+          number : (a k : ℕ) → a ≡ k → 1 + a ≡ k + 1
+          number a k e = omega arith
+
+      -- it goes on as far as no leg is closed
+      clock-exact : (k : ℕ) → k ≤ length st → k ≤ mostCalls → clockOf t st (flBreak b) k ≡ (gone s st k >>= λ _. some (flClock b (placeBefore st k) (k + 1) (ticked k)))
+      unfolding clockOf gone placeBefore clockFrom
+      clock-exact zero l f = refl
+      clock-exact (suc k) l f =
+          rw (clock-exact k (le-of-lt l) (le-of-lt f), leg-exact s S t I (placeBefore st k) (getD st k 0) (place-inside s st S inside k) (call-inside s S st k inside))
+          (go (gone s st k) (drive s (placeBefore st k) (getD st k 0)) refl)
+        where
+          go : (o : Option ℕ) (p : Option Leg) → drive s (placeBefore st k) (getD st k 0) ≡ p
+              → ((o >>= λ _. some (flClock b (placeBefore st k) (k + 1) (ticked k)))
+              >>= λ x. Option·map flLeg p >>= λ g. some (pushF x (getD st k 0) (recordF t (getD st k 0)) (g .time)))
+              ≡ ((o >>= λ g. p >>= λ l. some (g + l .length)) >>= λ _. some (flClock b (getD st k 0) (suc k + 1) (ticked (suc k))))
+          go none p q = refl
+          go (some g) none q = refl
+          go (some g) (some w) q =
+              ap some
+              (tick-exact s S t I b z k f (k + 1) (placeBefore st k) (getD st k 0) w q (call-inside s S st k inside) (ticked k) (ticked-early k (le-of-lt l) (le-of-lt f))
+              ∙ ap₂ (λ (n : ℕ) (x : Clock). flClock b (getD st k 0) n x) (ap (λ (n : ℕ). n + 1) (add-one k)) (sym (ticks-more k l)))
+
+      -- the clock of a run whose way home is open
+      clock-open : (w : Leg) → drive s (lastOf 0 run) 0 ≡ some w → clock s run ≡ (counts (some b) (w .travel) (ticked m) >>= home s run)
+      unfolding clock
+      clock-open w q = rw (q, z) refl
+
+      end-open : (d : ℕ) → distanceFrom s 0 run ≡ some d → (w : Leg) → drive s (lastOf 0 run) 0 ≡ some w → endOf t st m (some (flBreak b)) ≡ Option·map flEnd (clock s run)
+      end-open d e w q =
+          let g = has-gone s st m h d e in
+          let here = flClock b (placeBefore st m) (m + 1) (ticked m) in
+          let near = leg-small s S (lastOf 0 run) 0 w q .1 in
+          end-finished t st m (fl d) (flLeg w) (way-same ∙ ap (Option·map fl) e) (back-exact ∙ ap (Option·map flLeg) q) (flBreak b) here _
+          (clock-exact m h few ∙ ap (λ (o : Option ℕ). o >>= λ _. some here) (g .1))
+          (finish-exact m few d (w .travel) near b (subst (Holds SmallBreak) z (S .rest-small)) (placeBefore st m) (m + 1) (ticked m) (ticked-early m h few))
+          ∙ go (counts (some b) (w .travel) (ticked m))
+          ∙ ap (Option·map flEnd) (sym (clock-open w q))
+        where
+          go : (o : Option Label) → ended (fl d) (Option·map flTotals (o >>= λ l. some (homeBy s run d (w .travel) l))) ≡ Option·map flEnd (o >>= home s run)
+          go none = refl
+          go (some l) = ap (Option·map flEnd) (sym (home-is s run d w e q l))
+
+      end-broken : endOf t st m (some (flBreak b)) ≡ Option·map flEnd (clock s run)
+      end-broken = go (distanceFrom s 0 run) refl
+        where
+          go : (o : Option ℕ) → distanceFrom s 0 run ≡ o → endOf t st m (some (flBreak b)) ≡ Option·map flEnd (clock s run)
+          go none e = end-closed t st m (way-same ∙ ap (Option·map fl) e) (some (flBreak b)) ∙ sym (ap (Option·map flEnd) (clock-closed s run e))
+          go (some d) e = let w = distance-home s 0 run d e in end-open d e (w .0) (w .1)
 
     pub end-exact : endOf t st m (Option·map flBreak (s .head .rest)) ≡ Option·map flEnd (clock s run)
     end-exact = go (s .head .rest) refl

@@ -2,38 +2,37 @@
 use Prim.Native.Nat.{ℕ, _+_, _-_, _*_, _<_, _≤_}
 use native.Mathlib.Omega.{arith}
 use mathlib.Core.Path.{_≡_, refl, sym, ap, ap₂, subst, _∙_}
-use mathlib.Core.Bool.{Bool, true, false, _&&_}
-use mathlib.Core.List.{List}
+use mathlib.Core.Bool.{Bool, true, false, not, _&&_}
+use mathlib.Core.List.{List, [], _∷_}
 use mathlib.Core.Option.{Option, none, some, Option·map}
 use lib.ListN.{length, drop}
 use lib.Ieee as Ieee
 use Rattle.basics.proofs.TestLaws.{by-test}
-use Rattle.basics.specs.Options.{given, holds}
-use Rattle.basics.proofs.OptionLaws.{bound, same}
-use Rattle.basics.specs.Lists.{All}
+use Rattle.basics.specs.Options.{given, valueOr}
+use Rattle.basics.proofs.OptionLaws.{bound}
+use Rattle.basics.specs.Lists.{All, isEmpty}
 use Rattle.bounds.specs.Sized.{Sized, Place}
 use Rattle.bounds.specs.Bounds.{SmallTotals}
 use Rattle.bounds.proofs.BoundLaws.{clock-most}
 use Rattle.bounds.specs.CostBounds.{mostCost}
 use Rattle.bounds.proofs.CostBoundLaws.{price-room, arc-priced}
 use Rattle.definitions.specs.Domain.{mostCalls}
-use Rattle.definitions.specs.Sheet.{Sheet, customer, time}
-use Rattle.definitions.specs.Run.{start, lastOf, distanceFrom, Totals, home, fits, allowed, price}
+use Rattle.definitions.specs.Sheet.{Sheet, customer, drive}
+use Rattle.definitions.specs.Run.{start, lastOf, lengthOf, Totals, home, fits, allowed, price}
 use Rattle.definitions.specs.Clock.{clockFrom, counts, clock, Arc, arc}
-use Rattle.models.specs.Limits.{allowF}
+use Rattle.theorems.proofs.Roads.{home-has}
 use Rattle.models.proofs.Exact.{allow-exact}
 use Rattle.whole.specs.Whole.{fl}
 use Rattle.whole.proofs.WholeLaws.{fl-sum}
 use Rattle.evaluation.specs.Image.{flLimits}
 use Rattle.evaluation.specs.Image as Evaluation
-use Rattle.evaluation.proofs.ClockExact.{distance-exact}
+use Rattle.evaluation.proofs.ClockExact.{leg-exact}
 use Rattle.evaluation.proofs.RouteExact.{small-limit}
 use Rattle.evaluation.specs.Tables.{demandF}
 use Rattle.cut_rows.specs.Stretch.{fitsOf}
-use Rattle.cut_rows.specs.Tariff.{legalOf, farOf, runsOf, stretches}
+use Rattle.cut_rows.specs.Tariff.{legalOf, runsOf, stretches}
 use Rattle.cut_rows.specs.Runs.{Instance, endOf, allowedF, payF, tariff}
 use Rattle.cut_exact.proofs.StretchExact.{fits-exact}
-use Rattle.cut_exact.proofs.SplitExact.{some-calls}
 use Rattle.cut_exact.proofs.ClocksExact.{flEnd, end-exact}
 use Rattle.cut_exact.proofs.TableExact.{Setting, calls, calls-taken, room, calls-many, few-here, from-inside, far-is, run-far, RunIs, barred, priced}
 
@@ -51,11 +50,21 @@ and-swap false true = refl
 and-swap false false = refl
 
 -- the clock's distance is that of the calls
-clock-distance : (s : Sheet) (calls : List ℕ) (u : Totals) → clock s calls ≡ some u → u .distance ≡ distanceFrom s 0 calls
+clock-distance : (s : Sheet) (calls : List ℕ) (u : Totals) → clock s calls ≡ some u → u .distance ≡ lengthOf s calls
 unfolding clock
 clock-distance s calls u e =
-    let y = bound (counts (s .head .rest) (time s (lastOf 0 calls) 0) (clockFrom s 1 0 (record { before = some start; after = none }) calls)) (λ l. some (home s calls l)) u e in
-    ap (λ (x : Totals). x .distance) (sym (same (y .2)))
+    let x = bound (drive s (lastOf 0 calls) 0) _ u e in
+    let y = bound (counts (s .head .rest) (x .0 .travel) (clockFrom s 1 0 (record { before = some start; after = none }) calls)) (home s calls) u (x .2) in
+    let h = home-has s calls (y .0) u (y .2) in
+    ap (λ (v : Totals). v .distance) (sym (h .4)) ∙ sym (ap (valueOr 0) (h .1))
+
+-- a run of some calls is not empty
+some-calls : (l : List ℕ) → 0 < length l → not (isEmpty l) ≡ true
+some-calls [] h = absurd (none h)
+  where
+    none : 0 < 0 → ⊥
+    none h = omega arith
+some-calls (c ∷ cs) h = refl
 
 module _ (s : Sheet) (S : Sized s) (I : Instance) (M : ImageTw s I) (held : List ℕ) (inside : All (Place s) held) (few : length held ≤ mostCalls)
     (demand-exact : (c : ℕ) → Place s c → demandF (I .tables .customers) c ≡ customer s c .demand) where
@@ -70,7 +79,7 @@ module _ (s : Sheet) (S : Sized s) (I : Instance) (M : ImageTw s I) (held : List
         inside = inside;
         few = few;
         tariff = tariff I;
-        legs-exact = distance-exact s S (I .tables) (M .tables-hold);
+        legs-exact = leg-exact s S (I .tables) (M .tables-hold);
       }
 
   module _ (i j : ℕ) (o : i < j) (within : j ≤ length held) where
@@ -78,7 +87,7 @@ module _ (s : Sheet) (S : Sized s) (I : Instance) (M : ImageTw s I) (held : List
     run = calls X i j
 
     abbrev far : ℕ
-    far = distanceFrom s 0 run
+    far = lengthOf s run
 
     -- the clock's end
     end-is : endOf (I .tables) (drop i held) (j - i) (I .limits .rest) ≡ Option·map flEnd (clock s run)
@@ -116,11 +125,10 @@ module _ (s : Sheet) (S : Sized s) (I : Instance) (M : ImageTw s I) (held : List
           (ap (λ (d : ℕ). given (fits s run && allowed s u) (record { place = u .place; cost = price s d (u .pay) })) far-here)
 
       allowed-is : allowedF I (drop i held) (j - i) ≡ allowed s u
-      unfolding allowedF farOf
+      unfolding allowedF
       allowed-is =
-          rw (end-is, e, M .limits-hold, far-is X i j o within)
-          (ap (λ (d : ℕ). allowF (flLimits s .maxDistance) (flLimits s .maxDuration) (fl d) (fl (u .duration))) (sym far-here)
-          ∙ allow-exact (s .head .maxDistance) (s .head .maxDuration) (u .distance) (u .duration)
+          rw (end-is, e, M .limits-hold)
+          (allow-exact (s .head .maxDistance) (s .head .maxDuration) (u .distance) (u .duration)
           (small-limit (s .head .maxDistance) (S .far-small)) (small-limit (s .head .maxDuration) (S .long-small))
           (omega (arith, small .distance-most, few-here X i j o within)) (omega (arith, small .duration-most, few-here X i j o within)))
 

@@ -6,16 +6,16 @@ use native.Mathlib.Omega.{arith}
 use mathlib.Core.Path.{_≡_, refl, sym, ap, subst, _∙_}
 use mathlib.Core.Bool.{true, false, not, and-false, false≢true}
 use mathlib.Core.List.{List, [], _∷_, _++_, map-append, append-nil, append-assoc}
-use mathlib.Core.Option.{Option, none, some}
+use mathlib.Core.Option.{Option, none, some, Option·map}
 use lib.ListN.{length, take, drop, length-append, length-drop}
 use lib.Seq.{length-take-le, take-add, take-length}
 use lib.Ieee as Ieee
 use lib.Ieee.{Float, inf}
-use Rattle.basics.specs.Options.{Holds, present}
+use Rattle.basics.specs.Options.{Holds, present, valueOr}
 use Rattle.basics.specs.Lists.{All, sum}
 use Rattle.basics.proofs.ListLaws.{sum-append, all-drop}
 use Rattle.bounds.specs.Sized.{Sized, Place}
-use Rattle.bounds.proofs.BoundLaws.{distance-most}
+use Rattle.bounds.proofs.BoundLaws.{length-most}
 use Rattle.bounds.specs.CostBounds.{mostCost, mostFar, Priced}
 use Rattle.bounds.proofs.CostBoundLaws.{cost-fits, best-most}
 use Rattle.cut_theory.specs.Cut.{Rule, best}
@@ -25,8 +25,8 @@ use Rattle.cut_theory.proofs.PricedBest.{strict}
 use Rattle.cut_theory.specs.Carried.{Carry, carryAll}
 use Rattle.cut_theory.proofs.CarriedLaws.{far-ends}
 use Rattle.definitions.specs.Domain.{mostCalls, mostNumber}
-use Rattle.definitions.specs.Sheet.{Sheet, distance}
-use Rattle.definitions.specs.Run.{distanceFrom, price}
+use Rattle.definitions.specs.Sheet.{Sheet, drive}
+use Rattle.definitions.specs.Run.{distanceFrom, lengthOf}
 use Rattle.definitions.specs.RunList.{callsOf, endsFrom}
 use Rattle.definitions.specs.Clock.{Arc}
 use Rattle.definitions.specs.Cutting.{Best, callsIn, joined, runEnds, cheapest}
@@ -36,6 +36,7 @@ use Rattle.whole.specs.Whole.{fl, limit}
 use Rattle.whole.proofs.WholeLaws.{fl-is, fl-sum, fl-lt}
 use Rattle.whole.proofs.Bits.{fl-zero}
 use Rattle.whole.proofs.InfinityLaws.{is-lt-inf}
+use Rattle.distance.proofs.Exact.{flLeg}
 use Rattle.cut_rows.specs.Tariff.{Tariff, farOf, priceOf, runsOf, farsOf, stretches, endsF, costF, distanceF}
 use Rattle.cut_exact.proofs.StretchExact.{way-exact}
 use Rattle.cut_exact.proofs.SameTable.{Same, SameCarry, best-same, carried-to-same}
@@ -44,7 +45,7 @@ use Rattle.cut_exact.proofs.SameTable.{Same, SameCarry, best-same, carr
 
 -- the distance of a cutting
 abbrev pub cutFar : Sheet → Best → ℕ
-cutFar s b = sum (λ r. distanceFrom s 0 (r .calls)) (b .runs)
+cutFar s b = sum (λ r. lengthOf s (r .calls)) (b .runs)
 
 abbrev pub costFl : Option Best → Float
 costFl none = inf false
@@ -95,7 +96,7 @@ pub record Setting : Type 0 where
   pub inside : All (Place sheet) held
   pub few : length held ≤ mostCalls
   pub tariff : Tariff
-  pub legs-exact : (a b : ℕ) → Place sheet a → Place sheet b → tariff .leg a b ≡ fl (distance sheet a b)
+  pub legs-exact : (a b : ℕ) → Place sheet a → Place sheet b → tariff .leg a b ≡ Option·map flLeg (drive sheet a b)
 
 module _ (X : Setting) where
   abbrev s : Sheet
@@ -148,14 +149,19 @@ module _ (X : Setting) where
     pub from-inside : All (Place s) (drop i held)
     from-inside = all-drop (Place s) i held (X .inside)
 
-    pub far-is : farOf T (drop i held) (j - i) ≡ fl (distanceFrom s 0 (calls i j))
+    pub far-is : farOf T (drop i held) (j - i) ≡ fl (lengthOf s (calls i j))
     unfolding farOf
     far-is =
-        way-exact s (drop i held) S from-inside (T .leg) (X .legs-exact) (j - i) room few-here
-        ∙ ap (λ (l : List ℕ). fl (distanceFrom s 0 l)) (sym calls-taken)
+        ap (valueOr (fl 0)) (way-exact s (drop i held) S from-inside (T .leg) (X .legs-exact) (j - i) room few-here)
+        ∙ held-value (distanceFrom s 0 (take (j - i) (drop i held)))
+        ∙ ap (λ (l : List ℕ). fl (lengthOf s l)) (sym calls-taken)
+      where
+        held-value : (o : Option ℕ) → valueOr (fl 0) (Option·map fl o) ≡ fl (valueOr 0 o)
+        held-value none = refl
+        held-value (some d) = refl
 
-    pub run-far : distanceFrom s 0 (calls i j) ≤ (j - i + 1) * mostNumber
-    run-far = subst (λ (n : ℕ). distanceFrom s 0 (calls i j) ≤ (n + 1) * mostNumber) calls-many (distance-most s S 0 (calls i j))
+    pub run-far : lengthOf s (calls i j) ≤ (j - i + 1) * mostNumber
+    run-far = subst (λ (n : ℕ). lengthOf s (calls i j) ≤ (n + 1) * mostNumber) calls-many (length-most s S (calls i j))
 
     -- ---- with this arc
 
@@ -181,7 +187,7 @@ module _ (X : Setting) where
                   ap length (joined-append (b .runs) _) ∙ length-append (joined (b .runs)) (calls i j ++ [])
                   ∙ sums (length (joined (b .runs))) (length (calls i j ++ [])) (K .calls-are) (ap length (append-nil (calls i j)) ∙ calls-many);
               cost-most = omega (arith, K .cost-most, run-cost);
-              far-most = omega (arith, K .far-most, run-far, sum-append (λ r. distanceFrom s 0 (r .calls)) (b .runs) (record { calls = calls i j; place = a .place } ∷ []));
+              far-most = omega (arith, K .far-most, run-far, sum-append (λ r. lengthOf s (r .calls)) (b .runs) (record { calls = calls i j; place = a .place } ∷ []));
             }
           where
             sums : (a c : ℕ) → a ≡ i → c ≡ j - i → a + c ≡ j
@@ -190,9 +196,9 @@ module _ (X : Setting) where
         far-more : farsOf T (stretches held) .step (fl (cutFar s b)) i j ≡ fl (cutFar s (andThis b))
         far-more =
             rw far-is
-            (fl-sum (cutFar s b) (distanceFrom s 0 (calls i j)) (omega (arith, K .far-most, run-far))
-            ∙ ap fl (ap (λ (n : ℕ). cutFar s b + n) (sym (add-zero (distanceFrom s 0 (calls i j))))
-            ∙ sym (sum-append (λ r. distanceFrom s 0 (r .calls)) (b .runs) (record { calls = calls i j; place = a .place } ∷ []))))
+            (fl-sum (cutFar s b) (lengthOf s (calls i j)) (omega (arith, K .far-most, run-far))
+            ∙ ap fl (ap (λ (n : ℕ). cutFar s b + n) (sym (add-zero (lengthOf s (calls i j))))
+            ∙ sym (sum-append (λ r. lengthOf s (r .calls)) (b .runs) (record { calls = calls i j; place = a .place } ∷ []))))
 
         ends-more : runEnds (b .runs) ++ (j ∷ []) ≡ runEnds (andThis b .runs)
         ends-more =

@@ -1,15 +1,17 @@
--- Stretches that begin alike: place, load and time of their first calls are the same. Assumes nothing.
+-- Stretches that begin alike: place, load, time and clock of their first calls are the same. Assumes nothing.
 use Prim.Native.Nat.{ℕ, zero, suc, _<_, _≤_}
 use native.Mathlib.Omega.{arith}
 use mathlib.Core.Path.{_≡_, refl, sym, ap, _∙_}
 use mathlib.Core.List.{List}
 use lib.ListN.{getD, take}
 use lib.Seq.{getD-take}
+use lib.Ieee.{Float}
 use Rattle.definitions.specs.Load.{Load}
+use Rattle.definitions.specs.Sheet.{BreakOf}
 use Rattle.evaluation.specs.Records.{Tables}
 use Rattle.evaluation.specs.Tables.{placeBefore}
 use Rattle.cut_rows.specs.Stretch.{loadTo}
-use Rattle.cut_rows.specs.Runs.{timedOf}
+use Rattle.cut_rows.specs.Runs.{timedOf, clockOf}
 
 module _ (m : ℕ) (st st' : List ℕ) (e : take m st ≡ take m st') where
   pub call-alike : (k : ℕ) → k < m → getD st k 0 ≡ getD st' k 0
@@ -29,3 +31,8 @@ module _ (m : ℕ) (st st' : List ℕ) (e : take m st ≡ take m st') where
   unfolding timedOf
   timed-alike t zero h = refl
   timed-alike t (suc k) h = rw (timed-alike t k (omega arith), place-alike k (omega arith), call-alike k h) refl
+
+  pub clock-alike : (t : Tables) (b : BreakOf Float) (k : ℕ) → k ≤ m → clockOf t st b k ≡ clockOf t st' b k
+  unfolding clockOf
+  clock-alike t b zero h = refl
+  clock-alike t b (suc k) h = rw (clock-alike t b k (omega arith), place-alike k (omega arith), call-alike k h) refl

@@ -6,6 +6,7 @@ use native.Mathlib.Omega.{arith}
 use mathlib.Core.Path.{_≡_, refl, sym, ap, ap₂, subst, _∙_}
 use mathlib.Core.Bool.{Bool, true, false, _&&_, and-false, false≢true}
 use mathlib.Core.List.{List, _∷_}
+use mathlib.Core.Option.{some}
 use lib.ListN.{length, getD}
 use lib.Dec.{eqb}
 use lib.Ieee.{Float, nan, inf, fin, binary64, add, eq, lt}
@@ -18,10 +19,11 @@ use Rattle.cut_theory.proofs.CarriedLaws.{outset, finished, passed, offered, sk
 use Rattle.whole.specs.Whole.{fl}
 use Rattle.cut_table.specs.Table.{Table, Sized, Offered}
 use Rattle.definitions.specs.Load.{Load, noLoad, plus, carried}
+use Rattle.distance.specs.declared.leg.Leg.{Leg}
 use Rattle.evaluation.specs.Tables.{placeBefore}
 use Rattle.cut_rows.specs.Stretch.{fitsOf, joinedF, loadTo, goneOf, wayOf}
 use Rattle.cut_rows.specs.Tariff.{Tariff, legalOf, farOf, priceOf, runsOf, farsOf, RowOf, HeldRow, Ended, stretches}
-use Rattle.cut_rows.proofs.Fitting.{none-over, none-past, fits-here}
+use Rattle.cut_rows.proofs.Fitting.{none-past, fits-here}
 
 -- a row as it begins: its stretch and the number of its first call, the table, and what a run costs and how far it is before its own way
 pub record Row : Type 0 where
@@ -41,20 +43,19 @@ module _ (T : Tariff) (R : Row) where
       Filling (runsOf T (λ _. R .st)) (farsOf T (λ _. R .st)) (R .i) (R .old .cost) (R .old .far) (R .old .pred) j (new .cost) (new .far) (new .pred)
 
   -- after m calls of the stretch
-  pub record Along (new : Table) (load : Load) (gone : Float) (prev m : ℕ) : Type 0 where
+  pub record Along (new : Table) (load : Load) (gone : Float) (m : ℕ) : Type 0 where
     pub is-base : R .base ≡ add binary64 (getD (R .old .cost) (R .i) nan) (T .fixed)
     pub is-ahead : R .ahead ≡ getD (R .old .far) (R .i) nan
     pub within : m ≤ length (R .st)
     pub is-load : load ≡ loadTo (T .demand) (R .st) m
-    pub is-gone : gone ≡ goneOf (T .leg) (R .st) m
-    pub is-prev : prev ≡ placeBefore (R .st) m
+    pub is-gone : goneOf (T .leg) (R .st) m ≡ some gone
     pub filling : FilledTo (R .i + m) new
 
   -- before the first call
   pub setout : (load : Load) (gone : Float) → load ≡ noLoad → gone ≡ fl 0 → Sized (R .old)
       → R .base ≡ add binary64 (getD (R .old .cost) (R .i) nan) (T .fixed) → R .ahead ≡ getD (R .old .far) (R .i) nan
-      → Along (R .old) load gone 0 0
-  unfolding loadTo placeBefore goneOf
+      → Along (R .old) load gone 0
+  unfolding loadTo goneOf
   setout load gone l g z b w =
       let o = R .old in
       record {
@@ -62,30 +63,13 @@ module _ (T : Tariff) (R : Row) where
         is-ahead = w;
         within = omega arith;
         is-load = l;
-        is-gone = g;
-        is-prev = refl;
+        is-gone = ap some (sym g);
         filling =
             rw add-zero
             (outset (runsOf T (λ _. R .st)) (farsOf T (λ _. R .st)) (R .i) (o .cost) (o .far) (o .pred) (z .cost-long) (z .far-long) (z .pred-long));
       }
 
-module _ {T : Tariff} {R : Row} {new : Table} {load : Load} {gone : Float} {prev m : ℕ} (A : Along T R new load gone prev m) where
-  -- the place is that of the first m calls
-  pub in-place : Along T R new load gone (placeBefore (R .st) m) m
-  in-place =
-      record {
-        is-base = A .is-base;
-        is-ahead = A .is-ahead;
-        within = A .within;
-        is-load = A .is-load;
-        is-gone = A .is-gone;
-        is-prev = refl;
-        filling = A .filling;
-      }
-
-  pub at-count : (k : ℕ) → k ≡ m → Along T R new load gone (placeBefore (R .st) k) k
-  at-count k e = subst (λ (n : ℕ). Along T R new load gone (placeBefore (R .st) n) n) (sym e) in-place
-
+module _ {T : Tariff} {R : Row} {new : Table} {load : Load} {gone : Float} {m : ℕ} (A : Along T R new load gone m) where
   -- one call more
   pub load-next : (d load' : Load) → d ≡ T .demand (getD (R .st) m 0) → load' ≡ plus load d → load' ≡ loadTo (T .demand) (R .st) (suc m)
   unfolding loadTo
@@ -105,43 +89,36 @@ module _ {T : Tariff} {R : Row} {new : Table} {load : Load} {gone : Float} {prev
   pub stopped : m < length (R .st) → Ended T (R .st) m → Done
   stopped b E = ended (λ k h. E .barred b (R .st) refl k h)
 
-  no-load : ((k : ℕ) → m < k → fitsOf (T .demand) (T .capacity) (R .st) k ≡ false) → Done
-  unfolding legalOf
-  no-load z = ended (λ k h. ap (λ (t : Bool). T .allowed (R .st) k && t) (z k h) ∙ and-false (T .allowed (R .st) k))
-
-  -- a call that is too much: the row is done
-  pub overfull : (d load' : Load) → d ≡ T .demand (getD (R .st) m 0) → load' ≡ plus load d → carried load' (T .capacity) ≡ false → Done
-  overfull d load' e p o =
-      no-load (none-over (T .demand) (T .capacity) (R .st) m (sym (ap (λ (l : Load). carried l (T .capacity)) (load-next d load' e p)) ∙ o))
-
   -- no call is left
   pub at-end : length (R .st) ≤ m → Done
-  at-end o = no-load (none-past (T .demand) (T .capacity) (R .st) m o)
+  unfolding legalOf
+  at-end o =
+      ended (λ k h. ap (λ (t : Bool). T .allowed (R .st) k && t) (none-past (T .demand) (T .capacity) (R .st) m o k h) ∙ and-false (T .allowed (R .st) k))
 
 -- ---- a call that fits: one cell more
 
 -- call number m, with its leg: the load and the way with it
-pub record OneMore (T : Tariff) (R : Row) (load : Load) (gone : Float) (prev m : ℕ) (load' : Load) (gone' : Float) : Type 0 where
+pub record OneMore (T : Tariff) (R : Row) (load : Load) (gone : Float) (m : ℕ) (load' : Load) (gone' : Float) : Type 0 where
   pub inside : m < length (R .st)
   pub short : R .i + length (R .st) ≤ mostCut
   pub demand : Load
-  pub leg : Float
+  pub leg : Leg
   pub is-demand : demand ≡ T .demand (getD (R .st) m 0)
   pub is-load : load' ≡ plus load demand
   pub fits : carried load' (T .capacity) ≡ true
-  pub is-leg : leg ≡ T .leg prev (getD (R .st) m 0)
-  pub is-gone : gone' ≡ joinedF gone leg (eqb m 0)
+  pub is-leg : T .leg (placeBefore (R .st) m) (getD (R .st) m 0) ≡ some leg
+  pub is-gone : gone' ≡ joinedF gone (leg .distance) (eqb m 0)
 
-module _ {T : Tariff} {R : Row} {new : Table} {load : Load} {gone : Float} {prev m : ℕ} {load' : Load} {gone' : Float}
-    (A : Along T R new load gone prev m) (O : OneMore T R load gone prev m load' gone') where
+module _ {T : Tariff} {R : Row} {new : Table} {load : Load} {gone : Float} {m : ℕ} {load' : Load} {gone' : Float}
+    (A : Along T R new load gone m) (O : OneMore T R load gone m load' gone') where
   load-is : load' ≡ loadTo (T .demand) (R .st) (suc m)
   load-is = load-next A (O .demand) load' (O .is-demand) (O .is-load)
 
-  gone-is : gone' ≡ goneOf (T .leg) (R .st) (suc m)
+  gone-is : goneOf (T .leg) (R .st) (suc m) ≡ some gone'
   unfolding goneOf
-  gone-is = rw (O .is-gone, O .is-leg, A .is-gone, A .is-prev) refl
+  gone-is = rw (A .is-gone, O .is-leg, O .is-gone) refl
 
-  pub far-is : (home : Float) → home ≡ T .leg (getD (R .st) m 0) 0 → add binary64 gone' home ≡ wayOf (T .leg) (R .st) (suc m)
+  pub far-is : (home : Leg) → T .leg (getD (R .st) m 0) 0 ≡ some home → wayOf (T .leg) (R .st) (suc m) ≡ some (add binary64 gone' (home .distance))
   unfolding wayOf placeBefore
   far-is home eh = rw (gone-is, eh) refl
 
@@ -150,18 +127,16 @@ module _ {T : Tariff} {R : Row} {new : Table} {load : Load} {gone : Float} {prev
       fits-here (T .demand) (T .capacity) (R .st) (suc m) (O .inside) (sym (ap (λ (l : Load). carried l (T .capacity)) load-is) ∙ O .fits)
 
   abbrev Next : Table → Type 0
-  Next new' = Along T R new' load' gone' (getD (R .st) m 0) (m + 1)
+  Next new' = Along T R new' load' gone' (m + 1)
 
   next : (new' : Table) → FilledTo T R (R .i + (m + 1)) new' → Next new'
-  unfolding placeBefore
   next new' F =
       record {
         is-base = A .is-base;
         is-ahead = A .is-ahead;
         within = omega (arith, O .inside);
         is-load = load-is ∙ ap (loadTo (T .demand) (R .st)) (sym (add-one m));
-        is-gone = gone-is ∙ ap (goneOf (T .leg) (R .st)) (sym (add-one m));
-        is-prev = ap (placeBefore (R .st)) (sym (add-one m));
+        is-gone = ap (goneOf (T .leg) (R .st)) (add-one m) ∙ gone-is;
         filling = F;
       }
 
@@ -179,19 +154,19 @@ module _ {T : Tariff} {R : Row} {new : Table} {load : Load} {gone : Float} {prev
       (i + (m + 1)) (omega arith) (omega (arith, O .inside, O .short)) (rw is-m (rw z refl)))
 
   -- it is
-  pub onward : (home cost : Float) (j : ℕ) (new' : Table) → home ≡ T .leg (getD (R .st) m 0) 0 → T .allowed (R .st) (suc m) ≡ true
-      → cost ≡ added (R .base) (add binary64 gone' home ∷ T .pays (R .st) (suc m)) → j ≡ R .i + (m + 1)
-      → Offered j (R .i) cost (add binary64 (R .ahead) (add binary64 gone' home)) new new' → Next new'
+  pub onward : (home : Leg) (cost : Float) (j : ℕ) (new' : Table) → T .leg (getD (R .st) m 0) 0 ≡ some home → T .allowed (R .st) (suc m) ≡ true
+      → cost ≡ added (R .base) (add binary64 gone' (home .distance) ∷ T .pays (R .st) (suc m)) → j ≡ R .i + (m + 1)
+      → Offered j (R .i) cost (add binary64 (R .ahead) (add binary64 gone' (home .distance))) new new' → Next new'
   unfolding legalOf farOf
   onward home cost j new' eh z en ej P =
       let i = R .i in
       let o = R .old in
-      let far = add binary64 (R .ahead) (add binary64 gone' home) in
+      let far = add binary64 (R .ahead) (add binary64 gone' (home .distance)) in
       let Q : Offered (i + (m + 1)) i cost far new new' = subst (λ (k : ℕ). Offered k i cost far new new') ej P in
       next new'
       (offered (runsOf T (λ _. R .st)) (farsOf T (λ _. R .st)) i (o .cost) (o .far) (o .pred) (i + m) (new .cost) (new .far) (new .pred) (A .filling)
       (i + (m + 1)) _ _ (omega arith) (omega (arith, O .inside, O .short)) (omega arith) (rw is-m (and-true _ _ z fits-next))
-      (en ∙ rw (A .is-base, far-is home eh, is-m) refl) (rw (A .is-ahead, far-is home eh, is-m) refl)
+      (en ∙ rw (A .is-base, is-m, far-is home eh) refl) (rw (A .is-ahead, is-m, far-is home eh) refl)
       (new' .cost) (new' .far) (new' .pred) (Q .cost-put) (Q .far-put) (Q .pred-put))
 
 -- ---- a row whose start is not reached

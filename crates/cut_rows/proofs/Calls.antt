@@ -2,17 +2,21 @@
 use Prim.Native.Nat.{ℕ, zero, suc, _+_, _-_, _<_}
 use native.Mathlib.Nat.{add-suc}
 use native.Mathlib.Omega.{arith}
-use mathlib.Core.Path.{_≡_, refl, sym, ap, _∙_}
+use mathlib.Core.Path.{_≡_, refl, sym, ap, ap₂, _∙_}
 use mathlib.Core.Bool.{Bool, cond}
 use mathlib.Core.List.{List}
+use mathlib.Core.Option.{Option, none, some}
 use lib.ListN.{length, getD, take, drop, length-drop}
 use lib.Seq.{length-take-le, getD-take, getD-drop}
 use lib.Dec.{eqb}
 use lib.Ieee.{Float, nan}
 use borrow.Author.Tests.{ne-eqb}
+use Rattle.distance.specs.declared.leg.Leg.{Leg}
+use Rattle.distance.specs.Lookup.{roadF}
 use Rattle.evaluation.specs.Records.{Tables}
-use Rattle.evaluation.specs.Tables.{recordF, demandF, distanceF, timeF, placeBefore}
-use Rattle.cut_stops.specs.Stops.{StopF, stopIn, stopAt, StopsOf, Below64, LegsAre}
+use Rattle.evaluation.specs.Tables.{recordF, demandF, legF, placeBefore}
+use Rattle.cut_stops.specs.Stops.{StopF, listedLeg, legBy, stopIn, stopAt, StopsOf, Below64, LegsAre}
+use Rattle.cut_stops.proofs.ReadBack.{leg-back}
 use Rattle.cut_rows.specs.Stretch.{joinedF, lastOf, legTo, wayTo}
 use Rattle.cut_rows.specs.Runs.{RowLists}
 
@@ -20,7 +24,7 @@ use Rattle.cut_rows.specs.Runs.{RowLists}
 
 -- the run of m calls and one from call i on: its last call, and whether that is the only one
 pub record RunIs (held : List ℕ) (i m : ℕ) (run : List ℕ) : Type 0 where
-  pub some : 0 < length run
+  pub any : 0 < length run
   pub is-last : lastOf run ≡ getD (drop i held) m 0
   pub is-one : eqb (length run) 1 ≡ eqb m 0
 
@@ -35,7 +39,7 @@ run-is held i m h =
     let last : length (take (suc m) (drop i held)) - 1 ≡ m = omega arith in
     rw n
     (record {
-      some = omega arith;
+      any = omega arith;
       is-last = ap (λ (k : ℕ). getD (take (suc m) (drop i held)) k 0) last ∙ getD-take (suc m) (drop i held) m 0 (omega arith);
       is-one = ap (λ (k : ℕ). eqb k 1) l ∙ only-one m;
     })
@@ -46,20 +50,18 @@ unfolding Below64
 call-below held i m B h = rw getD-drop (B (i + m) h)
 
 -- the way with the leg to it
-pub way-is : {held : List ℕ} {i m : ℕ} {run : List ℕ} → RunIs held i m run → (way out gone leg : Float) → way ≡ wayTo run out gone leg
-    → way ≡ joinedF gone (legTo run out leg) (eqb m 0)
-way-is {run = run} R way out gone leg e = e ∙ ap (joinedF gone (legTo run out leg)) (R .is-one)
+pub way-is : {held : List ℕ} {i m : ℕ} {run : List ℕ} → RunIs held i m run → (way gone leg : Float) → way ≡ wayTo run gone leg
+    → way ≡ joinedF gone leg (eqb m 0)
+way-is R way gone leg e = e ∙ ap (joinedF gone leg) (R .is-one)
 
 -- ---- a call of a stretch
 
--- call number m of st, with the leg to it
+-- call number m of st, with the numbers that the lists have for the leg to it
 pub record CallIs (t : Tables) (st : List ℕ) (m : ℕ) (s : StopF) (leg travel : Float) : Type 0 where
   pub demand-is : s .customer .demand ≡ demandF (t .customers) (getD st m 0)
   pub record-is : s .customer ≡ recordF t (getD st m 0)
-  pub leg-is : leg ≡ distanceF t (placeBefore st m) (getD st m 0)
-  pub travel-is : travel ≡ timeF t (placeBefore st m) (getD st m 0)
-  pub home-is : s .back ≡ distanceF t (getD st m 0) 0
-  pub back-is : s .timeBack ≡ timeF t (getD st m 0) 0
+  pub leg-is : legF t (placeBefore st m) (getD st m 0) ≡ legBy leg travel
+  pub home-is : legF t (getD st m 0) 0 ≡ legBy (s .back) (s .timeBack)
 
 -- the call before number i + k
 place-rest : (held : List ℕ) (i k : ℕ) → 0 < k → placeBefore (drop i held) k ≡ placeBefore held (i + k)
@@ -70,7 +72,7 @@ place-rest held i zero h = absurd (clash h)
     clash h = omega arith
 place-rest held i (suc k) h = getD-drop i held k 0 ∙ ap (placeBefore held) (sym (add-suc i k))
 
--- the leg to the last call of a run: out of the depot to the first call, and else the one from the call before it
+-- what is listed of the leg to the last call of a run: that out of the depot for the first call, and else that from the call before it
 module _ (leg : ℕ → ℕ → Float) {held : List ℕ} {i m : ℕ} {run : List ℕ} (R : RunIs held i m run) (out between : Float) where
   abbrev st : List ℕ
   st = drop i held
@@ -100,17 +102,30 @@ call-is t x W L B {i} {m} R h s leg travel es el et =
     let here = getD-drop i (x .held) m 0 in
     let there : stopAt (x .stops) call ≡ stopIn t call = rw here (W .stops-are (i + m) h) in
     let e : s ≡ stopIn t call = es ∙ ap (stopAt (x .stops)) (R .is-last) ∙ there in
+    let far =
+    el
+    ∙ leg-into (λ a b. listedLeg (legF t a b) .distance) R (s .out) (getD (x .legs .distances) (i + m) nan) (λ _. ap (λ (y : StopF). y .out) e)
+    (λ p. L (i + m) (omega arith) h .distance-is)
+    in
+    let long =
+    et
+    ∙ leg-into (λ a b. listedLeg (legF t a b) .time) R (s .timeOut) (getD (x .legs .times) (i + m) nan) (λ _. ap (λ (y : StopF). y .timeOut) e)
+    (λ p. L (i + m) (omega arith) h .time-is)
+    in
     record {
       demand-is = ap (λ (y : StopF). y .customer .demand) e;
       record-is = ap (λ (y : StopF). y .customer) e;
-      leg-is =
-          el
-          ∙ leg-into (distanceF t) R (s .out) (getD (x .legs .distances) (i + m) nan) (λ _. ap (λ (y : StopF). y .out) e)
-          (λ p. L (i + m) (omega arith) h .distance-is);
-      travel-is =
-          et
-          ∙ leg-into (timeF t) R (s .timeOut) (getD (x .legs .times) (i + m) nan) (λ _. ap (λ (y : StopF). y .timeOut) e)
-          (λ p. L (i + m) (omega arith) h .time-is);
-      home-is = ap (λ (y : StopF). y .back) e;
-      back-is = ap (λ (y : StopF). y .timeBack) e;
+      leg-is = sym (ap₂ legBy far long ∙ leg-back (t .distances) (t .times) (t .size) _ _);
+      home-is = sym (ap₂ legBy (ap (λ (y : StopF). y .back) e) (ap (λ (y : StopF). y .timeBack) e) ∙ leg-back (t .distances) (t .times) (t .size) _ _);
     }
+
+-- ---- what the row learns of such a leg
+
+module _ (o : Option Leg) (distance time : Float) (e : o ≡ legBy distance time) where
+  pub leg-closed : roadF distance ≡ none → o ≡ none
+  unfolding legBy
+  leg-closed z = e ∙ rw z
+
+  pub leg-open : (d : Float) → roadF distance ≡ some d → o ≡ some (record { distance = d; time = time })
+  unfolding legBy
+  leg-open d z = e ∙ rw z

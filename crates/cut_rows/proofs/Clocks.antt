@@ -1,32 +1,31 @@
 -- The clocks of a stretch as it grows by a call, and when they end no run any more. Assumes nothing.
-use Prim.Native.Nat.{ℕ, suc, _+_, _-_, _<_, _≤_}
+use Prim.Native.Nat.{ℕ, suc, _≤_}
 use native.Mathlib.Decide.{le-ind}
-use native.Mathlib.Omega.{arith}
-use mathlib.Core.Path.{_≡_, sym, ap, subst, _∙_}
+use mathlib.Core.Path.{_≡_, refl, sym, ap, subst}
 use mathlib.Core.Bool.{false}
 use mathlib.Core.List.{List}
 use mathlib.Core.Option.{Option, none, some}
-use lib.ListN.{length, getD, take, drop}
-use lib.Seq.{take-suc, take-add}
+use lib.ListN.{getD}
 use lib.Dec.{eqb}
 use lib.Ieee.{Float, binary64, add}
-use Rattle.basics.specs.Options.{_>>=_}
+use Rattle.basics.specs.Options.{_>>=_, Holds}
+use Rattle.basics.proofs.OptionLaws.{unbound}
 use Rattle.definitions.specs.Sheet.{BreakOf}
 use Rattle.models.specs.Limits.{allowF}
-use Rattle.clock.specs.Clock.{begunF, aliveF, finishF}
+use Rattle.distance.specs.declared.leg.Leg.{Leg}
+use Rattle.clock.specs.Records.{ClockF}
+use Rattle.clock.specs.Clock.{pushF, aliveF, finishF}
 use Rattle.clock.specs.declared.schedule.Scheduled.{Scheduled}
-use Rattle.clock.proofs.Gone.{Gone, not-alive, finish-gone}
+use Rattle.clock.proofs.Gone.{Gone, not-alive, push-gone, finish-gone}
 use Rattle.evaluation.specs.Records.{Tables}
-use Rattle.evaluation.specs.Tables.{distanceF, recordF, timeF, placeBefore}
-use Rattle.evaluation.specs.Schedule.{tickF, clockFromF}
-use Rattle.evaluation.proofs.Growing.{clock-gone, clock-append, clock-grown}
+use Rattle.evaluation.specs.Tables.{recordF, legF, placeBefore}
 use Rattle.cut_rows.specs.declared.rows.Elapsed.{Elapsed}
 use Rattle.cut_rows.specs.Stretch.{joinedF, wayOf}
-use Rattle.cut_rows.specs.Runs.{Instance, visitF, timedOf, clockOf, End, backTime, endOf, allowedF, payF}
+use Rattle.cut_rows.specs.Runs.{Instance, visitF, timedOf, clockOf, End, backOf, endOf, allowedF, payF}
 
--- what the break clock reports of a run, as its end
-abbrev pub ended : Option Scheduled → Option End
-ended o = o >>= λ s. some (record { duration = s .duration; pay = s .cost })
+-- what the break clock reports of a run that is so far, as its end
+abbrev pub ended : Float → Option Scheduled → Option End
+ended far o = o >>= λ s. some (record { distance = far; duration = s .duration; pay = s .cost })
 
 -- ---- the end of a run decides whether it is allowed, and what is paid
 
@@ -39,7 +38,7 @@ module _ (I : Instance) (st : List ℕ) (m : ℕ) where
   not-ended e = rw e
 
   module _ (x : End) (e : endIs (some x)) where
-    pub allowed-is : allowedF I st m ≡ allowF (I .limits .maxDistance) (I .limits .maxDuration) (wayOf (distanceF (I .tables)) st m) (x .duration)
+    pub allowed-is : allowedF I st m ≡ allowF (I .limits .maxDistance) (I .limits .maxDuration) (x .distance) (x .duration)
     unfolding allowedF
     allowed-is = rw e
 
@@ -48,12 +47,18 @@ module _ (I : Instance) (st : List ℕ) (m : ℕ) where
     pay-is = rw e
 
 module _ (t : Tables) (st : List ℕ) where
+  -- a run without a way has no end
+  pub end-closed : (k : ℕ) → wayOf (legF t) st k ≡ none → (rest : Option (BreakOf Float)) → endOf t st k rest ≡ none
+  unfolding endOf
+  end-closed k e none = unbound (timedOf t st k) _ (λ x. rw e)
+  end-closed k e (some b) = unbound (clockOf t st b k) _ (λ x. rw e)
+
   -- ---- without a break
 
-  pub timed-more : (m : ℕ) (x : Elapsed) → timedOf t st m ≡ some x
-      → timedOf t st (suc m) ≡ visitF (recordF t (getD st m 0)) (joinedF (x .time) (timeF t (placeBefore st m) (getD st m 0)) (eqb m 0)) (x .«late_cost»)
+  pub timed-more : (m : ℕ) (x : Elapsed) (g : Leg) → timedOf t st m ≡ some x → legF t (placeBefore st m) (getD st m 0) ≡ some g
+      → timedOf t st (suc m) ≡ visitF (recordF t (getD st m 0)) (joinedF (x .time) (g .time) (eqb m 0)) (x .«late_cost»)
   unfolding timedOf
-  timed-more m x e = rw e
+  timed-more m x g e eg = rw (e, eg)
 
   -- a window that is shut ends every longer run
   timed-none : (m : ℕ) → timedOf t st m ≡ none → timedOf t st (suc m) ≡ none
@@ -67,31 +72,45 @@ module _ (t : Tables) (st : List ℕ) where
   unfolding endOf
   end-shut k e = rw e
 
-  pub end-timed : (k : ℕ) (x : Elapsed) → timedOf t st k ≡ some x → endOf t st k none ≡ some (record { duration = add binary64 (x .time) (backTime t st k); pay = x .«late_cost» })
-  unfolding endOf
-  end-timed k x e = rw e
+  module _ (k : ℕ) (far : Float) (back : Leg) (ef : wayOf (legF t) st k ≡ some far) (eb : backOf t st k ≡ some back) where
+    pub end-timed : (x : Elapsed) → timedOf t st k ≡ some x
+        → endOf t st k none ≡ some (record { distance = far; duration = add binary64 (x .time) (back .time); pay = x .«late_cost» })
+    unfolding endOf
+    end-timed x e = rw (e, ef, eb)
+
+    pub end-finished : (b : BreakOf Float) (x : ClockF) (o : Option Scheduled) → clockOf t st b k ≡ some x → finishF far (back .time) x ≡ o
+        → endOf t st k (some b) ≡ ended far o
+    unfolding endOf
+    end-finished b x o e eo = rw (e, ef, eb, eo)
 
   -- ---- with one
 
   module _ (b : BreakOf Float) where
-    pub clock-more : (m : ℕ) → m < length st → clockOf t st b (suc m) ≡ tickF t (clockOf t st b m) (getD st m 0)
+    pub clock-more : (m : ℕ) (x : ClockF) (g : Leg) → clockOf t st b m ≡ some x → legF t (placeBefore st m) (getD st m 0) ≡ some g
+        → clockOf t st b (suc m) ≡ some (pushF x (getD st m 0) (recordF t (getD st m 0)) (g .time))
     unfolding clockOf
-    clock-more m h = ap (clockFromF t (begunF b)) (take-suc st m 0 h) ∙ clock-grown t (begunF b) (take m st) (getD st m 0)
+    clock-more m x g e eg = rw (e, eg)
 
     -- a clock with no label left ends no longer run
-    clock-dead : (m : ℕ) → aliveF (clockOf t st b m) ≡ false → (k : ℕ) → m ≤ k → Gone (clockOf t st b k)
+    gone-more : (m : ℕ) → Holds Gone (clockOf t st b m) → Holds Gone (clockOf t st b (suc m))
     unfolding clockOf
-    clock-dead m e k h =
-        let z : m + (k - m) ≡ k = omega arith in
-        subst Gone
-        (sym (clock-append t (begunF b) (take m st) (take (k - m) (drop m st))) ∙ ap (clockFromF t (begunF b)) (sym (take-add m (k - m) st) ∙ ap (λ (n : ℕ). take n st) z))
-        (clock-gone t (clockOf t st b m) (take (k - m) (drop m st)) (not-alive (clockOf t st b m) e))
+    gone-more m = go (clockOf t st b m) (legF t (placeBefore st m) (getD st m 0))
+      where
+        go : (o : Option ClockF) (g : Option Leg) → Holds Gone o
+            → Holds Gone (o >>= λ x. g >>= λ l. some (pushF x (getD st m 0) (recordF t (getD st m 0)) (l .time)))
+        go none g z = tt
+        go (some x) none z = tt
+        go (some x) (some l) z = push-gone x _ _ _ z
 
-    pub end-finished : (k : ℕ) (o : Option Scheduled) → finishF (wayOf (distanceF t) st k) (backTime t st k) (clockOf t st b k) ≡ o
-        → endOf t st k (some b) ≡ ended o
-    unfolding endOf
-    end-finished k o e = rw e
+    clock-dead : (m : ℕ) (x : ClockF) → clockOf t st b m ≡ some x → aliveF x ≡ false → (k : ℕ) → m ≤ k → Holds Gone (clockOf t st b k)
+    clock-dead m x e z k h =
+        le-ind (λ (n : ℕ). Holds Gone (clockOf t st b n)) (subst (Holds Gone) (sym e) (not-alive x z)) (λ n _ r. gone-more n r) k h
 
-    pub end-dead : (m : ℕ) → aliveF (clockOf t st b m) ≡ false → (k : ℕ) → m ≤ k → endOf t st k (some b) ≡ none
+    pub end-dead : (m : ℕ) (x : ClockF) → clockOf t st b m ≡ some x → aliveF x ≡ false → (k : ℕ) → m ≤ k → endOf t st k (some b) ≡ none
     unfolding endOf
-    end-dead m e k h = rw (finish-gone (wayOf (distanceF t) st k) (backTime t st k) (clockOf t st b k) (clock-dead m e k h))
+    end-dead m x e z k h = go (clockOf t st b k) (clock-dead m x e z k h)
+      where
+        go : (o : Option ClockF) → Holds Gone o
+            → (o >>= λ y. wayOf (legF t) st k >>= λ far. backOf t st k >>= λ back. ended far (finishF far (back .time) y)) ≡ none
+        go none g = refl
+        go (some y) g = unbound (wayOf (legF t) st k) _ (λ far. unbound (backOf t st k) _ (λ back. ap (ended far) (finish-gone far (back .time) y g)))

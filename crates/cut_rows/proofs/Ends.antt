@@ -1,8 +1,8 @@
--- Where a row ends, for every stretch that begins alike: the calls up to the one that ends it decide load, time and clock. Assumes nothing.
+-- Where a row ends, for every stretch that begins alike: the calls up to the one that ends it decide load, legs, time and clock. Assumes nothing.
 use Prim.Native.Nat.{ℕ, suc, _<_, _≤_}
 use native.Mathlib.Nat.{le-refl}
 use native.Mathlib.Omega.{arith}
-use mathlib.Core.Path.{_≡_, sym, ap, _∙_}
+use mathlib.Core.Path.{_≡_, sym, ap, ap₂, _∙_}
 use mathlib.Core.Bool.{Bool, false, _&&_, and-false}
 use mathlib.Core.List.{List}
 use mathlib.Core.Option.{none, some}
@@ -11,15 +11,17 @@ use lib.Ieee.{Float}
 use Rattle.cut_table.specs.Table.{Table}
 use Rattle.definitions.specs.Sheet.{BreakOf}
 use Rattle.definitions.specs.Load.{Load, plus, carried}
-use Rattle.clock.specs.Clock.{begunF, aliveF}
-use Rattle.evaluation.specs.Schedule.{clockFromF}
+use Rattle.clock.specs.Records.{ClockF}
+use Rattle.clock.specs.Clock.{aliveF}
+use Rattle.evaluation.specs.Tables.{legF, placeBefore}
 use Rattle.cut_rows.specs.Stretch.{loadTo, fitsOf}
 use Rattle.cut_rows.specs.Tariff.{Tariff, legalOf, RowOf, Ended}
 use Rattle.cut_rows.specs.Runs.{Instance, tariff, timedOf, clockOf, endOf}
 use Rattle.cut_rows.proofs.Fitting.{none-over}
-use Rattle.cut_rows.proofs.Alike.{load-alike, timed-alike}
+use Rattle.cut_rows.proofs.Alike.{call-alike, place-alike, load-alike, timed-alike, clock-alike}
 use Rattle.cut_rows.proofs.Along.{Row, Along, load-next, stopped, at-end}
-use Rattle.cut_rows.proofs.Clocks.{not-ended, timed-shut, end-shut, end-dead}
+use Rattle.cut_rows.proofs.Roads.{way-closed}
+use Rattle.cut_rows.proofs.Clocks.{not-ended, end-closed, timed-shut, end-shut, end-dead}
 
 -- ---- the ends
 
@@ -56,18 +58,28 @@ module _ (I : Instance) (st : List ℕ) (r : ℕ) (b : r ≤ length st) where
       ∙ end-shut (I .tables) st' m (timed-shut (I .tables) st' (suc r) (timed-alike (suc r) st' st a (I .tables) (suc r) (le-refl _) ∙ e) m h)))
 
   -- a clock with no label left
-  pub dead-over : (rest : BreakOf Float) → I .limits .rest ≡ some rest → aliveF (clockOf (I .tables) st rest (suc r)) ≡ false → Ended (tariff I) st r
-  unfolding clockOf
-  dead-over rest broken e =
+  pub dead-over : (rest : BreakOf Float) → I .limits .rest ≡ some rest → (x : ClockF) → clockOf (I .tables) st rest (suc r) ≡ some x → aliveF x ≡ false
+      → Ended (tariff I) st r
+  dead-over rest broken x e z =
       not-allowed (tariff I) st r b
       (λ st' a m h.
       not-ended I st' m
       (ap (endOf (I .tables) st' m) broken
-      ∙ end-dead (I .tables) st' rest (suc r) (ap (λ (l : List ℕ). aliveF (clockFromF (I .tables) (begunF rest) l)) a ∙ e) m h))
+      ∙ end-dead (I .tables) st' rest (suc r) x (clock-alike (suc r) st' st a (I .tables) rest (suc r) (le-refl _) ∙ e) z m h))
+
+  -- a closed leg to the next call
+  pub closed-over : legF (I .tables) (placeBefore st r) (getD st r 0) ≡ none → Ended (tariff I) st r
+  closed-over e =
+      not-allowed (tariff I) st r b
+      (λ st' a m h.
+      let same : legF (I .tables) (placeBefore st' r) (getD st' r 0) ≡ none
+      = ap₂ (legF (I .tables)) (place-alike (suc r) st' st a r (omega arith)) (call-alike (suc r) st' st a r (omega arith)) ∙ e
+      in
+      not-ended I st' m (end-closed (I .tables) st' m (way-closed (legF (I .tables)) st' r same m h) (I .limits .rest)))
 
 -- ---- a row that ends after m calls
 
-module _ {T : Tariff} {R : Row} {new : Table} {load : Load} {gone : Float} {prev m : ℕ} (A : Along T R new load gone prev m) where
+module _ {T : Tariff} {R : Row} {new : Table} {load : Load} {gone : Float} {m : ℕ} (A : Along T R new load gone m) where
   abbrev EndsHere : Type 0
   EndsHere = RowOf T (R .st) (R .i) (R .old) new × Ended T (R .st) m
 
@@ -81,3 +93,10 @@ module _ {T : Tariff} {R : Row} {new : Table} {load : Load} {gone : Float} {prev
   overloaded b d load' e p o =
       let E = heavy-over T (R .st) m (A .within) (sym (ap (λ (l : Load). carried l (T .capacity)) (load-next A d load' e p)) ∙ o) in
       (stopped A b E, E)
+
+-- since the leg to the next call is closed
+pub cut-off : (I : Instance) {R : Row} {new : Table} {load : Load} {gone : Float} {m : ℕ} (A : Along (tariff I) R new load gone m) → m < length (R .st)
+    → legF (I .tables) (placeBefore (R .st) m) (getD (R .st) m 0) ≡ none → EndsHere A
+cut-off I {R} {m = m} A b e =
+    let E = closed-over I (R .st) m (A .within) e in
+    (stopped A b E, E)

@@ -9,17 +9,20 @@ use lib.ListN.{length, take, drop, length-drop}
 use lib.Seq.{length-take-le}
 use lib.Dec.{leb}
 use lib.Ieee.{Float}
+use Rattle.basics.specs.Options.{valueOr}
 use Rattle.basics.proofs.TestLaws.{same-test}
 use Rattle.basics.proofs.Parts.{parts-alike, shorter, long-alike}
 use Rattle.cut_theory.specs.Rows.{rule64}
 use Rattle.definitions.specs.Load.{Load}
 use Rattle.definitions.specs.Sheet.{BreakOf}
+use Rattle.whole.specs.Whole.{fl}
+use Rattle.distance.specs.declared.leg.Leg.{Leg}
 use Rattle.evaluation.specs.Records.{Tables}
-use Rattle.evaluation.specs.Tables as Lookup
+use Rattle.evaluation.specs.Tables.{legF}
 use Rattle.cut_rows.specs.Stretch.{fitsOf, goneOf, wayOf}
 use Rattle.cut_rows.specs.Tariff.{Tariff, stretches, legalOf, farOf, runsOf, farsOf, Ended}
-use Rattle.cut_rows.specs.Runs.{Instance, tariff, clockOf, endOf, allowedF, payF}
-use Rattle.cut_rows.proofs.Alike.{call-alike, place-alike, load-alike, timed-alike}
+use Rattle.cut_rows.specs.Runs.{Instance, tariff, endOf, allowedF, payF}
+use Rattle.cut_rows.proofs.Alike.{call-alike, place-alike, load-alike, timed-alike, clock-alike}
 
 -- ---- stretches that begin alike
 
@@ -29,19 +32,19 @@ module _ (m : ℕ) (st st' : List ℕ) (e : take m st ≡ take m st') where
   fits-alike demand capacity =
       rw (load-alike m st st' e demand m (le-refl m), same-test (leb m (length st)) (leb m (length st')) (long-alike m st st' e) (long-alike m st' st (sym e))) refl
 
-  gone-alike : (leg : ℕ → ℕ → Float) (k : ℕ) → k ≤ m → goneOf leg st k ≡ goneOf leg st' k
+  gone-alike : (leg : ℕ → ℕ → Option Leg) (k : ℕ) → k ≤ m → goneOf leg st k ≡ goneOf leg st' k
   unfolding goneOf
   gone-alike leg zero h = refl
   gone-alike leg (suc k) h = rw (gone-alike leg k (omega arith), place-alike m st st' e k (omega arith), call-alike m st st' e k h) refl
 
-  way-alike : (leg : ℕ → ℕ → Float) → wayOf leg st m ≡ wayOf leg st' m
+  way-alike : (leg : ℕ → ℕ → Option Leg) → wayOf leg st m ≡ wayOf leg st' m
   unfolding wayOf
   way-alike leg = rw (gone-alike leg m (le-refl m), place-alike m st st' e m (le-refl m)) refl
 
   end-alike : (t : Tables) (rest : Option (BreakOf Float)) → endOf t st m rest ≡ endOf t st' m rest
-  unfolding endOf clockOf
-  end-alike t none = rw (timed-alike m st st' e t m (le-refl m), place-alike m st st' e m (le-refl m)) refl
-  end-alike t (some b) = rw (way-alike (Lookup.distanceF t), place-alike m st st' e m (le-refl m), e) refl
+  unfolding endOf
+  end-alike t none = rw (timed-alike m st st' e t m (le-refl m), way-alike (legF t), place-alike m st st' e m (le-refl m)) refl
+  end-alike t (some b) = rw (clock-alike m st st' e t b m (le-refl m), way-alike (legF t), place-alike m st st' e m (le-refl m)) refl
 
 -- ---- tariffs that turn on the calls of a run alone
 
@@ -53,7 +56,7 @@ pub tariff-local : (I : Instance) → Local (tariff I)
 unfolding allowedF payF
 tariff-local I =
     record {
-      allowed-local = λ m st st' e. rw (end-alike m st st' e (I .tables) (I .limits .rest), way-alike m st st' e (Lookup.distanceF (I .tables))) refl;
+      allowed-local = λ m st st' e. rw (end-alike m st st' e (I .tables) (I .limits .rest)) refl;
       pays-local = λ m st st' e. rw (end-alike m st st' e (I .tables) (I .limits .rest)) refl;
     }
 
@@ -64,7 +67,7 @@ module _ (T : Tariff) (L : Local T) where
 
   far-alike : (m : ℕ) (st st' : List ℕ) → take m st ≡ take m st' → farOf T st m ≡ farOf T st' m
   unfolding farOf
-  far-alike m st st' e = way-alike m st st' e (T .leg)
+  far-alike m st st' e = ap (valueOr (fl 0)) (way-alike m st st' e (T .leg))
 
   -- ---- calls held that begin alike
 

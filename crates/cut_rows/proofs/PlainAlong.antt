@@ -11,52 +11,64 @@ use Rattle.cut_theory.specs.Tab.{mostCut}
 use Rattle.models.specs.Limits.{allowF}
 use Rattle.whole.specs.Whole.{fl}
 use Rattle.cut_table.specs.Table.{Table, Offered}
-use Rattle.evaluation.specs.Tables.{placeBefore}
+use Rattle.distance.specs.declared.leg.Leg.{Leg}
+use Rattle.distance.specs.Lookup.{roadF}
+use Rattle.evaluation.specs.Tables.{legF, placeBefore}
 use Rattle.definitions.specs.Load.{Load, plus, carried}
 use Rattle.cut_stops.specs.Stops.{StopF}
 use Rattle.cut_rows.specs.declared.rows.Elapsed.{Elapsed}
 use Rattle.cut_rows.specs.Stretch.{joinedF}
 use Rattle.cut_rows.specs.Tariff.{RowOf, Ended}
 use Rattle.cut_rows.specs.Runs.{Instance, tariff, visitF, timedOf, End, endOf, allowedF}
-use Rattle.cut_rows.proofs.Along.{Row, Along, OneMore, stopped, in-place, far-is, over, onward}
-use Rattle.cut_rows.proofs.Clocks.{allowed-is, pay-is, timed-more, end-timed}
+use Rattle.cut_rows.proofs.Along.{Row, Along, OneMore, stopped, far-is, over, onward}
+use Rattle.cut_rows.proofs.Roads.{home-closed}
+use Rattle.cut_rows.proofs.Clocks.{not-ended, allowed-is, pay-is, end-closed, timed-more, end-timed}
 use Rattle.cut_rows.proofs.Ends.{shut-over}
-use Rattle.cut_rows.proofs.Calls.{CallIs}
+use Rattle.cut_rows.proofs.Calls.{CallIs, leg-closed, leg-open}
 
 pub record PlainAlong (I : Instance) (R : Row) (new : Table) (load : Load) (gone time late : Float) (m : ℕ) : Type 0 where
-  pub along : Along (tariff I) R new load gone (placeBefore (R .st) m) m
+  pub along : Along (tariff I) R new load gone m
   pub timed : timedOf (I .tables) (R .st) m ≡ some (record { time = time; «late_cost» = late })
 
 -- before the first call
-pub plain-setout : {I : Instance} {R : Row} {load : Load} {gone time late : Float} → Along (tariff I) R (R .old) load gone 0 0
+pub plain-setout : {I : Instance} {R : Row} {load : Load} {gone time late : Float} → Along (tariff I) R (R .old) load gone 0
     → time ≡ fl 0 → late ≡ fl 0 → PlainAlong I R (R .old) load gone time late 0
 unfolding timedOf
-plain-setout A et el = record { along = in-place A; timed = rw (et, el) refl }
+plain-setout A et el = record { along = A; timed = rw (et, el) refl }
 
+-- a call whose load fits, with the leg to it, which is open
 module _ (I : Instance) (unbroken : I .limits .rest ≡ none) {R : Row} {new : Table} {load : Load} {gone time late : Float} {m : ℕ}
-    {load' : Load} {gone' : Float} (s : StopF) (leg travel arrival : Float)
-    (A : PlainAlong I R new load gone time late m) (C : CallIs (I .tables) (R .st) m s leg travel)
+    {load' : Load} {gone' : Float} (s : StopF) (listed travel arrival leg : Float)
+    (A : PlainAlong I R new load gone time late m) (C : CallIs (I .tables) (R .st) m s listed travel)
     (b : m < length (R .st)) (short : R .i + length (R .st) ≤ mostCut)
     (es : load' ≡ plus load (s .customer .demand))
     (ef : carried load' (I .capacity) ≡ true)
+    (el : roadF listed ≡ some leg)
     (eg : gone' ≡ joinedF gone leg (eqb m 0))
     (ea : arrival ≡ joinedF time travel (eqb m 0)) where
-  one-more : OneMore (tariff I) R load gone (placeBefore (R .st) m) m load' gone'
+  -- its number
+  abbrev call : ℕ
+  call = getD (R .st) m 0
+
+  leg-is : legF (I .tables) (placeBefore (R .st) m) call ≡ some (record { distance = leg; time = travel })
+  leg-is = leg-open _ listed travel (C .leg-is) leg el
+
+  one-more : OneMore (tariff I) R load gone m load' gone'
   one-more =
       record {
         inside = b;
         short = short;
         demand = s .customer .demand;
-        leg = leg;
+        leg = record { distance = leg; time = travel };
         is-demand = C .demand-is;
         is-load = es;
         fits = ef;
-        is-leg = C .leg-is;
+        is-leg = leg-is;
         is-gone = eg;
       }
 
   timed-is : timedOf (I .tables) (R .st) (suc m) ≡ visitF (s .customer) arrival late
-  timed-is = timed-more (I .tables) (R .st) m _ (A .timed) ∙ rw (C .record-is, ea, C .travel-is) refl
+  timed-is = timed-more (I .tables) (R .st) m _ _ (A .timed) leg-is ∙ rw (C .record-is, ea) refl
 
   -- a window that is shut
   pub shut : visitF (s .customer) arrival late ≡ none → RowOf (tariff I) (R .st) (R .i) (R .old) new × Ended (tariff I) (R .st) m
@@ -66,46 +78,56 @@ module _ (I : Instance) (unbroken : I .limits .rest ≡ none) {R : Row} {new : T
 
   -- a call that is served
   module _ (v : Elapsed) (ev : visitF (s .customer) arrival late ≡ some v) where
-    abbrev total : Float
-    total = add binary64 gone' (s .back)
-
-    abbrev endsAt : Float → End
-    endsAt back = record { duration = add binary64 (v .time) back; pay = v .«late_cost» }
-
-    abbrev ending : End
-    ending = endsAt (s .timeBack)
-
-    end-is : endOf (I .tables) (R .st) (suc m) (I .limits .rest) ≡ some ending
-    unfolding placeBefore
-    end-is =
-        ap (endOf (I .tables) (R .st) (suc m)) unbroken
-        ∙ end-timed (I .tables) (R .st) (suc m) v (timed-is ∙ ev)
-        ∙ ap (λ (x : Float). some (endsAt x)) (sym (C .back-is))
-
-    abbrev allows : Bool
-    allows = allowF (I .limits .maxDistance) (I .limits .maxDuration) total (add binary64 (v .time) (s .timeBack))
-
-    allows-is : allowedF I (R .st) (suc m) ≡ allows
-    allows-is =
-        allowed-is I (R .st) (suc m) ending end-is
-        ∙ ap (λ (x : Float). allowF (I .limits .maxDistance) (I .limits .maxDuration) x (add binary64 (v .time) (s .timeBack)))
-        (sym (far-is (A .along) one-more (s .back) (C .home-is)))
-
     -- after it
     abbrev Next : Table → Type 0
     Next new' = PlainAlong I R new' load' gone' (v .time) (v .«late_cost») (m + 1)
 
-    next : (new' : Table) → Along (tariff I) R new' load' gone' (getD (R .st) m 0) (m + 1) → Next new'
-    next new' N = record { along = in-place N; timed = ap (timedOf (I .tables) (R .st)) (add-one m) ∙ timed-is ∙ ev }
+    next : (new' : Table) → Along (tariff I) R new' load' gone' (m + 1) → Next new'
+    next new' N = record { along = N; timed = ap (timedOf (I .tables) (R .st)) (add-one m) ∙ timed-is ∙ ev }
 
-    -- over a limit
-    pub skip : allows ≡ false → Next new
-    skip z = next new (over (A .along) one-more (allows-is ∙ z))
+    -- the way home is closed
+    pub homeless : roadF (s .back) ≡ none → Next new
+    unfolding placeBefore
+    homeless z =
+        next new
+        (over (A .along) one-more
+        (not-ended I (R .st) (suc m)
+        (end-closed (I .tables) (R .st) (suc m) (home-closed (legF (I .tables)) (R .st) (suc m) (leg-closed _ (s .back) (s .timeBack) (C .home-is) z)) (I .limits .rest))))
 
-    -- within the limits
-    pub put : (j : ℕ) (new' : Table) → allows ≡ true → j ≡ R .i + (m + 1)
-        → Offered j (R .i) (add binary64 (add binary64 (R .base) total) (v .«late_cost»)) (add binary64 (R .ahead) total) new new' → Next new'
-    put j new' z ej O =
-        next new'
-        (onward (A .along) one-more (s .back) _ j new' (C .home-is) (allows-is ∙ z)
-        (ap (add binary64 (add binary64 (R .base) total)) (sym (pay-is I (R .st) (suc m) ending end-is))) ej O)
+    -- it is open
+    module _ (back : Float) (eb : roadF (s .back) ≡ some back) where
+      abbrev home : Leg
+      home = record { distance = back; time = s .timeBack }
+
+      home-is : legF (I .tables) call 0 ≡ some home
+      home-is = leg-open _ (s .back) (s .timeBack) (C .home-is) back eb
+
+      abbrev total : Float
+      total = add binary64 gone' back
+
+      abbrev ending : End
+      ending = record { distance = total; duration = add binary64 (v .time) (s .timeBack); pay = v .«late_cost» }
+
+      end-is : endOf (I .tables) (R .st) (suc m) (I .limits .rest) ≡ some ending
+      unfolding placeBefore
+      end-is =
+          ap (endOf (I .tables) (R .st) (suc m)) unbroken
+          ∙ end-timed (I .tables) (R .st) (suc m) total home (far-is (A .along) one-more home home-is) home-is v (timed-is ∙ ev)
+
+      abbrev allows : Bool
+      allows = allowF (I .limits .maxDistance) (I .limits .maxDuration) total (add binary64 (v .time) (s .timeBack))
+
+      allows-is : allowedF I (R .st) (suc m) ≡ allows
+      allows-is = allowed-is I (R .st) (suc m) ending end-is
+
+      -- over a limit
+      pub skip : allows ≡ false → Next new
+      skip z = next new (over (A .along) one-more (allows-is ∙ z))
+
+      -- within the limits
+      pub put : (j : ℕ) (new' : Table) → allows ≡ true → j ≡ R .i + (m + 1)
+          → Offered j (R .i) (add binary64 (add binary64 (R .base) total) (v .«late_cost»)) (add binary64 (R .ahead) total) new new' → Next new'
+      put j new' z ej O =
+          next new'
+          (onward (A .along) one-more home _ j new' home-is (allows-is ∙ z)
+          (ap (add binary64 (add binary64 (R .base) total)) (sym (pay-is I (R .st) (suc m) ending end-is))) ej O)

@@ -4,7 +4,7 @@ use Prim.Native.Nat.{ℕ, zero, suc, _≤_}
 use mathlib.Core.Bool.{Bool, cond}
 use mathlib.Core.List.{List, [], _∷_}
 use mathlib.Core.Option.{Option, none, some}
-use lib.ListN.{length, getD, take, drop}
+use lib.ListN.{length, getD, drop}
 use lib.Dec.{eqb}
 use lib.Ieee as Ieee
 use lib.Ieee.{Float, binary64}
@@ -21,13 +21,12 @@ use Rattle.models.specs.Limits.{allowF}
 use Rattle.models.specs.Window.{lateF}
 use Rattle.whole.specs.Whole.{fl}
 use Rattle.whole.specs.Larger.{largerF}
+use Rattle.distance.specs.declared.leg.Leg.{Leg}
 use Rattle.clock.specs.Records.{ClockF}
-use Rattle.clock.specs.Clock.{begunF, finishF}
+use Rattle.clock.specs.Clock.{begunF, pushF, finishF}
 use Rattle.evaluation.specs.Records.{Tables, LimitsF}
 use Rattle.evaluation.specs.Records as Evaluation
-use Rattle.evaluation.specs.Tables as Lookup
-use Rattle.evaluation.specs.Tables.{recordF, demandF, timeF, placeBefore}
-use Rattle.evaluation.specs.Schedule.{clockFromF}
+use Rattle.evaluation.specs.Tables.{recordF, demandF, legF, placeBefore}
 use Rattle.cut_stops.specs.Stops.{Numbers, numbers, Long, StopsOf, Below64, LegLists, legLists, LegsLong, LegsAre}
 use Rattle.cut_table.specs.Table.{Table, Sized}
 use Rattle.cut_rows.specs.declared.terms.Terms.{Terms}
@@ -96,33 +95,45 @@ visitF c time late =
 -- ---- the first m calls of a stretch, from the depot at time 0
 
 module _ (t : Tables) (st : List ℕ) where
-  -- without a break
+  -- without a break; a closed leg ends the run
   unfoldable pub timedOf : ℕ → Option Elapsed
   timedOf zero = some (record { time = fl 0; «late_cost» = fl 0 })
-  timedOf (suc m) =
-      timedOf m
-      >>= λ x.
-      visitF (recordF t (getD st m 0)) (joinedF (x .time) (timeF t (placeBefore st m) (getD st m 0)) (eqb m 0)) (x .«late_cost»)
+  timedOf (suc m) = do
+    x ← timedOf m
+    g ← legF t (placeBefore st m) (getD st m 0)
+    visitF (recordF t (getD st m 0)) (joinedF (x .time) (g .time) (eqb m 0)) (x .«late_cost»)
 
   -- with one
-  unfoldable pub clockOf : BreakOf Float → ℕ → ClockF
-  clockOf b m = clockFromF t (begunF b) (take m st)
+  unfoldable pub clockOf : BreakOf Float → ℕ → Option ClockF
+  clockOf b zero = some (begunF b)
+  clockOf b (suc m) = do
+    x ← clockOf b m
+    g ← legF t (placeBefore st m) (getD st m 0)
+    some (pushF x (getD st m 0) (recordF t (getD st m 0)) (g .time))
 
--- home: how long a run takes, and what is paid for lateness
+-- home: how far a run is, how long it takes, and what is paid for lateness
 pub record End : Type 0 where
+  pub distance : Float
   pub duration : Float
   pub pay : Float
 
 module _ (t : Tables) (st : List ℕ) (m : ℕ) where
   -- the leg home is the last
-  abbrev pub backTime : Float
-  backTime = timeF t (placeBefore st m) 0
+  abbrev pub backOf : Option Leg
+  backOf = legF t (placeBefore st m) 0
 
   unfoldable pub endOf : Option (BreakOf Float) → Option End
-  endOf none = timedOf t st m >>= λ x. some (record { duration = Ieee.add binary64 (x .time) backTime; pay = x .«late_cost» })
-  endOf (some b) =
-      finishF (wayOf (Lookup.distanceF t) st m) backTime (clockOf t st b m)
-      >>= λ s. some (record { duration = s .duration; pay = s .cost })
+  endOf none = do
+    x ← timedOf t st m
+    far ← wayOf (legF t) st m
+    back ← backOf
+    some (record { distance = far; duration = Ieee.add binary64 (x .time) (back .time); pay = x .«late_cost» })
+  endOf (some b) = do
+    x ← clockOf t st b m
+    far ← wayOf (legF t) st m
+    back ← backOf
+    s ← finishF far (back .time) x
+    some (record { distance = far; duration = s .duration; pay = s .cost })
 
 abbrev pub payOf : Option End → Float
 payOf none = fl 0
@@ -135,8 +146,7 @@ module _ (I : Instance) where
   unfoldable pub allowedF : List ℕ → ℕ → Bool
   allowedF st m =
       holds (endOf (I .tables) st m (I .limits .rest))
-      (λ e.
-      allowF (I .limits .maxDistance) (I .limits .maxDuration) (wayOf (Lookup.distanceF (I .tables)) st m) (e .duration))
+      (λ e. allowF (I .limits .maxDistance) (I .limits .maxDuration) (e .distance) (e .duration))
 
   unfoldable pub payF : List ℕ → ℕ → Float
   payF st m = payOf (endOf (I .tables) st m (I .limits .rest))
@@ -146,7 +156,7 @@ module _ (I : Instance) where
       record {
         demand = demandF (I .tables .customers);
         capacity = I .capacity;
-        leg = Lookup.distanceF (I .tables);
+        leg = legF (I .tables);
         fixed = I .fixed;
         allowed = allowedF;
         pays = λ st m. payF st m ∷ [];

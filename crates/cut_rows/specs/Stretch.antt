@@ -3,11 +3,14 @@
 use Prim.Native.Nat.{ℕ, zero, suc, _-_}
 use mathlib.Core.Bool.{Bool, cond, _&&_}
 use mathlib.Core.List.{List}
+use mathlib.Core.Option.{Option, some}
 use lib.ListN.{length, getD}
 use lib.Dec.{leb, eqb}
 use lib.Ieee.{Float, binary64, add}
+use Rattle.basics.specs.Options.{_>>=_}
 use Rattle.definitions.specs.Load.{Load, noLoad, plus, carried}
 use Rattle.whole.specs.Whole.{fl}
+use Rattle.distance.specs.declared.leg.Leg.{Leg}
 use Rattle.evaluation.specs.Tables.{placeBefore}
 
 -- a leg after those that are gone; the first leg stands alone
@@ -23,14 +26,20 @@ loadTo demand st (suc m) = plus (loadTo demand st m) (demand (getD st m 0))
 unfoldable pub fitsOf : (ℕ → Load) → Load → List ℕ → ℕ → Bool
 fitsOf demand capacity st m = leb m (length st) && carried (loadTo demand st m) capacity
 
--- the way from the depot through the first m calls of st, added leg by leg
-unfoldable pub goneOf : (ℕ → ℕ → Float) → List ℕ → ℕ → Float
-goneOf leg st zero = fl 0
-goneOf leg st (suc m) = joinedF (goneOf leg st m) (leg (placeBefore st m) (getD st m 0)) (eqb m 0)
+-- the way from the depot through the first m calls of st, added leg by leg; none where one of the legs is closed
+unfoldable pub goneOf : (ℕ → ℕ → Option Leg) → List ℕ → ℕ → Option Float
+goneOf leg st zero = some (fl 0)
+goneOf leg st (suc m) = do
+  gone ← goneOf leg st m
+  next ← leg (placeBefore st m) (getD st m 0)
+  some (joinedF gone (next .distance) (eqb m 0))
 
 -- and home
-unfoldable pub wayOf : (ℕ → ℕ → Float) → List ℕ → ℕ → Float
-wayOf leg st m = add binary64 (goneOf leg st m) (leg (placeBefore st m) 0)
+unfoldable pub wayOf : (ℕ → ℕ → Option Leg) → List ℕ → ℕ → Option Float
+wayOf leg st m = do
+  gone ← goneOf leg st m
+  back ← leg (placeBefore st m) 0
+  some (add binary64 gone (back .distance))
 
 -- ---- a run, whose last call is reached
 
@@ -43,5 +52,5 @@ abbrev pub legTo : List ℕ → Float → Float → Float
 legTo run out leg = cond (eqb (length run) 1) out leg
 
 -- and the way with it
-abbrev pub wayTo : List ℕ → Float → Float → Float → Float
-wayTo run out gone leg = joinedF gone (legTo run out leg) (eqb (length run) 1)
+abbrev pub wayTo : List ℕ → Float → Float → Float
+wayTo run gone leg = joinedF gone leg (eqb (length run) 1)

@@ -4,8 +4,10 @@ use Prim.Native.Nat.{ℕ, suc, _-_, _<_, _≤_}
 use mathlib.Core.Path.{_≡_}
 use mathlib.Core.Bool.{Bool, false, _&&_}
 use mathlib.Core.List.{List, _∷_}
+use mathlib.Core.Option.{Option}
 use lib.ListN.{length, drop, take}
 use lib.Ieee.{Float, binary64, add}
+use Rattle.basics.specs.Options.{valueOr}
 use Rattle.cut_theory.specs.Cut.{best, ends}
 use Rattle.cut_theory.specs.Tab.{cells}
 use Rattle.cut_theory.specs.Rows.{Legs, rule64}
@@ -13,6 +15,7 @@ use Rattle.cut_theory.specs.Priced.{Price, legs}
 use Rattle.cut_theory.specs.Carried.{Carry, carriedTo, RowDone, RowsDone}
 use Rattle.definitions.specs.Load.{Load}
 use Rattle.whole.specs.Whole.{fl}
+use Rattle.distance.specs.declared.leg.Leg.{Leg}
 use Rattle.cut_table.specs.Table.{Table}
 use Rattle.cut_rows.specs.Stretch.{fitsOf, wayOf}
 
@@ -20,11 +23,12 @@ pub record Tariff : Type 0 where
   -- what a call asks for, and what a vehicle holds
   pub demand : ℕ → Load
   pub capacity : Load
-  pub leg : ℕ → ℕ → Float
+  -- the leg between two places, if it is open
+  pub leg : ℕ → ℕ → Option Leg
   -- the cost added for every run
   pub fixed : Float
   -- of the first m calls of a stretch: whether they are allowed as a run, whatever their load, and what is paid for it beside its
-  -- distance
+  -- distance; no run with a closed leg is allowed
   pub allowed : List ℕ → ℕ → Bool
   pub pays : List ℕ → ℕ → List Float
 
@@ -33,12 +37,13 @@ abbrev pub stretches : List ℕ → ℕ → List ℕ
 stretches held i = drop i held
 
 module _ (T : Tariff) where
-  -- the first m calls of a stretch: whether they are a legal run, and how far it is
+  -- the first m calls of a stretch: whether they are a legal run, and how far it is; no legal run has a closed leg, so the 0 is never
+  -- read
   unfoldable pub legalOf : List ℕ → ℕ → Bool
   legalOf st m = T .allowed st m && fitsOf (T .demand) (T .capacity) st m
 
   unfoldable pub farOf : List ℕ → ℕ → Float
-  farOf st m = wayOf (T .leg) st m
+  farOf st m = valueOr (fl 0) (wayOf (T .leg) st m)
 
   -- a row that goes over r calls of a stretch: all of them, or the next ends it for every stretch that begins alike, since no run with
   -- it is legal

@@ -19,6 +19,8 @@ use clock::schedule::Finished;
 use cut_stops::stops::stop_at;
 use cut_table::cells::CELLS;
 use cut_table::cells::offer;
+use distance::matrix::Road;
+use distance::matrix::road_of;
 use models::customer::Customer;
 use models::customer::Opening;
 use models::customer::Penalty;
@@ -78,7 +80,8 @@ pub fn visit(customer: Customer, time: f64, late_cost: f64) -> Visited
 }
 
 // Row i without a break: each run that starts at call i, after the best of the calls before it. Gives
-// how many calls the row goes over; no run that goes on from there is legal.
+// how many calls the row goes over; no run that goes on from there is legal. A closed leg to a call ends
+// the row, since every longer run would drive it; a closed way home bars that run alone.
 pub fn plain_row(
     cost: &mut [f64; CELLS],
     dist: &mut [f64; CELLS],
@@ -118,15 +121,21 @@ pub fn plain_row(
         if !load.fits(terms.capacity) {
             return m;
         }
-        gone = way_to(run, stop.out, gone, legs[last]);
-        let arrival = way_to(run, stop.time_out, time, time_legs[last]);
+        let Road::Length(leg) = road_of(leg_to(run, stop.out, legs[last])) else {
+            return m;
+        };
+        gone = way_to(run, gone, leg);
+        let arrival = way_to(run, time, leg_to(run, stop.time_out, time_legs[last]));
         let Visited::Open(v) = visit(stop.customer, arrival, late_cost) else {
             return m;
         };
         time = v.time;
         late_cost = v.late_cost;
         m += 1;
-        let total = gone + stop.back;
+        let Road::Length(back) = road_of(stop.back) else {
+            continue;
+        };
+        let total = gone + back;
         if !terms.limits.allow(total, time + stop.time_back) {
             continue;
         }
@@ -194,14 +203,20 @@ pub fn rest_row(
         if !load.fits(terms.capacity) {
             return m;
         }
-        gone = way_to(run, stop.out, gone, legs[last]);
+        let Road::Length(leg) = road_of(leg_to(run, stop.out, legs[last])) else {
+            return m;
+        };
+        gone = way_to(run, gone, leg);
         let travel = leg_to(run, stop.time_out, time_legs[last]);
         clock = pushed(clock, run, stop.customer, travel);
         if !clock.alive() {
             return m;
         }
         m += 1;
-        let total = gone + stop.back;
+        let Road::Length(back) = road_of(stop.back) else {
+            continue;
+        };
+        let total = gone + back;
         let Finished::Home(done) = clock.finish(total, stop.time_back) else {
             continue;
         };

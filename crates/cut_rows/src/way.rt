@@ -13,8 +13,8 @@ pub fn last_call(run: &[usize]) -> usize
     run[run.len() - 1]
 }
 
-// The leg to the run's last call: from the depot where it is the only one, and else from the call
-// before it.
+// The leg to the run's last call, as the lists have it: from the depot where it is the only one, and else
+// from the call before it.
 pub fn leg_to(run: &[usize], out: f64, leg: f64) -> f64
     ensures { λ r. ⌜ r ≡ legTo (now (run .entry)) out leg ⌝ }
 {
@@ -22,8 +22,8 @@ pub fn leg_to(run: &[usize], out: f64, leg: f64) -> f64
 }
 
 // The way so far with the leg to the run's last call; the first leg stands alone.
-pub fn way_to(run: &[usize], out: f64, gone: f64, leg: f64) -> f64
-    ensures { λ r. ⌜ r ≡ wayTo (now (run .entry)) out gone leg ⌝ }
+pub fn way_to(run: &[usize], gone: f64, leg: f64) -> f64
+    ensures { λ r. ⌜ r ≡ wayTo (now (run .entry)) gone leg ⌝ }
 {
-    if run.len() == 1 { out } else { gone + leg }
+    if run.len() == 1 { leg } else { gone + leg }
 }

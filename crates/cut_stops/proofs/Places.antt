@@ -3,7 +3,7 @@ use Prim.Native.Nat.{ℕ, zero, suc, _+_, _*_, _<_, _≤_}
 use native.Mathlib.Numerals.{add-one}
 use native.Mathlib.Nat.{add-zero}
 use native.Mathlib.Omega.{arith}
-use mathlib.Core.Path.{_≡_, refl, ap, _∙_}
+use mathlib.Core.Path.{_≡_, refl, ap, ap₂, _∙_}
 use mathlib.Core.List.{List, [], _∷_}
 use mathlib.Core.Option.{Option, none, some}
 use mathlib.Core.Logic.{_≢_}
@@ -14,12 +14,13 @@ use lib.Ieee.{Float, nan}
 use borrow.Author.Tests.{eqb-true, eqb-false, lt-ltb}
 use Rattle.basics.proofs.TestLaws.{by-test}
 use Rattle.definitions.specs.Sheet.{WindowOf, CustomerOf}
+use Rattle.distance.specs.Lookup.{driveF}
 use Rattle.models.specs.declared.customer.Customer.{Customer}
 use Rattle.models.specs.Records.{customerOf}
 use Rattle.evaluation.specs.Records.{Tables, lent}
-use Rattle.evaluation.specs.Tables.{recordIndex, distanceF, timeF}
+use Rattle.evaluation.specs.Tables.{recordIndex}
 use Rattle.evaluation.proofs.Reading.{read-record}
-use Rattle.cut_stops.specs.Stops.{StopF, openingAt, penaltyAt, code, timesIn, priceIn, codesOf, recordFigures, figuresOf, codesEach, figuresEach, Numbers, numbers, Long, stopIn, stopAt, HoldsTo, WorkedOut, StopsTo, StopsOf}
+use Rattle.cut_stops.specs.Stops.{StopF, openingAt, penaltyAt, code, timesIn, priceIn, codesOf, recordFigures, figuresOf, codesEach, figuresEach, Numbers, numbers, Long, placeBy, stopIn, stopAt, Put, HoldsTo, WorkedOut, StopsTo, StopsOf}
 
 -- ---- a run of stores
 
@@ -149,47 +150,49 @@ module _ (x : Numbers) (c : ℕ) (s : StopF) where
       (λ j b. sets-out 0 (codesOf (s .customer)) (x .codes) (codesEach * c) (codesEach * k + j) (λ x y. h (omega arith)))
       (λ j b. sets-out nan (figuresOf s) (x .figures) (figuresEach * c) (figuresEach * k + j) (λ x y. h (omega arith)))
 
+  pub stop-placed : (new : Numbers) → Long x → c < 64 → new .codes ≡ with x c s .codes → new .figures ≡ with x c s .figures → Put x c s new
+  stop-placed new l h ec ef =
+      rw (numbered new ec ef)
+      (record {
+        long =
+            record {
+              codes-long = length-sets (x .codes) (codesEach * c) (codesOf (s .customer)) ∙ l .codes-long;
+              figures-long = length-sets (x .figures) (figuresEach * c) (figuresOf s) ∙ l .figures-long;
+            };
+        here = stop-put l h;
+        others = stop-kept;
+      })
+    where
+      numbered : (new : Numbers) → new .codes ≡ with x c s .codes → new .figures ≡ with x c s .figures → new ≡ with x c s
+      numbered new e f = ap₂ numbers e f
+
 -- ---- every place
 
--- one more is put
-pub worked-more : (t : Tables) (x : Numbers) (n : ℕ) (s : StopF) (codes' : List ℕ) (figures' : List Float)
-    → HoldsTo t x n → n < 64 → s ≡ stopIn t n → codes' ≡ with x n s .codes → figures' ≡ with x n s .figures → HoldsTo t (numbers codes' figures') (n + 1)
-worked-more t x n s codes' figures' W h es ec ef =
-    rw (ec, ef)
-    (record {
-      long =
-          record {
-            codes-long = length-sets (x .codes) (codesEach * n) (codesOf (s .customer)) ∙ W .long .codes-long;
-            figures-long = length-sets (x .figures) (figuresEach * n) (figuresOf s) ∙ W .long .figures-long;
-          };
-      stops-are =
-          λ k b.
-          by-test (eqb k n) (λ e. rw (eqb-true k n e) (stop-put x n s (W .long) h ∙ es))
-          (λ e. stop-kept x n s k (eqb-false k n e) ∙ W .stops-are k (omega (arith, eqb-false k n e)));
-    })
+module _ (t : Tables) (x new : Numbers) (n : ℕ) (s : StopF) where
+  -- one more is put
+  pub worked-more : HoldsTo t x n → Put x n s new → s ≡ stopIn t n → HoldsTo t new (n + 1)
+  worked-more W P es =
+      record {
+        long = P .long;
+        stops-are =
+            λ k b.
+            by-test (eqb k n) (λ e. rw (eqb-true k n e) (P .here ∙ es)) (λ e. P .others k (eqb-false k n e) ∙ W .stops-are k (omega (arith, eqb-false k n e)));
+      }
 
--- the place of one call more
-pub stops-more : (t : Tables) (calls : List ℕ) (x : Numbers) (n : ℕ) (s : StopF) (codes' : List ℕ) (figures' : List Float) →
-    let c = getD calls n 0 in
-    StopsTo t calls x n → c < 64 → s ≡ stopIn t c → codes' ≡ with x c s .codes → figures' ≡ with x c s .figures → StopsTo t calls (numbers codes' figures') (n + 1)
-stops-more t calls x n s codes' figures' W h es ec ef =
-    let c = getD calls n 0 in
-    rw (ec, ef)
-    (record {
-      long =
-          record {
-            codes-long = length-sets (x .codes) (codesEach * c) (codesOf (s .customer)) ∙ W .long .codes-long;
-            figures-long = length-sets (x .figures) (figuresEach * c) (figuresOf s) ∙ W .long .figures-long;
-          };
-      stops-are =
-          λ k b.
-          let d = getD calls k 0 in
-          by-test (eqb d c) (λ e. rw (eqb-true d c e) (stop-put x c s (W .long) h ∙ es))
-          (λ e. stop-kept x c s d (eqb-false d c e) ∙ W .stops-are k (earlier k b (eqb-false d c e)));
-    })
-  where
-    earlier : (k : ℕ) → k < n + 1 → (getD calls k 0 ≡ getD calls n 0 → ⊥) → k < n
-    earlier k b other = by-test (eqb k n) (λ e. absurd (other (ap (λ (j : ℕ). getD calls j 0) (eqb-true k n e)))) (λ e. omega (arith, b, eqb-false k n e))
+  -- the place of one call more
+  pub stops-more : (calls : List ℕ) → StopsTo t calls x n → Put x (getD calls n 0) s new → s ≡ stopIn t (getD calls n 0) → StopsTo t calls new (n + 1)
+  stops-more calls W P es =
+      record {
+        long = P .long;
+        stops-are =
+            λ k b.
+            let c = getD calls n 0 in
+            let d = getD calls k 0 in
+            by-test (eqb d c) (λ e. rw (eqb-true d c e) (P .here ∙ es)) (λ e. P .others d (eqb-false d c e) ∙ W .stops-are k (earlier k b (eqb-false d c e)));
+      }
+    where
+      earlier : (k : ℕ) → k < n + 1 → (getD calls k 0 ≡ getD calls n 0 → ⊥) → k < n
+      earlier k b other = by-test (eqb k n) (λ e. absurd (other (ap (λ (j : ℕ). getD calls j 0) (eqb-true k n e)))) (λ e. omega (arith, b, eqb-false k n e))
 
 pub stops-all : (t : Tables) (calls : List ℕ) (x : Numbers) (n : ℕ) → StopsTo t calls x n → length calls ≤ n → StopsOf t calls x
 stops-all t calls x n W h = record { long = W .long; stops-are = λ k b. W .stops-are k (omega arith) }
@@ -198,12 +201,9 @@ pub worked-out : (t : Tables) (x : Numbers) (n : ℕ) → HoldsTo t x n → 64 �
 worked-out t x n W h = record { long = W .long; stops-are = λ k b. W .stops-are k (omega arith) }
 
 -- what is looked up of a place
-pub looked-up : (customers : List Customer) (distances times : List Float) (size c : ℕ) (d : Customer) (s : StopF) →
-    let t = lent customers distances times size in
-    length customers ≡ 64 → c < 64 → s .customer ≡ customerOf (getD customers c d)
-    → s .out ≡ distanceF t 0 c → s .back ≡ distanceF t c 0 → s .timeOut ≡ timeF t 0 c → s .timeBack ≡ timeF t c 0 → s ≡ stopIn t c
+pub looked-up : (customers : List Customer) (distances times : List Float) (size c : ℕ) (d : Customer) → length customers ≡ 64 → c < 64
+    → placeBy (customerOf (getD customers c d)) (driveF distances times size) c ≡ stopIn (lent customers distances times size) c
 unfolding stopIn
-looked-up customers distances times size c d s long h ec eo eb eto etb =
+looked-up customers distances times size c d long h =
     let i : c ≡ recordIndex c = rw (lt-ltb c 64 h) refl in
-    let r = ec ∙ read-record customers distances times size c c d long i h in
-    rw (← r, ← eo, ← eb, ← eto, ← etb) refl
+    ap (λ (r : CustomerOf Float). placeBy r (driveF distances times size) c) (read-record customers distances times size c c d long i h)

@@ -4,20 +4,24 @@ use mathlib.Core.Path.{_≡_}
 use mathlib.Core.Bool.{cond}
 use mathlib.Core.List.{List, [], _∷_, map}
 use mathlib.Core.Option.{Option, none, some}
+use mathlib.Core.Logic.{_≢_}
 use lib.ListN.{length, getD}
 use lib.Dec.{eqb}
 use lib.Ieee.{Float, nan}
 use Rattle.basics.specs.Lists.{count}
+use Rattle.basics.specs.Options.{_>>=_}
 use Rattle.cut_theory.specs.Tab.{mostCut}
-use Rattle.definitions.specs.Sheet.{WindowOf, CustomerOf, timeTable}
-use Rattle.distance.specs.Lookup.{lookupF}
+use Rattle.definitions.specs.Domain.{noRoad}
+use Rattle.definitions.specs.Sheet.{WindowOf, CustomerOf}
+use Rattle.distance.specs.declared.leg.Leg.{Leg}
+use Rattle.distance.specs.Lookup.{roadF}
 use Rattle.models.specs.Records.{customerOf}
 use Rattle.whole.specs.Whole.{fl}
 use Rattle.evaluation.specs.Records.{Tables}
-use Rattle.evaluation.specs.Tables.{recordF, distanceF, timeF, placeBefore}
+use Rattle.evaluation.specs.Tables.{recordF, legF, placeBefore}
 use Rattle.cut_stops.specs.declared.stops.Stop.{Stop}
 
--- a place as a stop: its record, and the legs from the depot and home, in distance and in time
+-- a place as a stop: its record, and the legs from the depot and home, in distance and in time, as the lists have them
 pub record StopF : Type 0 where
   pub customer : CustomerOf Float
   pub out : Float
@@ -28,9 +32,25 @@ pub record StopF : Type 0 where
 abbrev pub stopOf : Stop → StopF
 stopOf s = record { customer = customerOf (s .customer); out = s .out; back = s .back; timeOut = s .«time_out»; timeBack = s .«time_back» }
 
+-- a leg as the lists have it: its two numbers, and for a closed one the number of no road in both
+unfoldable pub listedLeg : Option Leg → Leg
+listedLeg none = record { distance = fl noRoad; time = fl noRoad }
+listedLeg (some leg) = leg
+
+-- and what two such numbers say: the distance alone tells whether the leg is closed
+unfoldable pub legBy : Float → Float → Option Leg
+legBy distance time = roadF distance >>= λ d. some (record { distance = d; time = time })
+
+-- place c, whose record this is, by these legs
+abbrev pub placeBy : CustomerOf Float → (ℕ → ℕ → Option Leg) → ℕ → StopF
+placeBy customer leg c =
+    let out = listedLeg (leg 0 c) in
+    let back = listedLeg (leg c 0) in
+    record { customer = customer; out = out .distance; back = back .distance; timeOut = out .time; timeBack = back .time }
+
 -- what the tables say of place c
 unfoldable pub stopIn : Tables → ℕ → StopF
-stopIn t c = record { customer = recordF t c; out = distanceF t 0 c; back = distanceF t c 0; timeOut = timeF t 0 c; timeBack = timeF t c 0 }
+stopIn t c = placeBy (recordF t c) (legF t) c
 
 -- ---- a stop as numbers
 
@@ -110,6 +130,12 @@ stopAt x c =
       timeBack = f 3;
     }
 
+-- place c is put into the lists as s, and the other places stay
+pub record Put (old : Numbers) (c : ℕ) (s : StopF) (new : Numbers) : Type 0 where
+  pub long : Long new
+  pub here : stopAt new c ≡ s
+  pub others : (k : ℕ) → k ≢ c → stopAt new k ≡ stopAt old k
+
 -- the lists hold the places below n as the tables have them
 pub record HoldsTo (t : Tables) (x : Numbers) (n : ℕ) : Type 0 where
   pub long : Long x
@@ -139,17 +165,6 @@ Below64 calls = (k : ℕ) → k < length calls → getD calls k 0 < 64
 
 -- ---- the legs between the calls held
 
--- the two lookups of a leg
-pub record Lookups : Type 0 where
-  pub distance : ℕ → ℕ → Float
-  pub time : ℕ → ℕ → Float
-
-abbrev pub lookups : List Float → List Float → ℕ → Lookups
-lookups distances times size = record { distance = lookupF distances size; time = lookupF (timeTable distances times) size }
-
-abbrev pub lookupsIn : Tables → Lookups
-lookupsIn t = record { distance = distanceF t; time = timeF t }
-
 -- each from the call before it, in distance and in time
 pub record LegLists : Type 0 where
   pub distances : List Float
@@ -163,17 +178,17 @@ pub record LegsLong (legs : LegLists) : Type 0 where
   pub distances-long : length (legs .distances) ≡ mostCut
   pub times-long : length (legs .times) ≡ mostCut
 
--- leg number k of the calls held
-pub record LegIs (by : Lookups) (held : List ℕ) (legs : LegLists) (k : ℕ) : Type 0 where
-  pub distance-is : getD (legs .distances) k nan ≡ by .distance (placeBefore held k) (getD held k 0)
-  pub time-is : getD (legs .times) k nan ≡ by .time (placeBefore held k) (getD held k 0)
+-- leg number k of the calls held, by these legs
+pub record LegIs (by : ℕ → ℕ → Option Leg) (held : List ℕ) (legs : LegLists) (k : ℕ) : Type 0 where
+  pub distance-is : getD (legs .distances) k nan ≡ listedLeg (by (placeBefore held k) (getD held k 0)) .distance
+  pub time-is : getD (legs .times) k nan ≡ listedLeg (by (placeBefore held k) (getD held k 0)) .time
 
 -- each leg but the first
 unfoldable pub LegsAre : Tables → List ℕ → LegLists → Type 0
-LegsAre t held legs = (k : ℕ) → 0 < k → k < length held → LegIs (lookupsIn t) held legs k
+LegsAre t held legs = (k : ℕ) → 0 < k → k < length held → LegIs (legF t) held legs k
 
 -- the legs are written from number `from` on, and what stands before stays
-pub record LegsWritten (by : Lookups) (held : List ℕ) (from : ℕ) (old new : LegLists) : Type 0 where
+pub record LegsWritten (by : ℕ → ℕ → Option Leg) (held : List ℕ) (from : ℕ) (old new : LegLists) : Type 0 where
   pub long : LegsLong new
   pub written : (k : ℕ) → from ≤ k → 0 < k → k < length held → LegIs by held new k
   pub kept : (k : ℕ) → k < from

@@ -1,15 +1,21 @@
 // What the cut reads of each place and leg (ga/split_tw.rs looks it up anew for every run), worked out
-// once as lists of numbers: these can be lent to every row, where a table of records would be copied.
+// once as lists of numbers: these can be lent to every row, where a table of records would be copied. A
+// closed leg stands there as the number that the tables have for it, in distance and in time alike, so one
+// look at the distance says whether a leg is open.
 ghost use mathlib.Core.Path.{_≡_};
 ghost use Prim.Native.Nat.{_+_, _*_, _<_, _≤_};
 ghost use lib.ListN.{length};
 ghost use lib.Seq.{sets};
 ghost use Rattle.cut_theory.specs.Tab.{mostCut};
+ghost use Rattle.distance.specs.Lookup.{driveF, driveOf};
 ghost use Rattle.models.specs.Records.{windowOf, openingOf, penaltyOf, customerOf};
 ghost use Rattle.evaluation.specs.Records.{lent};
-ghost use Rattle.cut_stops.specs.Stops.{openingAt, penaltyAt, code, timesIn, priceIn, stopOf, codesOf, recordFigures, figuresOf, codesEach, figuresEach, numbers, Long, stopAt, WorkedOut, StopsOf, Below64, lookups, legLists, LegsLong, LegsWritten};
+ghost use Rattle.cut_stops.specs.Stops.{openingAt, penaltyAt, code, timesIn, priceIn, stopOf, codesOf, recordFigures, figuresOf, codesEach, figuresEach, numbers, Long, stopAt, placeBy, Put, listedLeg, WorkedOut, StopsOf, Below64, legLists, LegsLong, LegsWritten};
 use cut_table::cells::MOST_CUT;
+use distance::leg::Drive;
+use distance::leg::Leg;
 use distance::leg::leg_between;
+use distance::matrix::no_road;
 use evaluation::route::place_before;
 use models::customer::Customer;
 use models::customer::Opening;
@@ -27,7 +33,7 @@ pub const ALL_CODES: usize = 64 * CODES;
 
 pub const ALL_FIGURES: usize = 64 * FIGURES;
 
-// A place: its record, and the legs from the depot and home, in distance and in time.
+// A place: its record, and the legs from the depot and home, in distance and in time, as the lists have them.
 pub struct Stop {
     pub customer: Customer,
     pub out: f64,
@@ -181,6 +187,48 @@ pub fn put_stop(
     put_customer(stop.customer, c, &mut *codes, &mut *figures);
 }
 
+// A leg as the lists have it: its two numbers, and for a closed one the number of no road in both.
+fn listed_leg(drive: Drive) -> Leg
+    ensures { λ r. ⌜ r ≡ listedLeg (driveOf drive) ⌝ }
+{
+    match drive {
+        Drive::Open(leg) => leg,
+        Drive::Closed => Leg {
+            distance: no_road(),
+            time: no_road(),
+        },
+    }
+}
+
+// Works out place c, whose record this is, and puts it into the lists.
+fn put_place(
+    customer: Customer,
+    distances: &[f64],
+    times: &[f64],
+    size: usize,
+    c: usize,
+    codes: &mut [u32; ALL_CODES],
+    figures: &mut [f64; ALL_FIGURES],
+)
+    requires { ⌜ Long (numbers (now codes) (now figures)) × (c < 64) ⌝ }
+    ensures { λ _.
+        let leg = driveF (now (distances .entry)) (now (times .entry)) size in
+        let old = numbers (now (codes .entry)) (now (figures .entry)) in
+        let new = numbers (now (codes .exit)) (now (figures .exit)) in
+        ⌜ Put old c (placeBy (customerOf customer) leg c) new ⌝ }
+{
+    let out = listed_leg(leg_between(distances, times, size, 0, c));
+    let back = listed_leg(leg_between(distances, times, size, c, 0));
+    let stop = Stop {
+        customer,
+        out: out.distance,
+        back: back.distance,
+        time_out: out.time,
+        time_back: back.time,
+    };
+    put_stop(stop, c, &mut *codes, &mut *figures);
+}
+
 // Works out the places of these calls.
 pub fn work_out_calls(
     calls: &[usize],
@@ -199,16 +247,15 @@ pub fn work_out_calls(
     let mut k: usize = 0;
     while k < calls.len() {
         let c = calls[k];
-        let out = leg_between(distances, times, size, 0, c);
-        let back = leg_between(distances, times, size, c, 0);
-        let stop = Stop {
-            customer: customers[c],
-            out: out.distance,
-            back: back.distance,
-            time_out: out.time,
-            time_back: back.time,
-        };
-        put_stop(stop, c, &mut *codes, &mut *figures);
+        put_place(
+            customers[c],
+            distances,
+            times,
+            size,
+            c,
+            &mut *codes,
+            &mut *figures,
+        );
         k += 1;
     }
 }
@@ -229,16 +276,15 @@ pub fn work_out(
 {
     let mut c: usize = 0;
     while c < 64 {
-        let out = leg_between(distances, times, size, 0, c);
-        let back = leg_between(distances, times, size, c, 0);
-        let stop = Stop {
-            customer: customers[c],
-            out: out.distance,
-            back: back.distance,
-            time_out: out.time,
-            time_back: back.time,
-        };
-        put_stop(stop, c, &mut *codes, &mut *figures);
+        put_place(
+            customers[c],
+            distances,
+            times,
+            size,
+            c,
+            &mut *codes,
+            &mut *figures,
+        );
         c += 1;
     }
 }
@@ -255,7 +301,7 @@ pub fn write_legs(
 )
     requires { ⌜ (length (now held) ≤ mostCut) × LegsLong (legLists (now legs) (now «time_legs»)) ⌝ }
     ensures { λ _.
-        let by = lookups (now (distances .entry)) (now (times .entry)) size in
+        let by = driveF (now (distances .entry)) (now (times .entry)) size in
         let old = legLists (now (legs .entry)) (now («time_legs» .entry)) in
         let new = legLists (now (legs .exit)) (now («time_legs» .exit)) in
         ⌜ LegsWritten by (now (held .entry)) from old new ⌝ }
@@ -264,7 +310,7 @@ pub fn write_legs(
     while k < held.len() {
         let prev = place_before(held, k);
         let cid = held[k];
-        let leg = leg_between(distances, times, size, prev, cid);
+        let leg = listed_leg(leg_between(distances, times, size, prev, cid));
         legs[k] = leg.distance;
         time_legs[k] = leg.time;
         k += 1;

@@ -13,13 +13,14 @@ use Rattle.definitions.specs.TwoOpt.{tried, triedAll, passFrom, pass, pa
 use Rattle.definitions.specs.Elimination.{candidates, firstBelow, placed, placedAll, emptied, firstEmptied, search, searches, eliminated}
 use Rattle.definitions.specs.Room.{written}
 use Rattle.definitions.specs.Lent.{Lent, wholeSheet}
-use Rattle.definitions.specs.Refusals.{badSheet, outOfRange, pairsFall, refusals, refusalOf}
+use Rattle.definitions.specs.Refusals.{badSheet, outOfRange, pairsFall, closuresDiffer, anyClosed, refusals, refusalOf}
 use Rattle.definitions.specs.Answers.{refused, gives, front, answer, routeFeasibleOf, effectiveCostOf, splitTwOf, splitOf, markOf, twoOptOf, eliminateOf}
 use Rattle.definitions.proofs.Bench.{opened, base, carrying, until, late, tour, together, single}
 
 -- what the answers are computed through
 answered : Unit {0}
-unfolding opened answer refusalOf refusals badSheet outOfRange pairsFall anySoft wholeSheet runsFrom checksNeeded improved passes pass passFrom triedAll tried eliminated searches search firstEmptied
+unfolding opened answer refusalOf refusals badSheet outOfRange pairsFall closuresDiffer anyClosed anySoft wholeSheet runsFrom
+    checksNeeded improved passes pass passFrom triedAll tried eliminated searches search firstEmptied
     emptied placedAll placed firstBelow candidates sort insert
 answered = tt
 

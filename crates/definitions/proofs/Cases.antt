@@ -14,7 +14,7 @@ use Rattle.definitions.specs.Marker.{cheaper, mark}
 use Rattle.definitions.specs.Encoding.{encode, bodyWords}
 use Rattle.definitions.specs.Reader.{readWords, walk, faultAt, mayStand, inRange, pairFalls, refusedAt}
 use Rattle.definitions.specs.Lent.{Lent}
-use Rattle.definitions.specs.Refusals.{badSheet, outOfRange, pairsFall, refusals, refusalOf}
+use Rattle.definitions.specs.Refusals.{badSheet, outOfRange, pairsFall, closuresDiffer, anyClosed, refusals, refusalOf}
 use Rattle.definitions.specs.Answers.{refused, answer, splitTwOf}
 use Rattle.definitions.proofs.Bench.{opened, anyone, sheet, base, carrying, until, limited, rested, late, full, tour, together, apart, single, nothingServed, totals, evaluated, run}
 
@@ -117,7 +117,7 @@ abbrev toCutTwice : Lent ℕ
 toCutTwice = record { sheet = base; tour = listedTwice; calls = []; ends = []; breaks = []; rooms = 3 ∷ 3 ∷ 3 ∷ [] }
 
 pub case-r : (splitTwOf some toCutTwice ≡ refused 21) × (readWords (encode [] base listedTwice) false ≡ refusedAt 21 18)
-unfolding answer refusalOf refusals badSheet outOfRange pairsFall anySoft readWords walk faultAt mayStand inRange pairFalls encode bodyWords
+unfolding answer refusalOf refusals badSheet outOfRange pairsFall closuresDiffer anyClosed anySoft readWords walk faultAt mayStand inRange pairFalls encode bodyWords
 case-r = (refl, refl)
 
 -- ---- beside the bench cases

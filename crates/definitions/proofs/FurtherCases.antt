@@ -17,7 +17,7 @@ use Rattle.definitions.specs.TwoOpt.{tried, triedAll, passFrom, pass, pa
 use Rattle.definitions.specs.Elimination as Elimination
 use Rattle.definitions.specs.Elimination.{candidates, firstBelow, placedAll, emptied, firstEmptied, search, searches, eliminated}
 use Rattle.definitions.specs.Lent.{wholeSheet, cutting}
-use Rattle.definitions.specs.Refusals.{badSheet, outOfRange, pairsFall, refusals, refusalOf}
+use Rattle.definitions.specs.Refusals.{badSheet, outOfRange, pairsFall, closuresDiffer, anyClosed, refusals, refusalOf}
 use Rattle.definitions.specs.Answers.{refused, gives, answer, routeFeasibleOf, routeEvalOf, splitTwOf, splitOf, buildRouteOf, markOf, twoOptOf, eliminateOf, readCustomers, readDistances, readTimes, readTour}
 use Rattle.definitions.specs.Words.{word, bytesOf}
 use Rattle.definitions.specs.Encoding.{encode, bodyWords}
@@ -28,7 +28,7 @@ use Rattle.definitions.proofs.FurtherSheets.{lend, crooked, crookedBrea
 
 -- what these are computed through besides
 unfoldable answering : Unit {0}
-unfolding opened answer refusalOf refusals badSheet outOfRange pairsFall anySoft wholeSheet runsFrom
+unfolding opened answer refusalOf refusals badSheet outOfRange pairsFall closuresDiffer anyClosed anySoft wholeSheet runsFrom
 answering = tt
 
 unfoldable improving : Unit {0}

@@ -19,5 +19,7 @@ pub mod FurtherCases
 pub mod RangeCases
 -- Wheelchair places beside seats.
 pub mod WheelchairCases
+-- Legs without a road.
+pub mod RoadCases
 -- Laws of loads.
 pub mod LoadLaws

@@ -2,7 +2,8 @@
 use Prim.Native.Nat.{ℕ}
 use mathlib.Core.Path.{_≡_, refl}
 use mathlib.Core.List.{List, [], _∷_, map}
-use Rattle.definitions.specs.Run.{serveAt, serveAll, ready}
+use Rattle.definitions.specs.Sheet.{drive}
+use Rattle.definitions.specs.Run.{serveAt, serveAll, home, ready}
 use Rattle.definitions.specs.Window.{enter}
 use Rattle.definitions.specs.Clock.{clockFrom, clock, startOf, arc}
 use Rattle.definitions.specs.RunList.{runsFrom}
@@ -15,7 +16,7 @@ use Rattle.definitions.specs.Listing.{text, digitsIn, runLine, planText,
 -- what the listing is computed through
 opened : Unit {0}
 unfolding listing planText runLine digitsIn read readWords walk faultAt mayStand inRange pairFalls sheetOf tourOf splitTw drops dropFrom stuck cheapest pointsFrom arc clock clockFrom serveAt ready
-    enter startOf serveAll runsFrom
+    enter startOf serveAll drive home runsFrom
 opened = tt
 
 -- words as the scope document writes them

@@ -7,12 +7,12 @@ use lib.ListN.{replicate}
 use Rattle.definitions.specs.Load.{ofSeats}
 use Rattle.definitions.specs.Sheet.{asking, Customer, HeadOf, LegsOf, Sheet, depot, anySoft}
 use Rattle.definitions.specs.Lent.{wholeSheet, cutting}
-use Rattle.definitions.specs.Refusals.{badSheet, outOfRange, pairsFall, refusals, refusalOf}
+use Rattle.definitions.specs.Refusals.{badSheet, outOfRange, pairsFall, closuresDiffer, anyClosed, refusals, refusalOf}
 use Rattle.definitions.proofs.Bench.{window, pause}
 use Rattle.definitions.proofs.FurtherSheets.{lend}
 
 refusing : Unit {0}
-unfolding refusalOf refusals badSheet outOfRange pairsFall anySoft wholeSheet
+unfolding refusalOf refusals badSheet outOfRange pairsFall closuresDiffer anyClosed anySoft wholeSheet
 refusing = tt
 
 -- ---- a sheet with every number that one may have

@@ -158,7 +158,7 @@ no-repeat = refl
 
 -- at one word 11 and 1 come before
 abbrev behindCalls : ℕ → State
-behindCalls kind = record { last = word kind 0; row = 2; places = 2; coming = 0; called = 9 ∷ 1 ∷ [] }
+behindCalls kind = record { last = word kind 0; row = 2; places = 2; coming = 0; called = 9 ∷ 1 ∷ []; facing = [] }
 
 repeat-in-order : (faultAt (behindCalls 8) 5 (word 0xE 1) ≡ some 11) × (faultAt (behindCalls 0xE) 5 (word 0xE 9) ≡ some 1) × (faultAt (behindCalls 0xE) 5 (word 0xE 1) ≡ some 21)
 unfolding opened

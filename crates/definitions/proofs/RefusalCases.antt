@@ -7,7 +7,7 @@ use lib.ListN.{replicate}
 use Rattle.definitions.specs.Load.{noLoad, ofSeats}
 use Rattle.definitions.specs.Sheet.{asking, WindowOf, BreakOf, CustomerOf, SheetOf, anySoft}
 use Rattle.definitions.specs.Lent.{Lent, cutting, evaluating, visiting, marking, reversing, eliminating}
-use Rattle.definitions.specs.Refusals.{badSheet, outOfRange, pairsFall, refusals, refusalOf}
+use Rattle.definitions.specs.Refusals.{badSheet, outOfRange, pairsFall, closuresDiffer, anyClosed, refusals, refusalOf}
 
 -- a stored number: a whole one, or one that is a fraction, below 0, negative zero or not finite
 data Stored : Type 0 where
@@ -94,7 +94,7 @@ rooms = 2 ∷ 2 ∷ 2 ∷ []
 
 -- what the refusals are computed through
 opened : Unit {0}
-unfolding refusalOf refusals outOfRange badSheet pairsFall anySoft
+unfolding refusalOf refusals outOfRange badSheet pairsFall closuresDiffer anyClosed anySoft
 opened = tt
 
 accepts-base : refusalOf value cutting (toCut base both rooms) ≡ none

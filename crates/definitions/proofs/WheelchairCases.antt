@@ -16,7 +16,7 @@ use Rattle.definitions.specs.Improver.{checksNeeded}
 use Rattle.definitions.specs.Elimination as Elimination
 use Rattle.definitions.specs.Elimination.{candidates, firstBelow, placedAll, emptied, firstEmptied, search, searches, eliminated}
 use Rattle.definitions.specs.Lent.{wholeSheet, evaluating}
-use Rattle.definitions.specs.Refusals.{badSheet, outOfRange, pairsFall, refusals, refusalOf}
+use Rattle.definitions.specs.Refusals.{badSheet, outOfRange, pairsFall, closuresDiffer, anyClosed, refusals, refusalOf}
 use Rattle.definitions.specs.Answers.{refused, gives, answer, routeFeasibleOf, splitTwOf, splitOf, buildRouteOf, eliminateOf}
 use Rattle.definitions.specs.Words.{Word, word}
 use Rattle.definitions.specs.Encoding.{encode, bodyWords}
@@ -26,8 +26,9 @@ use Rattle.definitions.proofs.FurtherSheets.{lend}
 
 -- what these are computed through
 unfoldable answering : Unit {0}
-unfolding opened answer refusalOf refusals badSheet outOfRange pairsFall anySoft wholeSheet runsFrom checksNeeded eliminated searches search firstEmptied emptied placedAll
-    Elimination.placed firstBelow candidates sort insert
+unfolding opened answer refusalOf refusals badSheet outOfRange pairsFall closuresDiffer anyClosed anySoft wholeSheet runsFrom
+    checksNeeded eliminated searches search firstEmptied emptied placedAll Elimination.placed firstBelow
+    candidates sort insert
 answering = tt
 
 unfoldable reading : Unit {0}

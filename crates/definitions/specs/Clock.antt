@@ -7,7 +7,7 @@ use lib.ListN.{getD, take}
 use lib.Dec.{ltb, eqb}
 use Rattle.basics.specs.Options.{_>>=_, holds, given}
 use Rattle.basics.specs.Lists.{isEmpty}
-use Rattle.definitions.specs.Sheet.{Break, Sheet, time}
+use Rattle.definitions.specs.Sheet.{Break, Sheet, drive}
 use Rattle.definitions.specs.Limits.{excused}
 use Rattle.definitions.specs.Run.{Label, start, breakStart, serve, serveAll, Run, lastOf, Totals, home, fits, allowed, price}
 
@@ -47,8 +47,9 @@ counts (some b) back x = cond (holds (x .before) (λ l. excused b (l .time + bac
 -- the run's totals by the clock, its place among them; none where the run is illegal by the clock
 unfoldable pub clock : Sheet → List ℕ → Option Totals
 clock s calls = do
-  l ← counts (s .head .rest) (time s (lastOf 0 calls) 0) (clockFrom s 1 0 (record { before = some start; after = none }) calls)
-  some (home s calls l)
+  back ← drive s (lastOf 0 calls) 0
+  l ← counts (s .head .rest) (back .travel) (clockFrom s 1 0 (record { before = some start; after = none }) calls)
+  home s calls l
 
 -- The clock's place: 0 when no break is needed. Where the run is illegal by the clock it is 0 too, which nobody reads: such a run is
 -- legal with no place at all (theorems, `legal-arc`), so no cutting has it, and whoever asks for the place asks for a legal run first.
@@ -65,7 +66,8 @@ startOf s r = go (r .place)
     go (suc k) = do
       b ← s .head .rest
       l ← serveAll s 0 1 0 (some start) (take k (r .calls))
-      some (breakStart b (l .time + time s (lastOf 0 (take k (r .calls))) (getD (r .calls) k 0)))
+      leg ← drive s (lastOf 0 (take k (r .calls))) (getD (r .calls) k 0)
+      some (breakStart b (l .time + leg .travel))
 
 -- what a run of these calls costs, and its break place
 pub record Arc : Type 0 where

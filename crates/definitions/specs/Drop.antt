@@ -1,13 +1,13 @@
 -- Which calls are served and which dropped; the complete results of `split_tw` and `split`. Definitions only.
 use Prim.Native.Nat.{ℕ, zero, suc, _+_, _-_}
-use mathlib.Core.Bool.{Bool, not, _&&_}
+use mathlib.Core.Bool.{not, _&&_}
 use mathlib.Core.List.{List, [], _∷_, _++_, map}
 use mathlib.Core.Option.{Option, none, some}
 use lib.ListN.{length, getD}
-use Rattle.basics.specs.Options.{valueOr, given}
-use Rattle.basics.specs.Lists.{isEmpty, sum, without, only, count}
+use Rattle.basics.specs.Options.{_>>=_, valueOr, given}
+use Rattle.basics.specs.Lists.{isEmpty, sum, without, count}
 use Rattle.definitions.specs.Sheet.{Sheet}
-use Rattle.definitions.specs.Run.{distanceFrom, fits, price}
+use Rattle.definitions.specs.Run.{distanceFrom, fits, price, lengthOf}
 use Rattle.definitions.specs.Clock.{Arc, arc}
 use Rattle.definitions.specs.Cutting.{Best, nothing, runEnds, cheapest, stuck}
 
@@ -65,7 +65,7 @@ result s tour h b =
       ends = runEnds (b .runs);
       dropped = h .dropped;
       cost = b .cost;
-      distance = sum (λ r. distanceFrom s 0 (r .calls)) (b .runs);
+      distance = sum (λ r. lengthOf s (r .calls)) (b .runs);
       places = map (λ r. r .place) (b .runs);
     }
 
@@ -81,20 +81,11 @@ planBy arc s tour = let h = drops arc tour in result s tour h (cutOf arc tour h)
 unfoldable pub splitTw : Sheet → List ℕ → Result
 splitTw s tour = planBy (arc s) s tour
 
--- ---- `split`: first each call whose demand exceeds capacity is removed; windows, limits and break are ignored
-
-abbrev pub light : Sheet → List ℕ → ℕ → Bool
-light s tour p = fits s (callAt tour p ∷ [])
-
-unfoldable pub removals : Sheet → List ℕ → Held
-removals s tour =
-    record {
-      held = only (light s tour) (count 1 (length tour));
-      dropped = only (λ p. not (light s tour p)) (count 1 (length tour));
-    }
-
+-- by loads and closed legs alone: windows, limits and break are ignored
 unfoldable pub plainArc : Sheet → List ℕ → Option Arc
-plainArc s calls = given (not (isEmpty calls) && fits s calls) (record { place = 0; cost = price s (distanceFrom s 0 calls) 0 })
+plainArc s calls = do
+  distance ← distanceFrom s 0 calls
+  given (not (isEmpty calls) && fits s calls) (record { place = 0; cost = price s distance 0 })
 
 unfoldable pub split : Sheet → List ℕ → Result
-split s tour = let h = removals s tour in result s tour h (cutOf (plainArc s) tour h)
+split s tour = planBy (plainArc s) s tour

@@ -1,5 +1,6 @@
 -- Run evaluation: what `route_feasible`, `route_eval` and `effective_cost` answer. They don't look at load, and an empty run
--- is the leg from depot to depot. Definitions only.
+-- is the leg from depot to depot. A run with a closed leg is not
+-- allowed. Definitions only.
 use Prim.Native.Nat.{ℕ, _+_}
 use mathlib.Core.Bool.{Bool}
 use mathlib.Core.List.{List}

@@ -1,13 +1,12 @@
 -- What the improvers know of a sheet, and what they ask of a run. Definitions only.
-use Prim.Native.Nat.{ℕ}
+use Prim.Native.Nat.{ℕ, _+_}
 use mathlib.Core.Bool.{Bool, true, cond}
 use mathlib.Core.List.{List, [], _∷_}
 use Rattle.basics.specs.Tests.{either}
-use Rattle.basics.specs.Options.{present}
+use Rattle.basics.specs.Options.{present, valueOr}
 use Rattle.basics.specs.Lists.{any, sum}
 use Rattle.definitions.specs.Load.{Load}
 use Rattle.definitions.specs.Sheet.{Sheet, customer, distance}
-use Rattle.definitions.specs.Run.{legsFrom}
 use Rattle.definitions.specs.Evaluation.{routeFeasible}
 
 -- what an improver is given of a sheet
@@ -33,16 +32,25 @@ checksNeeded s =
     ∷ present (s .head .rest)
     ∷ [])
 
+-- the length of a leg; a sheet with a closed leg is refused (23), so the 0 is never read
+abbrev pub openLeg : Sheet → ℕ → ℕ → ℕ
+openLeg s a b = valueOr 0 (distance s a b)
+
 abbrev pub givenOf : Sheet → Given
 givenOf s =
     record {
-      leg = distance s;
+      leg = openLeg s;
       demand = λ c. customer s c .demand;
       capacity = s .head .capacity;
       fixed = s .head .fixed;
       asked = checksNeeded s;
       feasible = routeFeasible s;
     }
+
+-- all legs from a on, the one to the depot too
+abbrev pub legsFrom : (ℕ → ℕ → ℕ) → ℕ → List ℕ → ℕ
+legsFrom leg a [] = leg a 0
+legsFrom leg a (c ∷ cs) = leg a c + legsFrom leg c cs
 
 module _ (G : Given) where
   -- the distance of a run: all its legs, both depot legs too; a run without calls has none

@@ -2,15 +2,15 @@
 use Prim.Native.Nat.{ℕ, suc, _+_, _-_}
 use mathlib.Core.Bool.{cond, not}
 use mathlib.Core.List.{List, [], _∷_}
-use mathlib.Core.Option.{Option, none, some}
+use mathlib.Core.Option.{Option, none, some, Option·map}
 use lib.ListN.{length}
 use lib.Dec.{ltb, eqb}
 use Rattle.basics.specs.Options.{_>>=_, valueOr, orElse, given}
 use Rattle.definitions.specs.Load.{Load, seated}
-use Rattle.definitions.specs.Sheet.{Break, Sheet, customer, time}
+use Rattle.definitions.specs.Sheet.{Break, Sheet, customer, drive}
 use Rattle.definitions.specs.Window.{dueOf}
 use Rattle.definitions.specs.Limits.{within}
-use Rattle.definitions.specs.Run.{breakStart, ready, Label, start, serve, Run, breakAt, Totals, ride, load, fits, placed}
+use Rattle.definitions.specs.Run.{breakStart, ready, Label, start, serve, Run, breakAt, firstClosed, Totals, ride, load, fits, placed}
 use Rattle.definitions.specs.Cutting.{joined, cuttingCost}
 use Rattle.definitions.specs.Drop.{Result, splitTw}
 
@@ -24,7 +24,7 @@ withPlaces (r ∷ rs) (p ∷ places) = record { calls = r; place = p } ∷ withP
 -- ---- the verdicts
 
 -- A fault carries its run from 1, and the value and limit that clash; a window or break fault also the
--- call's place, from 1, and its customer.
+-- call's place, from 1, and its customer, and a closed leg its number in the run alone: leg 1 leaves the depot.
 pub data Verdict : Type 0 where
   -- the joined calls differ from the planner's served customers, first at this position, from 1
   otherCalls : (position : ℕ) → Verdict
@@ -39,6 +39,8 @@ pub data Verdict : Type 0 where
   cheaper : (by : ℕ) → Verdict
   -- the second load
   wheelchairOverload : (run load capacity : ℕ) → Verdict
+  -- the first leg of the run without a road
+  roadClosed : (run leg : ℕ) → Verdict
 
 -- The verdicts in the scope document's order, numbered from 1, and the values of each. A verdict of a later request takes the next number,
 -- so that those which programs know stay.
@@ -54,6 +56,7 @@ verdictNumber best = 8
 verdictNumber (dearer by) = 9
 verdictNumber (cheaper by) = 10
 verdictNumber (wheelchairOverload run load capacity) = 11
+verdictNumber (roadClosed run leg) = 12
 
 abbrev pub verdictValues : Verdict → List ℕ
 verdictValues (otherCalls position) = position ∷ []
@@ -67,6 +70,7 @@ verdictValues best = []
 verdictValues (dearer by) = by ∷ []
 verdictValues (cheaper by) = by ∷ []
 verdictValues (wheelchairOverload run load capacity) = run ∷ load ∷ capacity ∷ []
+verdictValues (roadClosed run leg) = run ∷ leg ∷ []
 
 -- ---- faults
 
@@ -80,13 +84,20 @@ differ k (x ∷ xs) (y ∷ ys) = cond (eqb x y) (differ (suc k) xs ys) (some k)
 abbrev pub breakOr : Option Break → Break
 breakOr b = valueOr (record { earliest = 0; latest = 0; duration = 0 }) b
 
--- why a call fails: break start past latest before window
-abbrev pub callFault : Sheet → ℕ → Option Break → ℕ → ℕ → ℕ → Label → Verdict
-callFault s n here k a c l =
-    let arrival = l .time + time s a c in
+-- why a call fails that is reached at `arrival`: break start past latest before window
+abbrev pub arrivalFault : Sheet → ℕ → Option Break → ℕ → ℕ → ℕ → Verdict
+arrivalFault s n here k c arrival =
     elim (ready here arrival) [
       | none ↦ breakTooLate n k c (breakStart (breakOr here) arrival) (breakOr here .latest)
       | some readiness ↦ windowMissed n k c readiness (dueOf (customer s c .window))
+    ]
+
+-- why a call fails
+abbrev pub callFault : Sheet → ℕ → Option Break → ℕ → ℕ → ℕ → Label → Verdict
+callFault s n here k a c l =
+    elim (drive s a c) [
+      | none ↦ roadClosed n k
+      | some leg ↦ arrivalFault s n here k c (l .time + leg .travel)
     ]
 
 -- the first fault walking the calls of run n
@@ -114,12 +125,13 @@ overloadOf n load capacity =
     (wheelchairOverload n (load .wheelchairs) (capacity .wheelchairs))
     (overload n (load .seats) (capacity .seats))
 
--- the first fault of run n: load, the calls, the totals
+-- the first fault of run n: a closed leg, wherever it is in the run, then load, the calls, the totals
 unfoldable pub runFault : Sheet → ℕ → Run → Option Verdict
 runFault s n r =
-    orElse (given (not (fits s (r .calls))) (overloadOf n (load s (r .calls)) (s .head .capacity)))
+    orElse (Option·map (roadClosed n) (firstClosed s (r .calls)))
+    (orElse (given (not (fits s (r .calls))) (overloadOf n (load s (r .calls)) (s .head .capacity)))
     (orElse (walkFault s n (r .place) 1 0 start (r .calls))
-    (ride s r >>= totalFault s n r))
+    (ride s r >>= totalFault s n r)))
 
 abbrev pub firstFault : Sheet → ℕ → List Run → Option Verdict
 firstFault s n [] = none

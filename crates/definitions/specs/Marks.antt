@@ -3,17 +3,17 @@ use Prim.Native.Nat.{ℕ, suc, _+_, _≤_, _<_}
 use mathlib.Core.Path.{_≡_}
 use mathlib.Core.Bool.{true, cond, not}
 use mathlib.Core.List.{List, _∷_, _++_}
-use mathlib.Core.Option.{none, some}
+use mathlib.Core.Option.{Option, none, some}
 use lib.ListN.{length, getD, take}
 use Rattle.basics.specs.Options.{present}
 use Rattle.basics.specs.Lists.{isEmpty}
 use Rattle.definitions.specs.Load.{seated}
-use Rattle.definitions.specs.Sheet.{Window, Break, Sheet, customer, time}
+use Rattle.definitions.specs.Sheet.{Window, Break, Sheet, Leg, customer, drive}
 use Rattle.definitions.specs.Limits.{within}
-use Rattle.definitions.specs.Run.{breakStart, ready, Label, start, Run, breakAt, serveAll, lastOf, Totals, ride, load, fits, placed}
+use Rattle.definitions.specs.Run.{breakStart, ready, Label, start, Run, breakAt, serveAll, lastOf, firstClosed, Totals, ride, load, fits, placed}
 use Rattle.definitions.specs.Cutting.{joined, legalCutting, cuttingCost}
 use Rattle.definitions.specs.Drop.{splitTw}
-use Rattle.definitions.specs.Marker.{Verdict, otherCalls, overload, breakTooLate, windowMissed, breakMissing, tooFar, tooLong, best, dearer, cheaper, wheelchairOverload}
+use Rattle.definitions.specs.Marker.{Verdict, otherCalls, overload, breakTooLate, windowMissed, breakMissing, tooFar, tooLong, best, dearer, cheaper, wheelchairOverload, roadClosed}
 
 -- ---- the runs that are marked: what refusal 5 leaves
 
@@ -38,21 +38,41 @@ pub record Differs (k : ℕ) (xs ys : List ℕ) (p : ℕ) : Type 0 where
 
 -- ---- the faults of a run, in order: each says that the tests before it hold, and which value is over which limit
 
--- the seats are over capacity
+-- leg number i of the calls, from 0: from the call before, or the depot, to call number i, or home
+abbrev pub legOf : Sheet → List ℕ → ℕ → Option Leg
+legOf s calls i = drive s (lastOf 0 (take i calls)) (getD calls i 0)
+
+-- the leg of that number, from 1, is closed, and those before it are not
+pub record Closed (s : Sheet) (calls : List ℕ) (leg : ℕ) : Type 0 where
+  pub before : ℕ
+  pub number : suc before ≡ leg
+  pub inside : before ≤ length calls
+  pub open-before : (i : ℕ) → i < before → present (legOf s calls i) ≡ true
+  pub closed : legOf s calls before ≡ none
+
+-- no leg of the calls is closed
+abbrev pub Open : Sheet → List ℕ → Type 0
+Open s calls = firstClosed s calls ≡ none
+
+-- no leg is closed, and the seats are over capacity
 pub record Overloaded (s : Sheet) (r : Run) (value limit : ℕ) : Type 0 where
+  pub roads : Open s (r .calls)
   pub value-is : load s (r .calls) .seats ≡ value
   pub limit-is : s .head .capacity .seats ≡ limit
   pub over : limit < value
 
 -- the seats are within it, and the second load is over the second capacity
 pub record WheelchairsOver (s : Sheet) (r : Run) (value limit : ℕ) : Type 0 where
+  pub roads : Open s (r .calls)
   pub seats-fit : seated (load s (r .calls)) (s .head .capacity) ≡ true
   pub value-is : load s (r .calls) .wheelchairs ≡ value
   pub limit-is : s .head .capacity .wheelchairs ≡ limit
   pub over : limit < value
 
--- call number k of the run, at customer c, is reached: the load fits, and the calls before it are served, which leaves a label
+-- call number k of the run, at customer c, is reached: no leg is closed, the load fits, and the calls before it are served, which leaves a
+-- label
 pub record Reached (s : Sheet) (r : Run) (k c : ℕ) : Type 0 where
+  pub roads : Open s (r .calls)
   pub room : fits s (r .calls) ≡ true
   pub before : ℕ
   pub number : suc before ≡ k
@@ -60,10 +80,12 @@ pub record Reached (s : Sheet) (r : Run) (k c : ℕ) : Type 0 where
   pub call-is : getD (r .calls) before 0 ≡ c
   pub label : Label
   pub served : serveAll s (r .place) 1 0 (some start) (take before (r .calls)) ≡ some label
+  pub leg : Leg
+  pub leg-is : legOf s (r .calls) before ≡ some leg
 
 -- when it is reached
 abbrev pub arrival : {s : Sheet} {r : Run} {k c : ℕ} → Reached s r k c → ℕ
-arrival {s} {r} {k} {c} x = x .label .time + time s (lastOf 0 (take (x .before) (r .calls))) c
+arrival x = x .label .time + x .leg .travel
 
 -- the break is at that call, and would start past latest
 pub record BreakLate (s : Sheet) (r : Run) (k c value limit : ℕ) : Type 0 where
@@ -85,8 +107,9 @@ pub record WindowLate (s : Sheet) (r : Run) (k c value limit : ℕ) : Type 0 whe
   pub limit-is : window .due ≡ limit
   pub over : limit < value
 
--- the load fits, and all calls are served: the run comes to t
+-- no leg is closed, the load fits, and all calls are served: the run comes to t
 pub record Home (s : Sheet) (r : Run) (t : Totals) : Type 0 where
+  pub roads : Open s (r .calls)
   pub room : fits s (r .calls) ≡ true
   pub rode : ride s r ≡ some t
 
@@ -122,6 +145,7 @@ pub record Long (s : Sheet) (r : Run) (value limit : ℕ) : Type 0 where
 
 -- the verdict is a fault of run number n: what it then says
 pub data Fails (s : Sheet) (n : ℕ) (r : Run) : Verdict → Type 0 where
+  by-road : {leg : ℕ} → Closed s (r .calls) leg → Fails s n r (roadClosed n leg)
   by-load : {value limit : ℕ} → Overloaded s r value limit → Fails s n r (overload n value limit)
   by-wheelchairs : {value limit : ℕ} → WheelchairsOver s r value limit → Fails s n r (wheelchairOverload n value limit)
   by-break : {k c value limit : ℕ} → BreakLate s r k c value limit → Fails s n r (breakTooLate n k c value limit)

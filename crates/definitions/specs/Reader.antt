@@ -1,12 +1,13 @@
 -- What reading gives for any bytes: the sheet, or a refusal's number and the index of its word.
 use Prim.Native.Nat.{ℕ, suc, _*_, pred}
 use mathlib.Core.Bool.{Bool, true, false, cond, _&&_, _||_, not}
-use mathlib.Core.List.{List, [], _∷_}
+use mathlib.Core.List.{List, [], _∷_, _++_, tail}
 use mathlib.Core.Option.{Option, none, some}
+use lib.ListN.{getD}
 use lib.Dec.{ltb, eqb}
 use Rattle.basics.specs.Options.{valueOr}
 use Rattle.basics.specs.Lists.{any}
-use Rattle.definitions.specs.Domain.{mostPlaces, mostCalls, isPlaces, isDemand, isCapacity, isPenalty, isNumber, isCall}
+use Rattle.definitions.specs.Domain.{mostPlaces, mostCalls, isPlaces, isDemand, isCapacity, isPenalty, isNumber, closedApart, isLeg, isCall}
 use Rattle.definitions.specs.Load.{Load}
 use Rattle.definitions.specs.Sheet.{Window, Break, Customer, Sheet, depot}
 use Rattle.definitions.specs.Words.{Word, word, wordsOf, leftOver}
@@ -26,10 +27,12 @@ pub record State : Type 0 where
   pub coming : ℕ
   -- the customers of the tour so far, the last first
   pub called : List ℕ
+  -- the distances whose times have yet to come
+  pub facing : List ℕ
 
 -- no word yet: a kind that no word has
 abbrev pub start : State
-start = record { last = word 16 0; row = 0; places = 0; coming = 0; called = [] }
+start = record { last = word 16 0; row = 0; places = 0; coming = 0; called = []; facing = [] }
 
 abbrev pub next : State → Word → State
 next s w =
@@ -39,6 +42,7 @@ next s w =
       places = cond (eqb (w .kind) 1) (w .value) (s .places);
       coming = cond (eqb (w .kind) 1) (pred (w .value)) (cond (eqb (w .kind) 7) (pred (s .coming)) (s .coming));
       called = cond (eqb (w .kind) 0xE) (w .value ∷ s .called) (s .called);
+      facing = cond (eqb (w .kind) 0xC) (s .facing ++ w .value ∷ []) (cond (eqb (w .kind) 0xD) (tail (s .facing)) (s .facing));
     }
 
 -- a line of the table below: after this kind may stand these
@@ -110,6 +114,8 @@ inRange s w =
     ∷ range 2 (isCapacity v)
     ∷ range 7 (isDemand v)
     ∷ range 0xB (isPenalty v)
+    ∷ range 0xC (isLeg v)
+    ∷ range 0xD (isLeg v)
     ∷ range 0xE (isCall (s .places) v)
     ∷ range 0xF true
     ∷ [])
@@ -126,6 +132,10 @@ among k ks = any (λ (j : ℕ). eqb k j) ks
 abbrev pub repeated : State → Word → Bool
 repeated s w = eqb (w .kind) 0xE && among (w .value) (s .called)
 
+-- a time disagrees on closure with the distance that it faces: bad at the D word
+abbrev pub closureDiffers : State → Word → Bool
+closureDiffers s w = eqb (w .kind) 0xD && closedApart (getD (s .facing) 0 0) (w .value)
+
 -- what may be wrong with the word of index i, in order
 abbrev pub faults : State → ℕ → Word → List Refusal
 faults s i w =
@@ -133,6 +143,7 @@ faults s i w =
     ∷ refusal 1 (not (inRange s w))
     ∷ refusal 21 (repeated s w)
     ∷ refusal 2 (pairFalls s w)
+    ∷ refusal 22 (closureDiffers s w)
     ∷ refusal 3 (eqb (w .kind) 0xF && not (eqb (w .value) i))
     ∷ []
 

@@ -9,9 +9,9 @@ use lib.Dec.{ltb, eqb}
 use Rattle.basics.specs.Tests.{either}
 use Rattle.basics.specs.Options.{holds, present}
 use Rattle.basics.specs.Lists.{isEmpty, any}
-use Rattle.definitions.specs.Domain.{mostCalls, isPlaces, isDemand, isCapacity, isPenalty, isNumber, isCall}
+use Rattle.definitions.specs.Domain.{mostCalls, isPlaces, isDemand, isCapacity, isPenalty, isNumber, isClosed, closedApart, isLeg, isCall}
 use Rattle.definitions.specs.Load.{eachOf}
-use Rattle.definitions.specs.Sheet.{WindowOf, BreakOf, CustomerOf, SheetOf, Sheet, records, anySoft}
+use Rattle.definitions.specs.Sheet.{WindowOf, BreakOf, CustomerOf, LegsOf, SheetOf, Sheet, records, anySoft}
 use Rattle.definitions.specs.Refusal.{Refusal, refusal, firstFit}
 use Rattle.definitions.specs.Room.{short}
 use Rattle.definitions.specs.Lent.{Lent, whole, Call}
@@ -101,8 +101,8 @@ module _ {F : Type 0} (value : F → Option ℕ) where
       ∷ badBreak (s .head .rest)
       ∷ badDepot (records s)
       ∷ any badCustomer (records s)
-      ∷ any (unfit isNumber) (s .legs .distances)
-      ∷ any (unfit isNumber) (s .legs .times)
+      ∷ any (unfit isLeg) (s .legs .distances)
+      ∷ any (unfit isLeg) (s .legs .times)
       ∷ [])
 
   unfoldable pub outOfRange : Lent F → Bool
@@ -124,6 +124,21 @@ module _ {F : Type 0} (value : F → Option ℕ) where
 
   unfoldable pub pairsFall : SheetOf F → Bool
   pairsFall s = breakFalls (s .head .rest) || any (λ (c : CustomerOf F). windowFalls (c .window)) (records s)
+
+  -- ---- 22 and 23: closed legs
+
+  -- distance and time disagree on closure, leg by leg; an empty time table agrees
+  abbrev pub disagree : List F → List F → Bool
+  disagree [] ts = false
+  disagree (d ∷ ds) [] = false
+  disagree (d ∷ ds) (t ∷ ts) = closedApart (whole value d) (whole value t) || disagree ds ts
+
+  unfoldable pub closuresDiffer : LegsOf F → Bool
+  closuresDiffer legs = disagree (legs .distances) (legs .times)
+
+  -- some leg is closed, in a run or not
+  unfoldable pub anyClosed : LegsOf F → Bool
+  anyClosed legs = any (λ (x : F). isClosed (whole value x)) (legs .distances)
 
 -- ---- 5: run ends and break places
 
@@ -160,8 +175,10 @@ refusals value k l =
     ∷ refusal 1 (outOfRange value l)
     ∷ refusal 21 (repeats (l .tour))
     ∷ refusal 2 (pairsFall value (l .sheet))
+    ∷ refusal 22 (closuresDiffer value (l .sheet .legs))
     ∷ refusal 5 (runsOdd k l)
     ∷ refusal 4 (k .improves && anySoft (records (l .sheet)))
+    ∷ refusal 23 (k .improves && anyClosed value (l .sheet .legs))
     ∷ []
 
 -- the number that the call gives; none: the call is accepted
@@ -176,6 +193,7 @@ pub record Within (s : Sheet) : Type 0 where
   pub tables : tablesOdd s ≡ false
   pub ranged : badSheet some s ≡ false
   pub paired : pairsFall some s ≡ false
+  pub closed-alike : closuresDiffer some (s .legs) ≡ false
 
 -- calls of such a sheet, as a tour or a run list has them
 abbrev pub WithinCalls : Sheet → List ℕ → Type 0

@@ -3,13 +3,13 @@
 use Prim.Native.Nat.{ℕ, zero, suc, _+_, max}
 use mathlib.Core.Bool.{Bool, cond, not, _&&_}
 use mathlib.Core.List.{List, [], _∷_}
-use mathlib.Core.Option.{Option, none, some}
+use mathlib.Core.Option.{Option, none, some, Option·map}
 use lib.ListN.{length}
 use lib.Dec.{ltb, leb, eqb}
-use Rattle.basics.specs.Options.{_>>=_, holds}
+use Rattle.basics.specs.Options.{_>>=_, holds, present, valueOr}
 use Rattle.basics.specs.Lists.{isEmpty}
 use Rattle.definitions.specs.Load.{Load, loadBy, fitsBy}
-use Rattle.definitions.specs.Sheet.{Break, Customer, Sheet, customer, distance, time}
+use Rattle.definitions.specs.Sheet.{Break, Customer, Sheet, customer, drive}
 use Rattle.definitions.specs.Window.{enter}
 use Rattle.definitions.specs.Limits.{allow, excused}
 
@@ -59,9 +59,9 @@ serveAt c here k travel l = do
     place = placeAfter here k (l .place);
   })
 
--- the same from place a to customer c of the sheet
+-- the same from place a to customer c of the sheet; a closed leg serves nobody
 abbrev pub serve : Sheet → Option Break → ℕ → ℕ → ℕ → Label → Option Label
-serve s here k a c l = serveAt (customer s c) here k (time s a c) l
+serve s here k a c l = drive s a c >>= λ leg. serveAt (customer s c) here k (leg .travel) l
 
 -- ---- a run with a given break place: its calls are served as above, the break at that call alone
 
@@ -85,13 +85,21 @@ abbrev pub lastOf : ℕ → List ℕ → ℕ
 lastOf a [] = a
 lastOf a (c ∷ cs) = lastOf c cs
 
--- all legs from a on, the one to the depot too
-abbrev pub legsFrom : (ℕ → ℕ → ℕ) → ℕ → List ℕ → ℕ
-legsFrom leg a [] = leg a 0
-legsFrom leg a (c ∷ cs) = leg a c + legsFrom leg c cs
+-- all legs from a on, the one to the depot too; none where one of them is closed
+abbrev pub distanceFrom : Sheet → ℕ → List ℕ → Option ℕ
+distanceFrom s a [] = Option·map (λ leg. leg .length) (drive s a 0)
+distanceFrom s a (c ∷ cs) = do
+  leg ← drive s a c
+  rest ← distanceFrom s c cs
+  some (leg .length + rest)
 
-abbrev pub distanceFrom : Sheet → ℕ → List ℕ → ℕ
-distanceFrom s a calls = legsFrom (distance s) a calls
+-- the number of the first closed leg from a on, where that leg is number k: in a run leg 1 leaves the depot
+unfoldable pub closedFrom : Sheet → ℕ → ℕ → List ℕ → Option ℕ
+closedFrom s k a [] = cond (present (drive s a 0)) none (some k)
+closedFrom s k a (c ∷ cs) = cond (present (drive s a c)) (closedFrom s (suc k) c cs) (some k)
+
+abbrev pub firstClosed : Sheet → List ℕ → Option ℕ
+firstClosed s calls = closedFrom s 1 0 calls
 
 -- what a run comes to
 pub record Totals : Type 0 where
@@ -105,21 +113,24 @@ pub record Totals : Type 0 where
   -- its break place
   pub place : ℕ
 
-abbrev pub home : Sheet → List ℕ → Label → Totals
-home s calls l =
-    record {
-      distance = distanceFrom s 0 calls;
-      duration = l .time + time s (lastOf 0 calls) 0;
-      lateness = l .lateness;
-      pay = l .pay;
-      place = l .place;
-    }
+-- from the last call home; none where a leg of the run is closed
+unfoldable pub home : Sheet → List ℕ → Label → Option Totals
+home s calls l = do
+  distance ← distanceFrom s 0 calls
+  back ← drive s (lastOf 0 calls) 0
+  some (record {
+    distance = distance;
+    duration = l .time + back .travel;
+    lateness = l .lateness;
+    pay = l .pay;
+    place = l .place;
+  })
 
 -- the run's totals, if nothing fails
 unfoldable pub ride : Sheet → Run → Option Totals
 ride s r = do
   l ← serveAll s (r .place) 1 0 (some start) (r .calls)
-  some (home s (r .calls) l)
+  home s (r .calls) l
 
 -- ---- legal runs
 
@@ -141,7 +152,7 @@ placed none place n duration = eqb place 0
 placed (some b) zero n duration = excused b duration
 placed (some b) (suc k) n duration = leb (suc k) n
 
--- Legal with its break place: it is not empty, its load is at most capacity, nothing fails, its totals
+-- Legal with its break place: it is not empty, its load is at most capacity, no leg is closed and no call fails, its totals
 -- are allowed, and the break may be there.
 unfoldable pub legal : Sheet → Run → Bool
 legal s r =
@@ -157,6 +168,10 @@ abbrev pub payOf : Option Totals → ℕ
 payOf none = 0
 payOf (some t) = t .pay
 
+-- how far a run goes. No cutting has a run with a closed leg, so the 0 is never read.
+abbrev pub lengthOf : Sheet → List ℕ → ℕ
+lengthOf s calls = valueOr 0 (distanceFrom s 0 calls)
+
 -- what the run costs with its break place
 unfoldable pub runCost : Sheet → Run → ℕ
-runCost s r = price s (distanceFrom s 0 (r .calls)) (payOf (ride s r))
+runCost s r = price s (lengthOf s (r .calls)) (payOf (ride s r))

@@ -1,12 +1,13 @@
 -- A sheet: places (0 is the depot, the others customers), legs, limits, and, beside this record, a tour of customer numbers. Definitions
 -- only. F is how a number is held that may be a float in lent memory: a whole number in all that follows.
 use Prim.Native.Nat.{ℕ, _+_, _*_}
-use mathlib.Core.Bool.{Bool, _&&_}
+use mathlib.Core.Bool.{Bool, not, _&&_}
 use mathlib.Core.List.{List, [], _∷_, map}
-use mathlib.Core.Option.{Option, none, Option·map}
+use mathlib.Core.Option.{Option, none, some, Option·map}
 use lib.ListN.{getD, take}
-use Rattle.basics.specs.Options.{present}
+use Rattle.basics.specs.Options.{_>>=_, present, given}
 use Rattle.basics.specs.Lists.{any}
+use Rattle.definitions.specs.Domain.{isClosed}
 use Rattle.definitions.specs.Load.{Load, noLoad}
 
 -- ---- the records, over any way to hold a number
@@ -123,13 +124,17 @@ depot = asking noLoad 0 none none
 abbrev pub customer : Sheet → ℕ → Customer
 customer s c = getD (s .customers) c depot
 
--- The leg from a to b in a table of n rows. On an accepted sheet every lookup of a run lies inside its table (crates/bounds,
--- proofs/Inside), so the 0 is never read; on floats a lookup outside its table gives infinity.
-abbrev pub leg : List ℕ → ℕ → ℕ → ℕ → ℕ
-leg table n a b = getD table (a * n + b) 0
+-- what a number of a leg table says: a length, or none where there is no road
+abbrev pub road : ℕ → Option ℕ
+road n = given (not (isClosed n)) n
+
+-- The leg from a to b in a table of n rows: its length, or none where there is no road. On an accepted sheet every lookup of a run lies
+-- inside its table (crates/bounds, proofs/Inside), so the 0 is never read; on floats a lookup outside its table gives infinity.
+abbrev pub leg : List ℕ → ℕ → ℕ → ℕ → Option ℕ
+leg table n a b = road (getD table (a * n + b) 0)
 
 -- `get`
-abbrev pub distance : Sheet → ℕ → ℕ → ℕ
+abbrev pub distance : Sheet → ℕ → ℕ → Option ℕ
 distance s a b = leg (s .legs .distances) (s .head .places) a b
 
 -- without a time table a time is the distance
@@ -138,8 +143,20 @@ timeTable distances [] = distances
 timeTable distances (t ∷ ts) = t ∷ ts
 
 -- `travel_time`
-abbrev pub time : Sheet → ℕ → ℕ → ℕ
+abbrev pub time : Sheet → ℕ → ℕ → Option ℕ
 time s a b = leg (timeTable (s .legs .distances) (s .legs .times)) (s .head .places) a b
+
+-- a leg that can be driven: how far it is, and how long it takes
+pub record Leg : Type 0 where
+  pub length : ℕ
+  pub travel : ℕ
+
+-- The leg from a to b by both tables; none where it is closed. On an accepted sheet both close the same legs (refusal 22).
+unfoldable pub drive : Sheet → ℕ → ℕ → Option Leg
+drive s a b = do
+  d ← distance s a b
+  t ← time s a b
+  some (record { length = d; travel = t })
 
 -- ---- lateness pay
 

@@ -2,14 +2,14 @@
 use Prim.Native.Nat.{ℕ, suc, _+_}
 use mathlib.Core.Bool.{Bool, true, false, cond, not, _&&_}
 use mathlib.Core.List.{List, [], _∷_, _++_}
-use mathlib.Core.Option.{Option}
+use mathlib.Core.Option.{Option, none, some}
 use Rattle.basics.specs.Options.{present, valueOr}
 use Rattle.basics.specs.Lists.{isEmpty}
 use Rattle.definitions.specs.Load.{Load, noLoad, plus, seated, wheeled}
 use Rattle.definitions.specs.Sheet.{Break, Sheet, customer, time}
 use Rattle.definitions.specs.Window.{dueOf, begins, Entry, enter}
 use Rattle.definitions.specs.Limits.{within}
-use Rattle.definitions.specs.Run.{ready, Label, start, placeAfter, breakAt, Totals, home, load}
+use Rattle.definitions.specs.Run.{ready, Label, start, placeAfter, breakAt, firstClosed, Totals, home, load}
 use Rattle.definitions.specs.Clock.{clock, placeOr, startOf}
 
 -- ---- visits and violations
@@ -32,6 +32,8 @@ pub data Violation : Type 0 where
   overDuration : (duration limit : ℕ) → Violation
   -- the second load
   overWheelchairs : (load capacity : ℕ) → Violation
+  -- this leg of the run is the first without a road; leg 1 leaves the depot
+  closedLeg : (leg : ℕ) → Violation
 
 -- The violations in the scope document's order, numbered from 1, and the figures of each. One of a later request takes the next number.
 abbrev pub violationNumber : Violation → ℕ
@@ -41,6 +43,7 @@ violationNumber (overCapacity load capacity) = 3
 violationNumber (overDistance distance limit) = 4
 violationNumber (overDuration duration limit) = 5
 violationNumber (overWheelchairs load capacity) = 6
+violationNumber (closedLeg leg) = 7
 
 abbrev pub violationValues : Violation → List ℕ
 violationValues (windowShut customer readiness due) = customer ∷ readiness ∷ due ∷ []
@@ -49,12 +52,17 @@ violationValues (overCapacity load capacity) = load ∷ capacity ∷ []
 violationValues (overDistance distance limit) = distance ∷ limit ∷ []
 violationValues (overDuration duration limit) = duration ∷ limit ∷ []
 violationValues (overWheelchairs load capacity) = load ∷ capacity ∷ []
+violationValues (closedLeg leg) = leg ∷ []
 
--- ---- the walk
+-- ---- the walk, along a run without a closed leg
+
+-- when the bus is at customer c, from place a; on such a run there is a time, so the 0 is never read
+abbrev pub arrivesAt : Sheet → ℕ → ℕ → Label → ℕ
+arrivesAt s a c l = l .time + valueOr 0 (time s a c)
 
 -- when readiness is, at customer c
 abbrev pub readyFor : Sheet → Option Break → ℕ → ℕ → Label → ℕ
-readyFor s here a c l = let arrival = l .time + time s a c in valueOr arrival (ready here arrival)
+readyFor s here a c l = let arrival = arrivesAt s a c l in valueOr arrival (ready here arrival)
 
 abbrev pub entered : Sheet → ℕ → ℕ → Option Entry
 entered s c readiness = enter (customer s c .window) (customer s c .penalty) readiness
@@ -78,7 +86,7 @@ module _ (s : Sheet) (place : ℕ) where
   visitsFrom k a l n (c ∷ cs) =
       let m = visited s (breakAt s place k) k a c l in
       let load = plus n (customer s c .demand) in
-      record { customer = c; arrival = l .time + time s a c; departure = m .time; load = load } ∷ visitsFrom (suc k) c m load cs
+      record { customer = c; arrival = arrivesAt s a c l; departure = m .time; load = load } ∷ visitsFrom (suc k) c m load cs
 
   unfoldable pub windowsFrom : ℕ → ℕ → Label → List ℕ → List Violation
   windowsFrom k a l [] = []
@@ -114,13 +122,22 @@ overloads load capacity =
     unless (seated load capacity) (overCapacity (load .seats) (capacity .seats))
     ++ unless (wheeled load capacity) (overWheelchairs (load .wheelchairs) (capacity .wheelchairs))
 
--- the break is where the clock puts it; an unplaceable break is left out of the visit times
-unfoldable pub buildRoute : Sheet → List ℕ → Route
-buildRoute s calls =
+-- all totals 0
+abbrev pub noTotals : Totals
+noTotals = record { distance = 0; duration = 0; lateness = 0; pay = 0; place = 0 }
+
+-- of a run with a closed leg its first is the only thing reported: nothing is visited
+abbrev pub closedRoute : ℕ → Route
+closedRoute leg = record { visits = []; totals = noTotals; load = noLoad; start = none; violations = closedLeg leg ∷ [] }
+
+-- Of a run without one: the break is where the clock puts it; an unplaceable break is left out of the visit times. Such a run has a way
+-- home, so `noTotals` is never read.
+unfoldable pub openRoute : Sheet → List ℕ → Route
+openRoute s calls =
     let placed = clock s calls in
     let place = placeOr placed in
     let windows = windowsFrom s place 1 0 start calls in
-    let totals = home s calls (lastLabel s place 1 0 start calls) in
+    let totals = valueOr noTotals (home s calls (lastLabel s place 1 0 start calls)) in
     record {
       visits = visitsFrom s place 1 0 start noLoad calls;
       totals = totals;
@@ -134,3 +151,10 @@ buildRoute s calls =
           ++ unless (within (s .head .maxDistance) (totals .distance)) (overDistance (totals .distance) (valueOr 0 (s .head .maxDistance)))
           ++ unless (within (s .head .maxDuration) (totals .duration)) (overDuration (totals .duration) (valueOr 0 (s .head .maxDuration)));
     }
+
+unfoldable pub buildRoute : Sheet → List ℕ → Route
+buildRoute s calls =
+    elim (firstClosed s calls) [
+      | some leg ↦ closedRoute leg
+      | none ↦ openRoute s calls
+    ]

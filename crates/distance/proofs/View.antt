@@ -1,6 +1,7 @@
 -- What a walk by hand cites of the view `DistanceMatrix`: its row and laws over its two lifetimes, and what it owns, which is what its two slices own.
 --     apart, made      of the view its slices, and of two slices the view
 --     in-local         its machine value has the type of a local that holds a view
+--     road-lawful      what the lookups answer
 -- Assumes `Given`.
 use mathlib.Core.Path.{_≡_, refl}
 use Prim.Native.Nat.{_<_, _^_}
@@ -17,7 +18,7 @@ use prog.Wp.{Heap}
 use ghost.Atoms.{Atoms, sem}
 use contract.Lifetimes.{Lfts}
 use types.Kit.{Given, ‵, given, _$_, _∵_, !, qed, move, drop, use1, learn, fsplit, fjoin, done}
-use denote.Laws.{Is}
+use denote.Laws.{Is, Lawful}
 use denote.Plain.{uint-makes}
 use denote.Builtin.{f64, usize}
 use denote.Ref.{RefT}
@@ -26,11 +27,14 @@ use denote.Slice.{sliceVal, ShrSlice, slice-vals}
 use denote.Steps.{owned, nothing}
 use denote.Struct.Declared.{Declared}
 use denote.Struct.Laws as LL
+use denote.Enum.Laws as EL
 use denote.Struct.Rest.{all-own, own-open, own-shut}
 use denote.Struct.Values.{Values}
 use Rattle.distance.specs.declared.matrix.DistanceMatrix.{DistanceMatrix}
 use Rattle.distance.proofs.matrix.DistanceMatrix as T
 use Rattle.distance.proofs.matrix.DistanceMatrix.Laws as T′
+use Rattle.distance.proofs.matrix.Road as Rt
+use Rattle.distance.proofs.matrix.Road.Laws as Rt′
 
 abbrev pub D : Lfts 2 → Declared
 D κs = T.the-type (namedLft 2 0 tt κs) (namedLft 2 1 tt κs)
@@ -72,3 +76,7 @@ module _ {M : Type 1} (𝓤 : URA M) (H : Heap 𝓤) (A : Atoms 𝓤) (W : Given
   made fits =
       qed W (‵ (Distances κs d) ∷ ‵ (Times κs d) ∷ []) ∵ nothing ! $ owned ! usize (Is usize) (uint-makes 𝓤 H A W w64) (d .size) _ (refl, fits) $ fjoin ! $
       move ! (2 ∷ 0 ∷ []) $ fjoin ! $ move ! (1 ∷ 0 ∷ []) $ fjoin ! $ use1 W (‵ (Own κs d)) (own-shut 𝓤 H A W (D κs) (L κs) fields) $ done !
+
+module _ {M : Type 1} (𝓤 : URA M) (H : Heap 𝓤) (A : Atoms 𝓤) (W : Given 𝓤 H A) where
+  pub road-lawful : Lawful 𝓤 H A Rt.the-row
+  road-lawful = EL.lawful Rt.the-type Rt′.the-laws 𝓤 H A W tt

@@ -10,7 +10,7 @@ use lib.Dec.{ltb}
 use lib.Ieee.{Float, inf}
 use borrow.Author.Tests.{lt-ltb, le-ltb}
 use Rattle.definitions.specs.Sheet.{timeTable}
-use Rattle.distance.specs.Lookup.{lookupF}
+use Rattle.distance.specs.Lookup.{numberF}
 
 -- inside a list any default gives the same
 pub getD-any : {A : Type 0} (l : List A) (i : ℕ) (d e : A) → i < length l → getD l i d ≡ getD l i e
@@ -23,24 +23,24 @@ either-way true x = refl
 either-way false x = refl
 
 module _ (table : List Float) (size from to : ℕ) where
-  pub no-row : size ≤ from → inf false ≡ lookupF table size from to
-  unfolding lookupF
+  pub no-row : size ≤ from → inf false ≡ numberF table size from to
+  unfolding numberF
   no-row h = rw (le-ltb from size h)
 
-  pub no-column : size ≤ to → inf false ≡ lookupF table size from to
-  unfolding lookupF
+  pub no-column : size ≤ to → inf false ≡ numberF table size from to
+  unfolding numberF
   no-column h = rw (le-ltb to size h) (neither (ltb from size))
     where
       neither : (b : Bool) → inf false ≡ cond (b && false) (getD table (from * size + to) (inf false)) (inf false)
       neither true = refl
       neither false = refl
 
-  pub past-end : length table ≤ from * size + to → inf false ≡ lookupF table size from to
-  unfolding lookupF
+  pub past-end : length table ≤ from * size + to → inf false ≡ numberF table size from to
+  unfolding numberF
   past-end h = rw (List·getD-eq-default table (inf false) h) (sym (either-way (ltb from size && ltb to size) (inf false)))
 
-  pub inside : (d : Float) → from < size → to < size → from * size + to < length table → getD table (from * size + to) d ≡ lookupF table size from to
-  unfolding lookupF
+  pub inside : (d : Float) → from < size → to < size → from * size + to < length table → getD table (from * size + to) d ≡ numberF table size from to
+  unfolding numberF
   inside d p q h = getD-any table (from * size + to) d (inf false) h ∙ rw (lt-ltb from size p, lt-ltb to size q)
 
 -- ---- the index

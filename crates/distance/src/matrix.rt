@@ -2,12 +2,45 @@
 ghost use mathlib.Core.Path.{_≡_};
 ghost use Prim.Native.Nat.{_<_};
 ghost use Rattle.definitions.specs.Sheet.{timeTable};
-ghost use Rattle.distance.specs.Lookup.{lookupF};
+ghost use Rattle.definitions.specs.Domain.{noRoad};
+ghost use Rattle.whole.specs.Whole.{fl};
+ghost use Rattle.distance.specs.Lookup.{isClosedF, numberF, roadF, lookupF, roadOf};
 use whole::infinity;
 
+// What a leg table says of a leg: its length, or that there is no road.
+pub enum Road {
+    Length(f64),
+    Closed,
+}
+
+// What a table holds for a leg without a road.
+pub fn no_road() -> f64
+    ensures { λ r. ⌜ r ≡ fl noRoad ⌝ }
+{
+    268435455.0
+}
+
+// Whether a number of a leg table closes its leg.
+pub fn is_closed(number: f64) -> bool
+    ensures { λ r. ⌜ r ≡ isClosedF number ⌝ }
+{
+    number == no_road()
+}
+
+// What a number of a leg table says.
+pub fn road_of(number: f64) -> Road
+    ensures { λ r. ⌜ roadOf r ≡ roadF number ⌝ }
+{
+    if is_closed(number) {
+        Road::Closed
+    } else {
+        Road::Length(number)
+    }
+}
+
 // The number in row `from` and column `to` of a table with `size` rows, and infinity where there is none.
-pub fn lookup(table: &[f64], size: usize, from: usize, to: usize) -> f64
-    ensures { λ r. ⌜ r ≡ lookupF (now (table .entry)) size from to ⌝ }
+fn number_at(table: &[f64], size: usize, from: usize, to: usize) -> f64
+    ensures { λ r. ⌜ r ≡ numberF (now (table .entry)) size from to ⌝ }
 {
     if size <= from {
         return infinity();
@@ -16,7 +49,7 @@ pub fn lookup(table: &[f64], size: usize, from: usize, to: usize) -> f64
         return infinity();
     }
     if 0x1_0000_0000 < size {
-        return lookup_wide(table, size, from, to);
+        return number_wide(table, size, from, to);
     }
     let i = from * size + to;
     if table.len() <= i {
@@ -27,10 +60,10 @@ pub fn lookup(table: &[f64], size: usize, from: usize, to: usize) -> f64
 
 // The same inside the rows and columns, where the index could wrap: the row is tested by a quotient, and the column
 // by a difference.
-fn lookup_wide(table: &[f64], size: usize, from: usize, to: usize) -> f64
+fn number_wide(table: &[f64], size: usize, from: usize, to: usize) -> f64
     requires { ⌜ from < size ⌝ }
     requires { ⌜ to < size ⌝ }
-    ensures { λ r. ⌜ r ≡ lookupF (now (table .entry)) size from to ⌝ }
+    ensures { λ r. ⌜ r ≡ numberF (now (table .entry)) size from to ⌝ }
 {
     let rows = table.len() / size;
     if rows < from {
@@ -45,9 +78,16 @@ fn lookup_wide(table: &[f64], size: usize, from: usize, to: usize) -> f64
     table[i]
 }
 
-// The number in the time table, or without one in the distances.
-fn lookup_time(distances: &[f64], times: &[f64], size: usize, from: usize, to: usize) -> f64
-    ensures { λ r. ⌜ r ≡ lookupF (timeTable (now (distances .entry)) (now (times .entry))) size from to ⌝ }
+// The leg by a table.
+pub fn lookup(table: &[f64], size: usize, from: usize, to: usize) -> Road
+    ensures { λ r. ⌜ roadOf r ≡ lookupF (now (table .entry)) size from to ⌝ }
+{
+    road_of(number_at(table, size, from, to))
+}
+
+// By the time table, or without one by the distances.
+fn lookup_time(distances: &[f64], times: &[f64], size: usize, from: usize, to: usize) -> Road
+    ensures { λ r. ⌜ roadOf r ≡ lookupF (timeTable (now (distances .entry)) (now (times .entry))) size from to ⌝ }
 {
     if times.len() == 0 {
         lookup(distances, size, from, to)
@@ -65,23 +105,23 @@ pub struct DistanceMatrix<'a, 'b> {
 
 // The two lookups over it.
 impl<'a, 'b> DistanceMatrix<'a, 'b> {
-    pub fn get(self, from: usize, to: usize) -> f64
-        ensures { λ r. ⌜ r ≡ lookupF (now (self .entry .distances)) (self .entry .size) from to ⌝ }
+    pub fn get(self, from: usize, to: usize) -> Road
+        ensures { λ r. ⌜ roadOf r ≡ lookupF (now (self .entry .distances)) (self .entry .size) from to ⌝ }
     {
         lookup(self.distances, self.size, from, to)
     }
 
-    pub fn travel_time(self, from: usize, to: usize) -> f64
+    pub fn travel_time(self, from: usize, to: usize) -> Road
         ensures { λ r. let times = timeTable (now (self .entry .distances)) (now (self .entry .times)) in
-            ⌜ r ≡ lookupF times (self .entry .size) from to ⌝ }
+            ⌜ roadOf r ≡ lookupF times (self .entry .size) from to ⌝ }
     {
         lookup_time(self.distances, self.times, self.size, from, to)
     }
 }
 
 // The distance from one place to another.
-pub fn get(distances: &[f64], size: usize, from: usize, to: usize) -> f64
-    ensures { λ r. ⌜ r ≡ lookupF (now (distances .entry)) size from to ⌝ }
+pub fn get(distances: &[f64], size: usize, from: usize, to: usize) -> Road
+    ensures { λ r. ⌜ roadOf r ≡ lookupF (now (distances .entry)) size from to ⌝ }
 {
     // no time is asked, so the distances stand for the times
     let matrix = DistanceMatrix {
@@ -93,8 +133,8 @@ pub fn get(distances: &[f64], size: usize, from: usize, to: usize) -> f64
 }
 
 // The travel time from one place to another; without a time table it is the distance.
-pub fn travel_time(distances: &[f64], times: &[f64], size: usize, from: usize, to: usize) -> f64
-    ensures { λ r. ⌜ r ≡ lookupF (timeTable (now (distances .entry)) (now (times .entry))) size from to ⌝ }
+pub fn travel_time(distances: &[f64], times: &[f64], size: usize, from: usize, to: usize) -> Road
+    ensures { λ r. ⌜ roadOf r ≡ lookupF (timeTable (now (distances .entry)) (now (times .entry))) size from to ⌝ }
 {
     let matrix = DistanceMatrix {
         distances,

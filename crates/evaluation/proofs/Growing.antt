@@ -1,71 +1,89 @@
 -- The clock as a run grows by a call: labels that are gone stay gone, and the clock of a stretch is that of its parts, one after the other. Assumes nothing.
 use Prim.Native.Nat.{ℕ, _+_, _≤_, _<_}
 use native.Mathlib.Numerals.{add-one}
-use mathlib.Core.Path.{_≡_, refl}
+use mathlib.Core.Path.{_≡_, refl, ap, _∙_}
 use mathlib.Core.Bool.{false}
 use mathlib.Core.List.{List, [], _∷_, _++_}
-use mathlib.Core.Option.{none}
+use mathlib.Core.Option.{Option, none, some}
 use lib.ListN.{length, getD, drop, drop-of-length-le}
 use lib.Seq.{drop-cons}
 use lib.Ieee as Ieee
 use lib.Ieee.{Float, binary64}
+use Rattle.basics.specs.Options.{_>>=_}
+use Rattle.basics.proofs.OptionLaws.{unbound}
 use Rattle.definitions.specs.Sheet.{CustomerOf}
 use Rattle.definitions.specs.Run.{lastOf}
+use Rattle.distance.specs.declared.leg.Leg.{Leg}
 use Rattle.clock.specs.Records.{ClockF}
-use Rattle.clock.specs.Clock.{pushF, aliveF, finishF}
+use Rattle.clock.specs.Clock.{pushF, aliveF}
 use Rattle.clock.proofs.Gone.{Gone, not-alive, push-gone, finish-gone}
 use Rattle.evaluation.specs.Records.{Tables}
-use Rattle.evaluation.specs.Tables.{recordF, distanceF, timeF, legsF}
-use Rattle.evaluation.specs.Schedule.{tickF, clockFromF, endF}
+use Rattle.evaluation.specs.Tables.{recordF, legF}
+use Rattle.evaluation.specs.Schedule.{TimedF, timed, tickF, clockFromF, clockHomeF, endF}
 
 -- ---- labels that are gone
 
-pub clock-gone : (t : Tables) (x : ClockF) (calls : List ℕ) → Gone x → Gone (clockFromF t x calls)
+-- a run whose labels are gone, or that a closed leg has ended, comes to nothing
+home-gone : (t : Tables) (x : TimedF) → Gone (x .clock) → clockHomeF t x ≡ none
+home-gone t x g = unbound (legF t (x .clock .prev) 0) _ (λ l. finish-gone _ _ (x .clock) g)
+
+gone-on : (t : Tables) (x : TimedF) (calls : List ℕ) → Gone (x .clock) → (clockFromF t x calls >>= clockHomeF t) ≡ none
 unfolding clockFromF
-clock-gone t x [] g = g
-clock-gone t x (c ∷ cs) g = clock-gone t (tickF t x c) cs (push-gone x c (recordF t c) (timeF t (x .prev) c) g)
+gone-on t x [] g = home-gone t x g
+gone-on t x (c ∷ cs) g = go (legF t (x .clock .prev) c) (λ l. gone-on t (after l) cs (push-gone (x .clock) c (recordF t c) (l .time) g))
+  where
+    after : Leg → TimedF
+    after l = timed (pushF (x .clock) c (recordF t c) (l .time)) (Ieee.add binary64 (x .distance) (l .distance))
+
+    go : (o : Option Leg) → ((l : Leg) → (clockFromF t (after l) cs >>= clockHomeF t) ≡ none)
+        → (((o >>= λ l. some (after l)) >>= λ y. clockFromF t y cs) >>= clockHomeF t) ≡ none
+    go none ih = refl
+    go (some l) ih = ih l
 
 -- no run that goes on from here has a way to place the break either
 pub end-gone : (t : Tables) (x : ClockF) (far : Float) (calls : List ℕ) → aliveF x ≡ false → endF t x far calls ≡ none
 unfolding endF
-end-gone t x far calls e = finish-gone _ _ (clockFromF t x calls) (clock-gone t x calls (not-alive x e))
+end-gone t x far calls e = gone-on t (timed x far) calls (not-alive x e)
 
 -- ---- a stretch in two parts
 
-pub clock-append : (t : Tables) (x : ClockF) (l m : List ℕ) → clockFromF t x (l ++ m) ≡ clockFromF t (clockFromF t x l) m
+pub clock-append : (t : Tables) (x : TimedF) (l m : List ℕ) → clockFromF t x (l ++ m) ≡ (clockFromF t x l >>= λ y. clockFromF t y m)
 unfolding clockFromF
 clock-append t x [] m = refl
-clock-append t x (c ∷ l) m = clock-append t (tickF t x c) l m
+clock-append t x (c ∷ l) m = go (tickF t x c) (λ y. clock-append t y l m)
+  where
+    go : (o : Option TimedF) → ((y : TimedF) → clockFromF t y (l ++ m) ≡ (clockFromF t y l >>= λ z. clockFromF t z m))
+        → (o >>= λ y. clockFromF t y (l ++ m)) ≡ ((o >>= λ y. clockFromF t y l) >>= λ y. clockFromF t y m)
+    go none ih = refl
+    go (some y) ih = ih y
 
 -- grown by one call
-pub clock-grown : (t : Tables) (x : ClockF) (l : List ℕ) (c : ℕ) → clockFromF t x (l ++ (c ∷ [])) ≡ tickF t (clockFromF t x l) c
+pub clock-grown : (t : Tables) (x : TimedF) (l : List ℕ) (c : ℕ) → clockFromF t x (l ++ (c ∷ [])) ≡ (clockFromF t x l >>= λ y. tickF t y c)
 unfolding clockFromF
-clock-grown t x l c = clock-append t x l (c ∷ [])
-
-pub legs-append : (t : Tables) (far : Float) (a : ℕ) (l m : List ℕ) → legsF t far a (l ++ m) ≡ legsF t (legsF t far a l) (lastOf a l) m
-unfolding legsF
-legs-append t far a [] m = refl
-legs-append t far a (c ∷ l) m = legs-append t (Ieee.add binary64 far (distanceF t a c)) c l m
+clock-grown t x l c = clock-append t x l (c ∷ []) ∙ ap (λ (f : TimedF → Option TimedF). clockFromF t x l >>= f) (λ i y. once (tickF t y c) i)
+  where
+    once : (o : Option TimedF) → (o >>= λ y. some y) ≡ o
+    once none = refl
+    once (some y) = refl
 
 pub last-append : (a : ℕ) (l m : List ℕ) → lastOf a (l ++ m) ≡ lastOf (lastOf a l) m
 last-append a [] m = refl
 last-append a (c ∷ l) m = last-append c l m
 
--- the clock's last place
-pub clock-prev : (t : Tables) (x : ClockF) (calls : List ℕ) → clockFromF t x calls .prev ≡ lastOf (x .prev) calls
-unfolding clockFromF pushF
-clock-prev t x [] = refl
-clock-prev t x (c ∷ cs) = clock-prev t (tickF t x c) cs
-
 -- ---- the loop over a run: what is left of it from call i on
 
 module _ (t : Tables) (route : List ℕ) (x : ClockF) (far : Float) (i : ℕ) where
-  pub end-turn : (y : ClockF) (c : CustomerOf Float) (way leg : Float) → i < length route
-      → leg ≡ distanceF t (x .prev) (getD route i 0) → way ≡ timeF t (x .prev) (getD route i 0) → c ≡ recordF t (getD route i 0) → y ≡ pushF x (getD route i 0) c way
-      → endF t x far (drop i route) ≡ endF t y (Ieee.add binary64 far leg) (drop (i + 1) route)
-  unfolding endF clockFromF legsF pushF
-  end-turn y c way leg h el ew ec ey = rw (ey, ec, ew, el, add-one, drop-cons route i 0)
+  module _ (g : Option Leg) (h : i < length route) (eg : g ≡ legF t (x .prev) (getD route i 0)) where
+    -- the leg to the call is closed
+    pub end-closed : g ≡ none → endF t x far (drop i route) ≡ none
+    unfolding endF clockFromF
+    end-closed e = rw (drop-cons route i 0 h, ← eg, e)
 
-  pub end-last : length route ≤ i → endF t x far (drop i route) ≡ finishF (Ieee.add binary64 far (distanceF t (x .prev) 0)) (timeF t (x .prev) 0) x
-  unfolding endF clockFromF legsF
+    pub end-turn : (l : Leg) → g ≡ some l → (y : ClockF) (c : CustomerOf Float) → c ≡ recordF t (getD route i 0) → y ≡ pushF x (getD route i 0) c (l .time)
+        → endF t x far (drop i route) ≡ endF t y (Ieee.add binary64 far (l .distance)) (drop (i + 1) route)
+    unfolding endF clockFromF
+    end-turn l el y c ec ey = rw (drop-cons route i 0 h, ← eg, el, ey, ec, add-one)
+
+  pub end-last : length route ≤ i → endF t x far (drop i route) ≡ clockHomeF t (timed x far)
+  unfolding endF clockFromF
   end-last h = rw (drop-of-length-le route h)

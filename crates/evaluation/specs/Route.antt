@@ -12,7 +12,7 @@ use Rattle.models.specs.Limits.{allowF}
 use Rattle.clock.specs.declared.schedule.Scheduled.{Scheduled}
 use Rattle.clock.specs.Serving.{breakStartF}
 use Rattle.evaluation.specs.Records.{Tables, TakenF, LimitsF, EvaluationF}
-use Rattle.evaluation.specs.Tables.{timeF}
+use Rattle.evaluation.specs.Tables.{legF}
 use Rattle.evaluation.specs.Schedule.{scheduleF}
 use Rattle.evaluation.specs.Way.{startWay, wayF, plainF}
 
@@ -33,7 +33,9 @@ allowedF t limits calls = keptF limits (totalsF t (limits .rest) calls)
 -- the break at call number k, from 0
 unfoldable pub breakStartAtF : Tables → BreakOf Float → ℕ → List ℕ → Option Float
 breakStartAtF t b k calls =
-    wayF t startWay (take k calls) >>= λ d. some (breakStartF b (Ieee.add binary64 (d .label .time) (timeF t (d .prev) (getD calls k 0))))
+    wayF t startWay (take k calls)
+    >>= λ d. legF t (d .prev) (getD calls k 0)
+    >>= λ g. some (breakStartF b (Ieee.add binary64 (d .label .time) (g .time)))
 
 -- the break of a place, from 1; 0 is none
 unfoldable pub startF : Tables → Option (BreakOf Float) → ℕ → List ℕ → Option Float

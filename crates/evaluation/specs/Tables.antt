@@ -1,17 +1,17 @@
--- What is looked up for a call: its record, what it asks for, the distance and the travel time. Definitions only.
+-- What is looked up for a call: its record, what it asks for, and the leg to it. Definitions only.
 use Prim.Native.Nat.{ℕ, zero, suc, _+_}
 use mathlib.Core.Bool.{cond}
 use mathlib.Core.Path.{_≡_}
-use mathlib.Core.List.{List, [], _∷_}
-use mathlib.Core.Option.{none}
+use mathlib.Core.List.{List}
+use mathlib.Core.Option.{Option, none}
 use lib.Dec.{ltb}
-use lib.Ieee as Ieee
-use lib.Ieee.{Float, binary64}
+use lib.Ieee.{Float}
 use lib.ListN.{getD}
 use Rattle.definitions.specs.Load.{Load, noLoad, loadBy}
-use Rattle.definitions.specs.Sheet.{CustomerOf, timeTable}
+use Rattle.definitions.specs.Sheet.{CustomerOf}
 use Rattle.whole.specs.Whole.{fl}
-use Rattle.distance.specs.Lookup.{lookupF}
+use Rattle.distance.specs.declared.leg.Leg.{Leg}
+use Rattle.distance.specs.Lookup.{driveF}
 use Rattle.evaluation.specs.Records.{Tables}
 
 -- which of 64 records a call has: its own, or the first for a call beyond them
@@ -50,13 +50,6 @@ unfoldable pub placeBefore : List ℕ → ℕ → ℕ
 placeBefore calls zero = 0
 placeBefore calls (suc k) = getD calls k 0
 
-abbrev pub distanceF : Tables → ℕ → ℕ → Float
-distanceF t a b = lookupF (t .distances) (t .size) a b
-
-abbrev pub timeF : Tables → ℕ → ℕ → Float
-timeF t a b = lookupF (timeTable (t .distances) (t .times)) (t .size) a b
-
--- the legs from place a through the calls, on top of what is gone already
-unfoldable pub legsF : Tables → Float → ℕ → List ℕ → Float
-legsF t far a [] = far
-legsF t far a (c ∷ cs) = legsF t (Ieee.add binary64 far (distanceF t a c)) c cs
+-- the leg from a to b, if it is open
+abbrev pub legF : Tables → ℕ → ℕ → Option Leg
+legF t a b = driveF (t .distances) (t .times) (t .size) a b

@@ -14,6 +14,7 @@ use crate::way::plain_from;
 use crate::way::way_through;
 use clock::schedule::Finished;
 use clock::schedule::break_start_at;
+use distance::leg::Drive;
 use distance::leg::leg_between;
 use models::count::fewer;
 use models::customer::Customer;
@@ -167,7 +168,9 @@ pub fn break_start(
     let label = d.label;
     let prev = d.prev;
     let cid = call_at(route, k);
-    let leg = leg_between(distances, times, size, prev, cid);
+    let Drive::Open(leg) = leg_between(distances, times, size, prev, cid) else {
+        return Start::Unbroken;
+    };
     Start::At(break_start_at(rest, label.time + leg.time))
 }
 

@@ -11,6 +11,7 @@ ghost use Rattle.evaluation.specs.Tables.{recordIndex};
 ghost use Rattle.evaluation.specs.Schedule.{endF, scheduleF};
 use clock::schedule::BreakClock;
 use clock::schedule::Finished;
+use distance::leg::Drive;
 use distance::leg::leg_between;
 use models::customer::Customer;
 use models::vehicle::VehicleBreak;
@@ -60,7 +61,9 @@ pub fn clock_from(
     while i < calls.len() {
         let cid = calls[i];
         let prev = clock.prev;
-        let leg = leg_between(distances, times, size, prev, cid);
+        let Drive::Open(leg) = leg_between(distances, times, size, prev, cid) else {
+            return Finished::Impossible;
+        };
         distance = distance + leg.distance;
         let index = record_index(cid);
         clock = clock.push(cid, customers[index], leg.time);
@@ -70,7 +73,9 @@ pub fn clock_from(
         i += 1;
     }
     let last = clock.prev;
-    let back = leg_between(distances, times, size, last, 0);
+    let Drive::Open(back) = leg_between(distances, times, size, last, 0) else {
+        return Finished::Impossible;
+    };
     clock.finish(distance + back.distance, back.time)
 }
 

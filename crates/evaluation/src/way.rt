@@ -1,14 +1,19 @@
 // The way of a run with no break, from anywhere on: a call more, the calls that are left, and home.
 ghost use mathlib.Core.Path.{_≡_};
+ghost use Prim.Native.Nat.{_<_};
+ghost use lib.ListN.{length};
+ghost use Rattle.basics.specs.Options.{valueOr};
+ghost use Rattle.distance.specs.Lookup.{driveF};
 ghost use Rattle.models.specs.Records.{customerOf};
 ghost use Rattle.clock.specs.Records.{finishedOf};
 ghost use Rattle.evaluation.specs.Records.{drivenOf, lent};
-ghost use Rattle.evaluation.specs.Way.{startWay, wayOnF, wayF, plainF};
+ghost use Rattle.evaluation.specs.Way.{startWay, wayOnF, wayF, plainF, closedF};
 use crate::schedule::record_index;
 use clock::schedule::Finished;
 use clock::schedule::Label;
 use clock::schedule::Reached;
 use clock::schedule::serve;
+use distance::leg::Drive;
 use distance::leg::leg_between;
 use models::customer::Customer;
 use models::vehicle::Rest;
@@ -20,7 +25,7 @@ pub struct Way {
     pub prev: usize,
 }
 
-// A way that fails at a window, or one.
+// A way that fails at a window or a closed leg, or one.
 pub enum Driven {
     Failed,
     To(Way),
@@ -72,7 +77,9 @@ pub fn way_through(
     while i < calls.len() {
         let cid = calls[i];
         let prev = way.prev;
-        let leg = leg_between(distances, times, size, prev, cid);
+        let Drive::Open(leg) = leg_between(distances, times, size, prev, cid) else {
+            return Driven::Failed;
+        };
         let index = record_index(cid);
         let Driven::To(w) = way.on(cid, customers[index], leg.distance, leg.time) else {
             return Driven::Failed;
@@ -101,6 +108,31 @@ pub fn plain_from(
     };
     let label = d.label;
     let prev = d.prev;
-    let back = leg_between(distances, times, size, prev, 0);
+    let Drive::Open(back) = leg_between(distances, times, size, prev, 0) else {
+        return Finished::Impossible;
+    };
     Finished::Home(label.home(d.distance + back.distance, back.time))
+}
+
+// The number of the first closed leg of a run, from 1, which leaves the depot, to the way home; 0 where none is closed.
+pub fn first_closed(route: &[usize], distances: &[f64], times: &[f64], size: usize) -> usize
+    requires { ⌜ length (now route) < 0xFFFF_FFFF_FFFF_FFFF ⌝ }
+    ensures { λ r.
+        let leg = driveF (now (distances .entry)) (now (times .entry)) size in
+        ⌜ r ≡ valueOr 0 (closedF leg 1 0 (now (route .entry))) ⌝ }
+{
+    let mut prev = 0;
+    let mut i = 0;
+    while i < route.len() {
+        let cid = route[i];
+        i += 1;
+        let Drive::Open(_) = leg_between(distances, times, size, prev, cid) else {
+            return i;
+        };
+        prev = cid;
+    }
+    match leg_between(distances, times, size, prev, 0) {
+        Drive::Open(_) => 0,
+        Drive::Closed => i + 1,
+    }
 }

@@ -15,7 +15,7 @@ use Rattle.definitions.specs.Room.{short}
 use Rattle.definitions.specs.Answers as Call
 use Rattle.sheet_read.specs.Summary as Summary
 use Rattle.sheet_read.specs.Summary.{summaryOf}
-use Rattle.split.specs.declared.split.SplitResult.{SplitResult}
+use Rattle.split_tw.specs.declared.answer.SplitResult.{SplitResult}
 use Rattle.sheet_plan.specs.Plan.{Plan, plan, countsOf, totalsOf, PlanLists, Left}
 use Rattle.exports.specs.Answer.{Answer, Outputs, outputs, onReading}
 use Rattle.exports.specs.Plan.{PlanRoom, planNeeds, roomsOf, PlanWritten, PlanKept}

@@ -14,23 +14,25 @@ use Rattle.basics.proofs.TestLaws.{by-test}
 use Rattle.basics.specs.Options.{_>>=_, given, present}
 use Rattle.definitions.specs.Sheet.{BreakOf}
 use Rattle.whole.specs.Whole.{fl}
+use Rattle.distance.specs.declared.leg.Leg.{Leg}
 use Rattle.clock.specs.declared.schedule.Scheduled.{Scheduled}
 use Rattle.clock.specs.Records.{ClockF}
 use Rattle.clock.specs.Clock.{begunF, pushF, aliveF}
 use Rattle.evaluation.specs.declared.way.Way.{Way}
 use Rattle.evaluation.specs.Records.{Tables, LimitsF}
-use Rattle.evaluation.specs.Tables.{distanceF, legsF}
-use Rattle.evaluation.specs.Schedule.{tickF, clockFromF, endF}
+use Rattle.evaluation.specs.Tables.{recordF, legF}
+use Rattle.evaluation.specs.Schedule.{TimedF, timed, tickF, clockFromF, clockHomeF, endF}
 use Rattle.evaluation.specs.Way.{startWay, throughF, wayF, homewardF, plainF}
 use Rattle.evaluation.specs.Route.{totalsF, keptF, allowedF, feasibleF}
 use Rattle.evaluation.proofs.Growing.{end-gone}
+use Rattle.evaluation.proofs.RouteExact.{joined}
 use Rattle.improve_base.proofs.Onward.{ended-failed}
-use Rattle.improve_base.specs.Prefix.{PrefixF, failed, plain, clocked, failedF, indexF, setOutF, reachedF, driveF, onF, onAllF, homeFromF, endedF, feasibleFromF, Leads}
+use Rattle.improve_base.specs.Prefix.{PrefixF, failed, plain, clocked, clockedAt, failedF, indexF, setOutF, reachedF, tickedF, driveF, onF, onAllF, homeFromF, endedF, feasibleFromF, Leads}
 
 -- ---- the run, ended
 
 reached-on : (t : Tables) (cs : List ℕ) (o : Option Way) → ((v : Way) → endedF t (plain v) cs ≡ plainF t v cs)
-    → endedF t (reachedF o) cs ≡ ((o >>= λ v. wayF t v cs) >>= λ d. some (homewardF t d))
+    → endedF t (reachedF o) cs ≡ ((o >>= λ v. wayF t v cs) >>= homewardF t)
 unfolding plainF
 reached-on t cs none h = ended-failed t cs
 reached-on t cs (some v) h = h v
@@ -38,20 +40,20 @@ reached-on t cs (some v) h = h v
 ended-plain : (t : Tables) (w : Way) (calls : List ℕ) → endedF t (plain w) calls ≡ plainF t w calls
 unfolding onAllF onF homeFromF plainF throughF
 ended-plain t w [] = refl
-ended-plain t w (c ∷ cs) = reached-on t cs (driveF t w c) (λ v. ended-plain t v cs)
+ended-plain t w (c ∷ cs) =
+    reached-on t cs (driveF t w c) (λ v. ended-plain t v cs) ∙ ap (λ (o : Option Way). o >>= homewardF t) (joined (legF t (w .prev) c) _ (λ v. wayF t v cs))
 
-end-on : (t : Tables) (x : ClockF) (far : Float) (c : ℕ) (cs : List ℕ) → endF t x far (c ∷ cs) ≡ endF t (tickF t x c) (Ieee.add binary64 far (distanceF t (x .prev) c)) cs
-unfolding endF clockFromF legsF pushF
-end-on t x far c cs = refl
+ticked-on : (t : Tables) (cs : List ℕ) (o : Option TimedF) → ((y : TimedF) → endedF t (clockedAt y) cs ≡ endF t (y .clock) (y .distance) cs)
+    → endedF t (tickedF o) cs ≡ ((o >>= λ y. clockFromF t y cs) >>= clockHomeF t)
+unfolding endF
+ticked-on t cs none h = ended-failed t cs
+ticked-on t cs (some y) h =
+    by-test (aliveF (y .clock)) (λ e. rw e (h y)) (λ n. rw n (ended-failed t cs ∙ sym (end-gone t (y .clock) (y .distance) cs n)))
 
 ended-clocked : (t : Tables) (x : ClockF) (far : Float) (calls : List ℕ) → endedF t (clocked x far) calls ≡ endF t x far calls
-unfolding onAllF onF homeFromF endF clockFromF legsF
+unfolding onAllF onF homeFromF endF clockFromF
 ended-clocked t x far [] = refl
-ended-clocked t x far (c ∷ cs) =
-    let y = tickF t x c in
-    let further = Ieee.add binary64 far (distanceF t (x .prev) c) in
-    by-test (aliveF y) (λ e. rw e (ended-clocked t y further cs ∙ sym (end-on t x far c cs)))
-    (λ n. rw n (ended-failed t cs ∙ sym (end-on t x far c cs ∙ end-gone t y further cs n)))
+ended-clocked t x far (c ∷ cs) = ticked-on t cs (tickF t (timed x far) c) (λ y. ended-clocked t (y .clock) (y .distance) cs)
 
 ended-start : (t : Tables) (r : Option (BreakOf Float)) (calls : List ℕ) → endedF t (setOutF r) calls ≡ totalsF t r calls
 unfolding totalsF
@@ -81,7 +83,14 @@ on-index : (t : Tables) (b : PrefixF) (c : ℕ) → indexF (onF t b c) ≤ suc (
 unfolding onF pushF
 on-index t failed c = omega arith
 on-index t (plain w) c = reached-index (driveF t w c)
-on-index t (clocked x far) c = by-test (aliveF (tickF t x c)) (λ y. rw y (omega arith)) (λ n. rw n (omega arith))
+on-index t (clocked x far) c = ticked-index (legF t (x .prev) c)
+  where
+    after : Leg → TimedF
+    after g = timed (pushF x c (recordF t c) (g .time)) (Ieee.add binary64 far (g .distance))
+
+    ticked-index : (o : Option Leg) → indexF (tickedF (o >>= λ g. some (after g))) ≤ suc (x .index)
+    ticked-index none = omega arith
+    ticked-index (some g) = by-test (aliveF (after g .clock)) (λ y. rw y (omega arith)) (λ n. rw n (omega arith))
 
 module _ (t : Tables) (limits : LimitsF) where
   from-on : (b : PrefixF) (c : ℕ) (rest : List ℕ) → feasibleFromF t limits b (c ∷ rest) ≡ feasibleFromF t limits (onF t b c) rest

@@ -4,18 +4,16 @@ use native.Mathlib.Numerals.{add-one}
 use mathlib.Core.Path.{_≡_, refl, sym, ap, _∙_}
 use mathlib.Core.Bool.{true, false}
 use mathlib.Core.List.{List, [], _∷_}
-use mathlib.Core.Option.{Option, none}
+use mathlib.Core.Option.{Option, none, some}
 use lib.ListN.{length, getD, drop, drop-of-length-le}
 use lib.Seq.{drop-cons}
-use lib.Ieee as Ieee
-use lib.Ieee.{Float, binary64}
-use Rattle.clock.specs.Records.{ClockF}
+use Rattle.basics.proofs.OptionLaws.{same, bound}
 use Rattle.clock.specs.Clock.{pushF, aliveF}
 use Rattle.evaluation.specs.declared.way.Way.{Way}
 use Rattle.evaluation.specs.Records.{Tables}
-use Rattle.evaluation.specs.Tables.{distanceF}
-use Rattle.evaluation.specs.Schedule.{tickF}
-use Rattle.improve_base.specs.Prefix.{PrefixF, failed, plain, clocked, reachedF, driveF, onF, onAllF, homeFromF, endedF}
+use Rattle.evaluation.specs.Tables.{legF}
+use Rattle.evaluation.specs.Schedule.{TimedF, tickF}
+use Rattle.improve_base.specs.Prefix.{PrefixF, failed, plain, clockedAt, reachedF, driveF, onF, onAllF, homeFromF, endedF}
 
 module _ (t : Tables) where
   -- what cannot be served stays so
@@ -34,16 +32,16 @@ module _ (t : Tables) where
   unfolding onF
   driven-on w c o e = ap reachedF e
 
-  module _ (x : ClockF) (far : Float) (c : ℕ) (y : ClockF) (e : y ≡ tickF t x c) where
-    pub ticked-on : (further : Float) → further ≡ Ieee.add binary64 far (distanceF t (x .prev) c) → aliveF y ≡ true → clocked y further ≡ onF t (clocked x far) c
+  module _ (x : TimedF) (c : ℕ) (y : TimedF) (e : some y ≡ tickF t x c) where
+    pub ticked-on : aliveF (y .clock) ≡ true → clockedAt y ≡ onF t (clockedAt x) c
     unfolding onF
-    ticked-on further ef a = rw (← e, ef, a)
+    ticked-on a = rw (← e, a)
 
-    pub ticked-index : y .index ≡ x .index + 1
+    pub ticked-index : y .clock .index ≡ x .clock .index + 1
     unfolding pushF
-    ticked-index = ap (λ (z : ClockF). z .index) e
+    ticked-index = let b = bound (legF t (x .clock .prev) c) _ y (sym e) in sym (ap (λ (z : TimedF). z .clock .index) (same (b .2)))
 
-    pub ticked-out : aliveF y ≡ false → failed ≡ onF t (clocked x far) c
+    pub ticked-out : aliveF (y .clock) ≡ false → failed ≡ onF t (clockedAt x) c
     unfolding onF
     ticked-out a = rw (← e, a)
 

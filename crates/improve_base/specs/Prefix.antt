@@ -8,16 +8,18 @@ use mathlib.Core.Option.{Option, none, some}
 use lib.ListN.{length}
 use lib.Ieee as Ieee
 use lib.Ieee.{Float, binary64}
-use Rattle.basics.specs.Options.{present}
+use Rattle.basics.specs.Options.{_>>=_, present}
 use Rattle.definitions.specs.Sheet.{BreakOf}
 use Rattle.whole.specs.Whole.{fl}
+use Rattle.distance.specs.declared.leg.Leg.{Leg}
 use Rattle.clock.specs.declared.schedule.Scheduled.{Scheduled}
 use Rattle.clock.specs.Records.{ClockF, clockOf}
 use Rattle.clock.specs.Clock.{begunF, aliveF, homeF, finishF}
 use Rattle.evaluation.specs.declared.way.Way.{Way}
+use Rattle.evaluation.specs.declared.schedule.Timed.{Timed}
 use Rattle.evaluation.specs.Records.{Tables, LimitsF}
-use Rattle.evaluation.specs.Tables.{recordF, distanceF, timeF}
-use Rattle.evaluation.specs.Schedule.{tickF}
+use Rattle.evaluation.specs.Tables.{recordF, legF}
+use Rattle.evaluation.specs.Schedule.{TimedF, timed, tickF}
 use Rattle.evaluation.specs.Way.{startWay, wayOnF}
 use Rattle.evaluation.specs.Route.{keptF, feasibleF}
 use Rattle.improve_base.specs.declared.prefix.Prefix.{Prefix}
@@ -29,10 +31,16 @@ pub data PrefixF : Type 0 where
   plain : Way → PrefixF
   clocked : ClockF → Float → PrefixF
 
+abbrev pub timedOf : Timed → TimedF
+timedOf x = timed (clockOf (x .clock)) (x .distance)
+
+abbrev pub clockedAt : TimedF → PrefixF
+clockedAt x = clocked (x .clock) (x .distance)
+
 abbrev pub prefixOf : Prefix → PrefixF
 prefixOf Failed = failed
 prefixOf (Plain w) = plain w
-prefixOf (Clock c) = clocked (clockOf (c .clock)) (c .distance)
+prefixOf (Clock c) = clockedAt (timedOf c)
 
 abbrev pub failedF : PrefixF → Bool
 failedF failed = true
@@ -56,17 +64,20 @@ abbrev pub reachedF : Option Way → PrefixF
 reachedF none = failed
 reachedF (some w) = plain w
 
+-- a clock with no label left has failed
+abbrev pub tickedF : Option TimedF → PrefixF
+tickedF none = failed
+tickedF (some x) = cond (aliveF (x .clock)) (clockedAt x) failed
+
 -- one call more on the way, looked up in the tables
 abbrev pub driveF : Tables → Way → ℕ → Option Way
-driveF t w c = wayOnF (recordF t c) (distanceF t (w .prev) c) (timeF t (w .prev) c) w c
+driveF t w c = legF t (w .prev) c >>= λ g. wayOnF (recordF t c) (g .distance) (g .time) w c
 
--- and from anywhere; a clock with no label left has failed
+-- and from anywhere
 unfoldable pub onF : Tables → PrefixF → ℕ → PrefixF
 onF t failed c = failed
 onF t (plain w) c = reachedF (driveF t w c)
-onF t (clocked x far) c =
-    let y = tickF t x c in
-    cond (aliveF y) (clocked y (Ieee.add binary64 far (distanceF t (x .prev) c))) failed
+onF t (clocked x far) c = tickedF (tickF t (timed x far) c)
 
 -- these calls, one after the other
 unfoldable pub onAllF : Tables → PrefixF → List ℕ → PrefixF
@@ -75,15 +86,15 @@ onAllF t b (c ∷ cs) = onAllF t (onF t b c) cs
 
 -- ---- the run ended by these calls
 
-module _ (leg time : ℕ → ℕ → Float) where
+module _ (leg : ℕ → ℕ → Option Leg) where
   -- home from here
   unfoldable pub homeFromF : PrefixF → Option Scheduled
   homeFromF failed = none
-  homeFromF (plain w) = some (homeF (Ieee.add binary64 (w .distance) (leg (w .prev) 0)) (time (w .prev) 0) (w .label))
-  homeFromF (clocked x far) = finishF (Ieee.add binary64 far (leg (x .prev) 0)) (time (x .prev) 0) x
+  homeFromF (plain w) = leg (w .prev) 0 >>= λ g. some (homeF (Ieee.add binary64 (w .distance) (g .distance)) (g .time) (w .label))
+  homeFromF (clocked x far) = leg (x .prev) 0 >>= λ g. finishF (Ieee.add binary64 far (g .distance)) (g .time) x
 
 abbrev pub endedF : Tables → PrefixF → List ℕ → Option Scheduled
-endedF t b calls = homeFromF (distanceF t) (timeF t) (onAllF t b calls)
+endedF t b calls = homeFromF (legF t) (onAllF t b calls)
 
 unfoldable pub feasibleFromF : Tables → LimitsF → PrefixF → List ℕ → Bool
 feasibleFromF t limits b calls = present (keptF limits (endedF t b calls))

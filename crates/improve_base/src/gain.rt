@@ -4,10 +4,11 @@
 ghost use mathlib.Core.Path.{_≡_};
 ghost use Prim.Native.Nat.{_+_, _<_};
 ghost use lib.ListN.{length, getD, drop};
-ghost use Rattle.distance.specs.Lookup.{lookupF};
+ghost use Rattle.distance.specs.Lookup.{numberF};
 ghost use Rattle.whole.specs.Gain.{gainFloorF};
+ghost use Rattle.improve_base.specs.Leg.{AllOpen};
 ghost use Rattle.improve_base.specs.Gain.{largestF, scaleF, legsEqualF, allEqualF, symmetricF};
-use distance::matrix::get;
+use crate::leg::open_leg;
 use whole::larger;
 
 // The largest of the distances from number k on and of what was found before.
@@ -64,9 +65,9 @@ pub fn legs_equal(there: f64, back: f64) -> bool
 
 // The same between call number i and each call after it.
 pub fn call_symmetric(calls: &[usize], distances: &[f64], size: usize, i: usize) -> bool
-    requires { ⌜ i < length (now calls) ⌝ }
+    requires { ⌜ (i < length (now calls)) × AllOpen (now distances) ⌝ }
     ensures { λ r.
-        let leg = lookupF (now (distances .entry)) size in
+        let leg = numberF (now (distances .entry)) size in
         ⌜ r ≡ allEqualF leg (getD (now (calls .entry)) i 0) (drop (i + 1) (now (calls .entry))) ⌝ }
 {
     let one = calls[i];
@@ -74,8 +75,8 @@ pub fn call_symmetric(calls: &[usize], distances: &[f64], size: usize, i: usize)
     while j < calls.len() {
         let other = calls[j];
         if !legs_equal(
-            get(distances, size, one, other),
-            get(distances, size, other, one),
+            open_leg(distances, size, one, other),
+            open_leg(distances, size, other, one),
         ) {
             return false;
         }
@@ -86,7 +87,8 @@ pub fn call_symmetric(calls: &[usize], distances: &[f64], size: usize, i: usize)
 
 // The same between any two of these calls.
 pub fn symmetric(calls: &[usize], distances: &[f64], size: usize) -> bool
-    ensures { λ r. ⌜ r ≡ symmetricF (lookupF (now (distances .entry)) size) (now (calls .entry)) ⌝ }
+    requires { ⌜ AllOpen (now distances) ⌝ }
+    ensures { λ r. ⌜ r ≡ symmetricF (numberF (now (distances .entry)) size) (now (calls .entry)) ⌝ }
 {
     let mut i = 0;
     while i < calls.len() {

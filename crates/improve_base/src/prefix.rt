@@ -4,13 +4,13 @@
 ghost use mathlib.Core.Path.{_≡_};
 ghost use Prim.Native.Nat.{_+_, _<_};
 ghost use lib.ListN.{length};
-ghost use Rattle.definitions.specs.Sheet.{timeTable};
-ghost use Rattle.distance.specs.Lookup.{lookupF};
+ghost use Rattle.distance.specs.Lookup as Lookup;
 ghost use Rattle.models.specs.Records.{restOf};
-ghost use Rattle.clock.specs.Records.{finishedOf, clockOf};
+ghost use Rattle.clock.specs.Records.{finishedOf};
 ghost use Rattle.evaluation.specs.Records.{limitsOf};
 ghost use Rattle.cut_stops.specs.Stops.{numbers, Long, listed};
-ghost use Rattle.improve_base.specs.Prefix.{plain, clocked, prefixOf, failedF, indexF, setOutF, onF, onAllF, homeFromF, feasibleFromF};
+ghost use Rattle.improve_base.specs.Leg.{AllOpen};
+ghost use Rattle.improve_base.specs.Prefix.{plain, timedOf, clockedAt, prefixOf, failedF, indexF, setOutF, onF, onAllF, homeFromF, feasibleFromF};
 use crate::step::clock_home;
 use crate::step::drive_on;
 use crate::step::tick_on;
@@ -50,6 +50,7 @@ pub fn way_on(
     size: usize,
 ) -> Prefix
     requires { ⌜ Long (numbers (now codes) (now figures)) ⌝ }
+    requires { ⌜ AllOpen (now distances) × AllOpen (now times) ⌝ }
     ensures { λ r.
         let lists = numbers (now (codes .entry)) (now (figures .entry)) in
         let tables = listed lists (now (distances .entry)) (now (times .entry)) size in
@@ -72,10 +73,11 @@ pub fn clock_on(
     size: usize,
 ) -> Prefix
     requires { ⌜ Long (numbers (now codes) (now figures)) × (timed .clock .index < 0xFFFF_FFFF_FFFF_FFFF) ⌝ }
+    requires { ⌜ AllOpen (now distances) × AllOpen (now times) ⌝ }
     ensures { λ r.
         let lists = numbers (now (codes .entry)) (now (figures .entry)) in
         let tables = listed lists (now (distances .entry)) (now (times .entry)) size in
-        ⌜ prefixOf r ≡ onF tables (clocked (clockOf (timed .clock)) (timed .distance)) cid ⌝ }
+        ⌜ prefixOf r ≡ onF tables (clockedAt (timedOf timed)) cid ⌝ }
 {
     let new = tick_on(timed, cid, codes, figures, distances, times, size);
     let clock = new.clock;
@@ -97,6 +99,7 @@ pub fn go_on(
     size: usize,
 ) -> Prefix
     requires { ⌜ Long (numbers (now codes) (now figures)) × (indexF (prefixOf prefix) < 0xFFFF_FFFF_FFFF_FFFF) ⌝ }
+    requires { ⌜ AllOpen (now distances) × AllOpen (now times) ⌝ }
     ensures { λ r.
         let lists = numbers (now (codes .entry)) (now (figures .entry)) in
         let tables = listed lists (now (distances .entry)) (now (times .entry)) size in
@@ -120,6 +123,7 @@ pub fn way_through(
     size: usize,
 ) -> Prefix
     requires { ⌜ Long (numbers (now codes) (now figures)) ⌝ }
+    requires { ⌜ AllOpen (now distances) × AllOpen (now times) ⌝ }
     ensures { λ r.
         let lists = numbers (now (codes .entry)) (now (figures .entry)) in
         let tables = listed lists (now (distances .entry)) (now (times .entry)) size in
@@ -150,11 +154,11 @@ pub fn clock_through(
 ) -> Prefix
     requires { ⌜ Long (numbers (now codes) (now figures)) ⌝ }
     requires { ⌜ from .clock .index + length (now calls) < 0xFFFF_FFFF_FFFF_FFFF ⌝ }
+    requires { ⌜ AllOpen (now distances) × AllOpen (now times) ⌝ }
     ensures { λ r.
         let lists = numbers (now (codes .entry)) (now (figures .entry)) in
         let tables = listed lists (now (distances .entry)) (now (times .entry)) size in
-        let so = clocked (clockOf (from .clock)) (from .distance) in
-        ⌜ prefixOf r ≡ onAllF tables so (now (calls .entry)) ⌝ }
+        ⌜ prefixOf r ≡ onAllF tables (clockedAt (timedOf from)) (now (calls .entry)) ⌝ }
 {
     let mut timed = from;
     let mut i = 0;
@@ -182,6 +186,7 @@ pub fn go_through(
 ) -> Prefix
     requires { ⌜ Long (numbers (now codes) (now figures)) ⌝ }
     requires { ⌜ indexF (prefixOf prefix) + length (now calls) < 0xFFFF_FFFF_FFFF_FFFF ⌝ }
+    requires { ⌜ AllOpen (now distances) × AllOpen (now times) ⌝ }
     ensures { λ r.
         let lists = numbers (now (codes .entry)) (now (figures .entry)) in
         let tables = listed lists (now (distances .entry)) (now (times .entry)) size in
@@ -196,10 +201,10 @@ pub fn go_through(
 
 // The totals of the run that goes home from here.
 pub fn home_from(prefix: Prefix, distances: &[f64], times: &[f64], size: usize) -> Finished
+    requires { ⌜ AllOpen (now distances) × AllOpen (now times) ⌝ }
     ensures { λ r.
-        let leg = lookupF (now (distances .entry)) size in
-        let time = lookupF (timeTable (now (distances .entry)) (now (times .entry))) size in
-        ⌜ finishedOf r ≡ homeFromF leg time (prefixOf prefix) ⌝ }
+        let leg = Lookup.driveF (now (distances .entry)) (now (times .entry)) size in
+        ⌜ finishedOf r ≡ homeFromF leg (prefixOf prefix) ⌝ }
 {
     match prefix {
         Prefix::Failed => Finished::Impossible,
@@ -221,6 +226,7 @@ pub fn feasible_from(
 ) -> bool
     requires { ⌜ Long (numbers (now codes) (now figures)) ⌝ }
     requires { ⌜ indexF (prefixOf prefix) + length (now calls) < 0xFFFF_FFFF_FFFF_FFFF ⌝ }
+    requires { ⌜ AllOpen (now distances) × AllOpen (now times) ⌝ }
     ensures { λ r.
         let lists = numbers (now (codes .entry)) (now (figures .entry)) in
         let tables = listed lists (now (distances .entry)) (now (times .entry)) size in

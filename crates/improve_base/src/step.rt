@@ -2,16 +2,14 @@
 // and the way home.
 ghost use mathlib.Core.Path.{_≡_};
 ghost use Prim.Native.Nat.{_<_};
-ghost use lib.Ieee as Ieee;
-ghost use lib.Ieee.{binary64};
-ghost use Rattle.definitions.specs.Sheet.{timeTable};
-ghost use Rattle.distance.specs.Lookup.{lookupF};
-ghost use Rattle.clock.specs.Records.{clockOf, finishedOf};
+ghost use mathlib.Core.Option.{some};
+ghost use Rattle.distance.specs.Lookup as Lookup;
+ghost use Rattle.clock.specs.Records.{finishedOf};
 ghost use Rattle.evaluation.specs.Records.{drivenOf};
-ghost use Rattle.evaluation.specs.Tables.{distanceF};
 ghost use Rattle.evaluation.specs.Schedule.{tickF};
 ghost use Rattle.cut_stops.specs.Stops.{numbers, Long, listed};
-ghost use Rattle.improve_base.specs.Prefix.{plain, clocked, driveF, homeFromF};
+ghost use Rattle.improve_base.specs.Leg.{AllOpen};
+ghost use Rattle.improve_base.specs.Prefix.{plain, timedOf, clockedAt, driveF, homeFromF};
 use crate::leg::leg_on;
 use clock::schedule::Finished;
 use cut_stops::stops::customer_at;
@@ -31,6 +29,7 @@ pub fn drive_on(
     size: usize,
 ) -> Driven
     requires { ⌜ Long (numbers (now codes) (now figures)) ⌝ }
+    requires { ⌜ AllOpen (now distances) × AllOpen (now times) ⌝ }
     ensures { λ r.
         let lists = numbers (now (codes .entry)) (now (figures .entry)) in
         let tables = listed lists (now (distances .entry)) (now (times .entry)) size in
@@ -54,13 +53,11 @@ pub fn tick_on(
     size: usize,
 ) -> Timed
     requires { ⌜ Long (numbers (now codes) (now figures)) × (timed .clock .index < 0xFFFF_FFFF_FFFF_FFFF) ⌝ }
-    ensures clock { λ r.
+    requires { ⌜ AllOpen (now distances) × AllOpen (now times) ⌝ }
+    ensures { λ r.
         let lists = numbers (now (codes .entry)) (now (figures .entry)) in
         let tables = listed lists (now (distances .entry)) (now (times .entry)) size in
-        ⌜ clockOf (r .clock) ≡ tickF tables (clockOf (timed .clock)) cid ⌝ }
-    ensures distance { λ r.
-        let leg = lookupF (now (distances .entry)) size in
-        ⌜ r .distance ≡ Ieee.add binary64 (timed .distance) (leg (timed .clock .prev) cid) ⌝ }
+        ⌜ some (timedOf r) ≡ tickF tables (timedOf timed) cid ⌝ }
 {
     let old = timed.clock;
     let prev = old.prev;
@@ -75,10 +72,10 @@ pub fn tick_on(
 
 // Home with no break.
 pub fn way_home(way: Way, distances: &[f64], times: &[f64], size: usize) -> Finished
+    requires { ⌜ AllOpen (now distances) × AllOpen (now times) ⌝ }
     ensures { λ r.
-        let leg = lookupF (now (distances .entry)) size in
-        let time = lookupF (timeTable (now (distances .entry)) (now (times .entry))) size in
-        ⌜ finishedOf r ≡ homeFromF leg time (plain way) ⌝ }
+        let leg = Lookup.driveF (now (distances .entry)) (now (times .entry)) size in
+        ⌜ finishedOf r ≡ homeFromF leg (plain way) ⌝ }
 {
     let label = way.label;
     let prev = way.prev;
@@ -88,10 +85,10 @@ pub fn way_home(way: Way, distances: &[f64], times: &[f64], size: usize) -> Fini
 
 // Home by the clock.
 pub fn clock_home(timed: Timed, distances: &[f64], times: &[f64], size: usize) -> Finished
+    requires { ⌜ AllOpen (now distances) × AllOpen (now times) ⌝ }
     ensures { λ r.
-        let leg = lookupF (now (distances .entry)) size in
-        let time = lookupF (timeTable (now (distances .entry)) (now (times .entry))) size in
-        ⌜ finishedOf r ≡ homeFromF leg time (clocked (clockOf (timed .clock)) (timed .distance)) ⌝ }
+        let leg = Lookup.driveF (now (distances .entry)) (now (times .entry)) size in
+        ⌜ finishedOf r ≡ homeFromF leg (clockedAt (timedOf timed)) ⌝ }
 {
     let clock = timed.clock;
     let prev = clock.prev;

@@ -26,7 +26,7 @@ use Rattle.bounds.proofs.BoundLaws.{start-most}
 use Rattle.bounds.proofs.CostBoundLaws.{arc-priced, plan-fits}
 use Rattle.models.specs.declared.customer.Customer.{Customer}
 use Rattle.models.specs.declared.head.Head.{Head}
-use Rattle.split.specs.declared.split.SplitResult.{SplitResult}
+use Rattle.split_tw.specs.declared.answer.SplitResult.{SplitResult}
 use Rattle.listing_lines.specs.Lines.{startIf, runText}
 use Rattle.listing_lines.specs.Number.{wholePart}
 use Rattle.listing_lines.specs.Plan.{runsText, printed, resultText}

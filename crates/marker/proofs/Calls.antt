@@ -14,11 +14,13 @@ use borrow.Author.Tests.{leb-true, leb-false, eq-eqb, ne-eqb}
 use Rattle.basics.proofs.TestLaws.{by-test}
 use Rattle.definitions.specs.Sheet.{BreakOf, CustomerOf}
 use Rattle.definitions.specs.Marker.{differ}
+use Rattle.distance.specs.declared.leg.Leg.{Leg}
 use Rattle.clock.specs.declared.schedule.Label.{Label}
 use Rattle.clock.specs.Serving.{serveF}
 use Rattle.clock.specs.Clock.{homeF}
 use Rattle.evaluation.specs.Records.{Tables}
-use Rattle.evaluation.specs.Tables.{recordF, distanceF, timeF}
+use Rattle.evaluation.specs.Tables.{recordF, legF}
+use Rattle.marker.specs.declared.verdict.Verdict.the-variants.{RoadClosed}
 use Rattle.marker.specs.declared.walk.Walked.the-variants.{Stopped, Home}
 use Rattle.marker.specs.Walking.{breakAtF, callFaultF, walkF}
 
@@ -48,20 +50,32 @@ module _ (xs ys : List ℕ) (i : ℕ) where
 -- ---- the walk
 
 module _ (t : Tables) (rest : Option (BreakOf Float)) (n place : ℕ) (calls : List ℕ) (far : Float) (a : ℕ) (l : Label) (i : ℕ) where
-  module _ (c : CustomerOf Float) (travel : Float) (here : Option (BreakOf Float)) (o : Option Label) (h : i < length calls) (ew : travel ≡ timeF t a (getD calls i 0))
-      (ec : c ≡ recordF t (getD calls i 0)) (eh : here ≡ breakAtF rest place (i + 1)) (es : o ≡ serveF c here (i + 1) travel l) where
-    found : serveF (recordF t (getD calls i 0)) (breakAtF rest place (i + 1)) (i + 1) (timeF t a (getD calls i 0)) l ≡ o
-    found = rw (← ec, ← eh, ← ew) (sym es)
-
-    pub walk-on : (m : Label) (leg : Float) → leg ≡ distanceF t a (getD calls i 0) → o ≡ some m
-        → walkF t rest n place (i + 1) far a l (drop i calls) ≡ walkF t rest n place (i + 1 + 1) (Ieee.add binary64 far leg) (getD calls i 0) m (drop (i + 1) calls)
+  module _ (g : Option Leg) (h : i < length calls) (eg : g ≡ legF t a (getD calls i 0)) where
+    -- the leg to the call is closed
+    pub walk-closed : g ≡ none → walkF t rest n place (i + 1) far a l (drop i calls) ≡ Stopped (RoadClosed n (i + 1))
     unfolding walkF
-    walk-on m leg el e = rw (el, drop-cons calls i 0, found ∙ e, walkF) (rw (add-one (i + 1), add-one i))
+    walk-closed e = rw (drop-cons calls i 0 h, walkF, ← eg, e)
 
-    pub walk-stops : o ≡ none → walkF t rest n place (i + 1) far a l (drop i calls) ≡ Stopped (callFaultF n (i + 1) (getD calls i 0) c here (Ieee.add binary64 (l .time) travel))
+    module _ (w : Leg) (ew : g ≡ some w) (c : CustomerOf Float) (here : Option (BreakOf Float)) (o : Option Label)
+        (ec : c ≡ recordF t (getD calls i 0)) (eh : here ≡ breakAtF rest place (i + 1)) (es : o ≡ serveF c here (i + 1) (w .time) l) where
+      found : serveF (recordF t (getD calls i 0)) (breakAtF rest place (i + 1)) (i + 1) (w .time) l ≡ o
+      found = rw (← ec, ← eh) (sym es)
+
+      pub walk-on : (m : Label) → o ≡ some m
+          → walkF t rest n place (i + 1) far a l (drop i calls) ≡ walkF t rest n place (i + 1 + 1) (Ieee.add binary64 far (w .distance)) (getD calls i 0) m (drop (i + 1) calls)
+      unfolding walkF
+      walk-on m e = rw (drop-cons calls i 0 h, ← eg, ew, found ∙ e, walkF) (rw (add-one (i + 1), add-one i))
+
+      pub walk-stops : o ≡ none → walkF t rest n place (i + 1) far a l (drop i calls) ≡ Stopped (callFaultF n (i + 1) (getD calls i 0) c here (Ieee.add binary64 (l .time) (w .time)))
+      unfolding walkF
+      walk-stops e = rw (drop-cons calls i 0 h, ← eg, ew, found ∙ e, walkF) (rw (ec, eh))
+
+  -- the way home
+  module _ (g : Option Leg) (h : length calls ≤ i) (eg : g ≡ legF t a 0) where
+    pub home-closed : g ≡ none → walkF t rest n place (i + 1) far a l (drop i calls) ≡ Stopped (RoadClosed n (i + 1))
     unfolding walkF
-    walk-stops e = rw (drop-cons calls i 0, found ∙ e, walkF) (rw (ec, eh, ew))
+    home-closed e = rw (drop-of-length-le calls h, walkF, ← eg, e)
 
-  pub walk-end : length calls ≤ i → walkF t rest n place (i + 1) far a l (drop i calls) ≡ Home (homeF (Ieee.add binary64 far (distanceF t a 0)) (timeF t a 0) l)
-  unfolding walkF
-  walk-end h = rw (drop-of-length-le calls h)
+    pub walk-end : (w : Leg) → g ≡ some w → walkF t rest n place (i + 1) far a l (drop i calls) ≡ Home (homeF (Ieee.add binary64 far (w .distance)) (w .time) l)
+    unfolding walkF
+    walk-end w e = rw (drop-of-length-le calls h, walkF, ← eg, e)

@@ -2,7 +2,7 @@
 use mathlib.Core.Path.{_≡_, refl}
 use mathlib.Core.List.{map}
 use Rattle.whole.specs.Whole.{fl}
-use Rattle.definitions.specs.Marker.{Verdict, otherCalls, overload, breakTooLate, windowMissed, breakMissing, tooFar, tooLong, best, dearer, cheaper, wheelchairOverload, verdictNumber, verdictValues}
+use Rattle.definitions.specs.Marker.{Verdict, otherCalls, overload, breakTooLate, windowMissed, breakMissing, tooFar, tooLong, best, dearer, cheaper, wheelchairOverload, roadClosed, verdictNumber, verdictValues}
 use Rattle.marker.specs.Image.{flVerdict}
 use Rattle.marker.specs.Figures.{numberIn, valuesIn}
 
@@ -18,6 +18,7 @@ same-number best = refl
 same-number (dearer by) = refl
 same-number (cheaper by) = refl
 same-number (wheelchairOverload run load capacity) = refl
+same-number (roadClosed run leg) = refl
 
 pub same-values : (v : Verdict) → valuesIn (flVerdict v) ≡ map fl (verdictValues v)
 same-values (otherCalls position) = refl
@@ -31,3 +32,4 @@ same-values best = refl
 same-values (dearer by) = refl
 same-values (cheaper by) = refl
 same-values (wheelchairOverload run load capacity) = refl
+same-values (roadClosed run leg) = refl

@@ -2,7 +2,7 @@
 use Prim.Native.Nat.{ℕ, suc, _+_, _≤_, _<_}
 use native.Mathlib.Omega.{arith}
 use native.Mathlib.Nat.{add-assoc}
-use mathlib.Core.Path.{_≡_, refl, ap, _∙_}
+use mathlib.Core.Path.{_≡_, refl, ap, subst, _∙_}
 use mathlib.Core.List.{List, [], _∷_}
 use mathlib.Core.Option.{Option, none, some, Option·map}
 use lib.Dec.{eqb}
@@ -14,29 +14,31 @@ use Rattle.basics.specs.Options.{Holds}
 use Rattle.basics.proofs.OptionLaws.{same}
 use Rattle.basics.specs.Lists.{All}
 use Rattle.definitions.specs.Domain.{mostCalls}
-use Rattle.definitions.specs.Sheet.{Break, Sheet, customer, distance, time}
+use Rattle.definitions.specs.Sheet.{Break, Sheet, Leg, customer, drive}
 use Rattle.definitions.specs.Run as Whole
 use Rattle.definitions.specs.Run.{breakStart, ready, serve, breakAt, serveAll, lastOf, distanceFrom}
 use Rattle.definitions.specs.Window.{dueOf}
-use Rattle.definitions.specs.Marker.{Verdict, breakTooLate, windowMissed, breakOr, callFault, walkFault}
-use Rattle.bounds.specs.Sized.{SmallBreak, Sized, Place}
-use Rattle.bounds.proofs.Inside.{depot-inside, time-small, customer-small, break-small}
+use Rattle.definitions.specs.Marker.{Verdict, breakTooLate, windowMissed, breakOr, arrivalFault, callFault, walkFault}
+use Rattle.bounds.specs.Sized.{Small, SmallBreak, Sized, Place}
+use Rattle.bounds.proofs.Inside.{depot-inside, leg-small, customer-small, break-small}
 use Rattle.bounds.specs.Bounds.{Early, arriveBy}
 use Rattle.bounds.proofs.BoundLaws.{serve-early}
+use Rattle.theorems.proofs.Roads.{distance-on}
 use Rattle.whole.specs.Whole.{fl, limit}
-use Rattle.whole.proofs.WholeLaws.{fl-add}
+use Rattle.whole.proofs.WholeLaws.{fl-add, fl-sum}
 use Rattle.whole.proofs.LargerLaws.{larger-fl}
 use Rattle.models.specs.Image.{flWindow, flBreak, flCustomer}
 use Rattle.models.specs.Window.{dueF}
 use Rattle.models.proofs.Exact.{due-exact}
+use Rattle.distance.proofs.Exact.{flLeg}
 use Rattle.clock.specs.Serving.{breakStartF, serveF}
 use Rattle.clock.specs.Image.{flLabel, flTotals}
 use Rattle.clock.proofs.ServingExact.{ready-exact}
 use Rattle.clock.proofs.HomeExact.{ended, home-exact}
 use Rattle.evaluation.specs.Records.{Tables}
-use Rattle.evaluation.specs.Tables.{recordF, timeF}
+use Rattle.evaluation.specs.Tables.{recordF, legF}
 use Rattle.evaluation.specs.Image.{Image}
-use Rattle.evaluation.proofs.ClockExact.{record-exact, distance-exact, time-exact, carry-exact}
+use Rattle.evaluation.proofs.ClockExact.{record-exact, leg-exact, carry-exact}
 use Rattle.marker.specs.declared.verdict.Verdict.the-variants.{BreakTooLate, WindowMissed}
 use Rattle.marker.specs.declared.walk.Walked.{Walked}
 use Rattle.marker.specs.declared.walk.Walked.the-variants.{Stopped, Home}
@@ -67,16 +69,20 @@ along a b c d (stops v p q) = stops v (a ∙ p) (d ∙ q)
 along {back} a b c d (arrives l p r q) = arrives l (a ∙ p) (b ∙ r) (d ∙ (q ∙ ap (λ (n : ℕ). Home (flTotals (ended n back l))) c))
 
 module _ (s : Sheet) (S : Sized s) (t : Tables) (I : Image s t) where
-  -- why a call after j others fails
-  module _ (j : ℕ) (few : j < mostCalls) (here : Option Break) (H : Holds SmallBreak here) (n k a c : ℕ) (p : Place s a) (q : Place s c) (l : Whole.Label) (E : Early j l) where
+  -- why a call after j others fails, at the end of a leg that is open
+  module _ (j : ℕ) (few : j < mostCalls) (here : Option Break) (H : Holds SmallBreak here) (n k a c : ℕ) (q : Place s c) (g : Leg) (way : drive s a c ≡ some g)
+      (l : Whole.Label) (E : Early j l) where
+    near : Small (g .travel)
+    near = leg-small s S a c g way .1
+
     abbrev arrival : ℕ
-    arrival = l .time + time s a c
+    arrival = l .time + g .travel
 
     arrives-by : arrival ≤ arriveBy j
-    arrives-by = omega (arith, time-small s S a c)
+    arrives-by = omega (arith, near)
 
     -- on arrival
-    fault-exact : callFaultF n k c (flCustomer (customer s c)) (Option·map flBreak here) (fl arrival) ≡ flVerdict (callFault s n here k a c l)
+    fault-exact : callFaultF n k c (flCustomer (customer s c)) (Option·map flBreak here) (fl arrival) ≡ flVerdict (arrivalFault s n here k c arrival)
     unfolding callFaultF
     fault-exact = rw (ready-exact j few here H arrival arrives-by, callFaultF) (go (ready here arrival))
       where
@@ -92,45 +98,62 @@ module _ (s : Sheet) (S : Sized s) (t : Tables) (I : Image s t) where
         go none = rw (break-or-exact here, larger-fl arrival (breakOr here .earliest) (omega (arith, arrives-by)) (earliest-fits here H))
         go (some readiness) = rw (due-exact (customer s c .window))
 
-    call-fault-exact : callFaultF n k c (recordF t c) (Option·map flBreak here) (Ieee.add binary64 (fl (l .time)) (timeF t a c)) ≡ flVerdict (callFault s n here k a c l)
-    call-fault-exact =
-        rw (record-exact s S t I c q, time-exact s S t I a c p q, fl-add (l .time) (time s a c) (omega arith) (omega (arith, time-small s S a c))) fault-exact
+    call-fault-exact : callFaultF n k c (recordF t c) (Option·map flBreak here) (Ieee.add binary64 (fl (l .time)) (fl (g .travel))) ≡ flVerdict (callFault s n here k a c l)
+    call-fault-exact = rw (record-exact s S t I c q, fl-add (l .time) (g .travel) (omega arith) (omega (arith, near)), way, callFault) fault-exact
 
-  -- the calls from number k on, after j others, with `far` behind them
-  pub walk-exact : (n place j k far a : ℕ) (l : Whole.Label) (calls : List ℕ) → j + length calls ≤ mostCalls → Place s a → All (Place s) calls → Early j l
-      → far + distanceFrom s a calls ≤ limit
-      → Walks (walkFault s n place k a l calls) (serveAll s place k a (some l) calls) (far + distanceFrom s a calls) (time s (lastOf a calls) 0)
+  -- one call, along a leg that is open, and those behind it
+  module _ (n place j k far a c : ℕ) (l : Whole.Label) (cs : List ℕ) (few : j < mostCalls) (p : Place s a) (q : Place s c) (E : Early j l) (g : Leg) (way : drive s a c ≡ some g)
+      (room : far + g .length ≤ limit) where
+    abbrev here : Option Break
+    here = breakAt s place k
+
+    H : Holds SmallBreak here
+    H = break-small s S place k
+
+    -- the leg and the service, in floats
+    looked : legF t a c ≡ some (flLeg g)
+    looked = leg-exact s S t I a c p q ∙ ap (Option·map flLeg) way
+
+    served : serveF (recordF t c) (breakAtF (Option·map flBreak (s .head .rest)) place k) k (fl (g .travel)) (flLabel l) ≡ Option·map flLabel (serve s here k a c l)
+    served = rw (break-at-exact s place k) (carry-exact s S t I j few here H k a c g way q (some l) E)
+
+    turn : (d back : ℕ)
+        → ((m : Whole.Label) → Early (suc j) m
+        → Walks (walkFault s n place (suc k) c m cs) (serveAll s place (suc k) c (some m) cs) (far + g .length + d) back
+        (walkF t (Option·map flBreak (s .head .rest)) n place (suc k) (fl (far + g .length)) c (flLabel m) cs))
+        → Walks (walkFault s n place k a l (c ∷ cs)) (serveAll s place k a (some l) (c ∷ cs)) (far + (g .length + d)) back
+        (walkF t (Option·map flBreak (s .head .rest)) n place k (fl far) a (flLabel l) (c ∷ cs))
+    unfolding walkF walkFault serveAll
+    turn d back ih = go (serve s here k a c l) refl
+      where
+        go : (o : Option Whole.Label) → serve s here k a c l ≡ o
+            → Walks (walkFault s n place k a l (c ∷ cs)) (serveAll s place k a (some l) (c ∷ cs)) (far + (g .length + d)) back
+            (walkF t (Option·map flBreak (s .head .rest)) n place k (fl far) a (flLabel l) (c ∷ cs))
+        go none e =
+            stops (callFault s n here k a c l) (rw (e, walkFault))
+            (rw (walkF, looked, served ∙ ap (Option·map flLabel) e) (ap Stopped (rw (break-at-exact s place k) (call-fault-exact j few here H n k a c q g way l E))))
+        go (some m) e =
+            along (rw (e, walkFault)) (rw (e, serveAll)) (add-assoc far (g .length) d)
+            (rw (walkF, looked, served ∙ ap (Option·map flLabel) e, fl-sum far (g .length) room))
+            (ih m (serve-early j few (customer s c) (customer-small s S c) here H k (g .travel) (leg-small s S a c g way .1) l E m (rw way at e)))
+
+  -- the calls from number k on, after j others, with `far` behind them, and the way home `w`, where no leg is closed
+  pub walk-exact : (n place j k far a : ℕ) (l : Whole.Label) (calls : List ℕ) (d : ℕ) → distanceFrom s a calls ≡ some d → (w : Leg) → drive s (lastOf a calls) 0 ≡ some w
+      → j + length calls ≤ mostCalls → Place s a → All (Place s) calls → Early j l → far + d ≤ limit
+      → Walks (walkFault s n place k a l calls) (serveAll s place k a (some l) calls) (far + d) (w .travel)
       (walkF t (Option·map flBreak (s .head .rest)) n place k (fl far) a (flLabel l) calls)
   unfolding walkF walkFault serveAll
-  walk-exact n place j k far a l [] h p i E f =
+  walk-exact n place j k far a l [] d r w b h p i E f =
+      let e : w .length ≡ d = same (rw b at r) in
+      let m = leg-small s S a 0 w b in
       arrives l refl refl
-      (rw (distance-exact s S t I a 0 p (depot-inside s S), fl-add far (distance s a 0) (omega arith) (omega arith), time-exact s S t I a 0 p (depot-inside s S))
-      (ap Home (same (home-exact j (omega arith) (far + distance s a 0) (time s a 0) (time-small s S a 0) l E))))
-  walk-exact n place j k far a l (c ∷ cs) h p i E f =
-      go (serve s here k a c l) refl (λ m M. walk-exact n place (suc j) (suc k) (far + distance s a c) c m cs (omega arith) (i .0) (i .1) M (omega arith))
-    where
-      here : Option Break
-      here = breakAt s place k
-
-      H : Holds SmallBreak here
-      H = break-small s S place k
-
-      few : j < mostCalls
-      few = omega arith
-
-      served : serveF (recordF t c) (breakAtF (Option·map flBreak (s .head .rest)) place k) k (timeF t a c) (flLabel l) ≡ Option·map flLabel (serve s here k a c l)
-      served = rw (break-at-exact s place k) (carry-exact s S t I j few here H k a c p (i .0) (some l) E)
-
-      go : (o : Option Whole.Label) → serve s here k a c l ≡ o
-          → ((m : Whole.Label) → Early (suc j) m
-          → Walks (walkFault s n place (suc k) c m cs) (serveAll s place (suc k) c (some m) cs) (far + distance s a c + distanceFrom s c cs) (time s (lastOf c cs) 0)
-          (walkF t (Option·map flBreak (s .head .rest)) n place (suc k) (fl (far + distance s a c)) c (flLabel m) cs))
-          → Walks (walkFault s n place k a l (c ∷ cs)) (serveAll s place k a (some l) (c ∷ cs)) (far + distanceFrom s a (c ∷ cs)) (time s (lastOf a (c ∷ cs)) 0)
-          (walkF t (Option·map flBreak (s .head .rest)) n place k (fl far) a (flLabel l) (c ∷ cs))
-      go none e ih =
-          stops (callFault s n here k a c l) (rw (e, walkFault))
-          (rw (served ∙ ap (Option·map flLabel) e, walkF) (ap Stopped (rw (break-at-exact s place k) (call-fault-exact j few here H n k a c p (i .0) l E))))
-      go (some m) e ih =
-          along (rw (e, walkFault)) (rw (e, serveAll)) (add-assoc far (distance s a c) (distanceFrom s c cs))
-          (rw (served ∙ ap (Option·map flLabel) e, walkF, distance-exact s S t I a c p (i .0), fl-add far (distance s a c) (omega arith) (omega arith)))
-          (ih m (serve-early j few (customer s c) (customer-small s S c) here H k (time s a c) (time-small s S a c) l E m e))
+      (rw (walkF, leg-exact s S t I a 0 p (depot-inside s S) ∙ ap (Option·map flLeg) b, fl-sum far (w .length) (omega arith))
+      (ap Home (same (home-exact j (omega arith) (far + w .length) (w .travel) (m .1) l E)) ∙ ap (λ (n : ℕ). Home (flTotals (ended (far + n) (w .travel) l))) e))
+  walk-exact n place j k far a l (c ∷ cs) d r w b h p i E f =
+      let (g, way, e, rest, sum) = distance-on s a c cs d r in
+      subst
+      (λ (n' : ℕ). Walks (walkFault s n place k a l (c ∷ cs)) (serveAll s place k a (some l) (c ∷ cs)) (far + n') (w .travel)
+      (walkF t (Option·map flBreak (s .head .rest)) n place k (fl far) a (flLabel l) (c ∷ cs)))
+      sum
+      (turn n place j k far a c l cs (omega arith) p (i .0) E g way (omega arith) e (w .travel)
+      (λ m M. walk-exact n place (suc j) (suc k) (far + g .length) c m cs e rest w b (omega arith) (i .0) (i .1) M (omega arith)))

@@ -4,7 +4,7 @@ use mathlib.Core.List.{List, [], _∷_}
 use lib.Ieee.{Float}
 use Rattle.whole.specs.Whole.{fl}
 use Rattle.marker.specs.declared.verdict.Verdict.{Verdict}
-use Rattle.marker.specs.declared.verdict.Verdict.the-variants.{OtherCalls, Overload, BreakTooLate, WindowMissed, BreakMissing, TooFar, TooLong, Best, Dearer, Cheaper, WheelchairOverload}
+use Rattle.marker.specs.declared.verdict.Verdict.the-variants.{OtherCalls, Overload, BreakTooLate, WindowMissed, BreakMissing, TooFar, TooLong, Best, Dearer, Cheaper, WheelchairOverload, RoadClosed}
 
 abbrev pub numberIn : Verdict → ℕ
 numberIn (OtherCalls position) = 1
@@ -18,6 +18,7 @@ numberIn Best = 8
 numberIn (Dearer by) = 9
 numberIn (Cheaper by) = 10
 numberIn (WheelchairOverload run load capacity) = 11
+numberIn (RoadClosed run leg) = 12
 
 abbrev pub valuesIn : Verdict → List Float
 valuesIn (OtherCalls position) = fl position ∷ []
@@ -31,3 +32,4 @@ valuesIn Best = []
 valuesIn (Dearer by) = by ∷ []
 valuesIn (Cheaper by) = by ∷ []
 valuesIn (WheelchairOverload run load capacity) = fl run ∷ fl load ∷ fl capacity ∷ []
+valuesIn (RoadClosed run leg) = fl run ∷ fl leg ∷ []

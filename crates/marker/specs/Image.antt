@@ -4,12 +4,12 @@ use mathlib.Core.Path.{_≡_}
 use mathlib.Core.Option.{Option, none, some}
 use Rattle.definitions.specs.Sheet.{Sheet}
 use Rattle.definitions.specs.Marker as Whole
-use Rattle.definitions.specs.Marker.{otherCalls, overload, breakTooLate, windowMissed, breakMissing, tooFar, tooLong, best, dearer, cheaper, wheelchairOverload}
+use Rattle.definitions.specs.Marker.{otherCalls, overload, breakTooLate, windowMissed, breakMissing, tooFar, tooLong, best, dearer, cheaper, wheelchairOverload, roadClosed}
 use Rattle.whole.specs.Whole.{fl}
 use Rattle.evaluation.specs.Image.{flLimits}
 use Rattle.evaluation.specs.Image as Tables
 use Rattle.marker.specs.declared.verdict.Verdict.{Verdict}
-use Rattle.marker.specs.declared.verdict.Verdict.the-variants.{OtherCalls, Overload, BreakTooLate, WindowMissed, BreakMissing, TooFar, TooLong, Best, Dearer, Cheaper, WheelchairOverload}
+use Rattle.marker.specs.declared.verdict.Verdict.the-variants.{OtherCalls, Overload, BreakTooLate, WindowMissed, BreakMissing, TooFar, TooLong, Best, Dearer, Cheaper, WheelchairOverload, RoadClosed}
 use Rattle.marker.specs.declared.run.Marked.{Marked}
 use Rattle.marker.specs.declared.run.Marked.the-variants.{Faulty, Costs}
 use Rattle.marker.specs.RunMark.{Ground}
@@ -26,6 +26,7 @@ flVerdict best = Best
 flVerdict (dearer by) = Dearer (fl by)
 flVerdict (cheaper by) = Cheaper (fl by)
 flVerdict (wheelchairOverload run load capacity) = WheelchairOverload run load capacity
+flVerdict (roadClosed run leg) = RoadClosed run leg
 
 -- a fault, or the cost where there is none
 abbrev pub flMarked : Option Whole.Verdict → ℕ → Marked

@@ -18,9 +18,10 @@ use Rattle.clock.specs.declared.schedule.Scheduled.{Scheduled}
 use Rattle.clock.specs.Serving.{startLabel}
 use Rattle.clock.specs.Clock.{excusedF}
 use Rattle.evaluation.specs.Records.{Tables, LimitsF, lent, limitsOf}
-use Rattle.evaluation.specs.Tables.{demandF}
+use Rattle.evaluation.specs.Tables.{demandF, legF}
+use Rattle.evaluation.specs.Way.{closedF}
 use Rattle.marker.specs.declared.verdict.Verdict.{Verdict}
-use Rattle.marker.specs.declared.verdict.Verdict.the-variants.{Overload, BreakMissing, TooFar, TooLong, WheelchairOverload}
+use Rattle.marker.specs.declared.verdict.Verdict.the-variants.{Overload, BreakMissing, TooFar, TooLong, WheelchairOverload, RoadClosed}
 use Rattle.marker.specs.declared.walk.Walked.{Walked}
 use Rattle.marker.specs.declared.walk.Walked.the-variants.{Stopped, Home}
 use Rattle.marker.specs.declared.run.Marked.{Marked}
@@ -80,5 +81,10 @@ loadMarkF G n calls place load =
     (walkMarkF (G .limits) (G .fixed) n place (length calls) (walkF (G .tables) (G .limits .rest) n place 1 (fl 0) 0 startLabel calls))
     (Faulty (overloadF n load (G .capacity)))
 
+-- the same where the first closed leg of the run is given: it comes before all others
+abbrev pub legsMarkF : Ground → ℕ → List ℕ → ℕ → Option ℕ → Marked
+legsMarkF G n calls place (some leg) = Faulty (RoadClosed n leg)
+legsMarkF G n calls place none = loadMarkF G n calls place (loadBy (demandF (G .tables .customers)) calls)
+
 unfoldable pub runMarkF : Ground → ℕ → List ℕ → ℕ → Marked
-runMarkF G n calls place = loadMarkF G n calls place (loadBy (demandF (G .tables .customers)) calls)
+runMarkF G n calls place = legsMarkF G n calls place (closedF (legF (G .tables)) 1 0 calls)

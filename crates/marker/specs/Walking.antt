@@ -14,9 +14,9 @@ use Rattle.clock.specs.declared.schedule.Label.{Label}
 use Rattle.clock.specs.Serving.{breakStartF, readyF, serveF}
 use Rattle.clock.specs.Clock.{homeF}
 use Rattle.evaluation.specs.Records.{Tables}
-use Rattle.evaluation.specs.Tables.{recordF, distanceF, timeF}
+use Rattle.evaluation.specs.Tables.{recordF, legF}
 use Rattle.marker.specs.declared.verdict.Verdict.{Verdict}
-use Rattle.marker.specs.declared.verdict.Verdict.the-variants.{BreakTooLate, WindowMissed}
+use Rattle.marker.specs.declared.verdict.Verdict.the-variants.{BreakTooLate, WindowMissed, RoadClosed}
 use Rattle.marker.specs.declared.walk.Walked.{Walked}
 use Rattle.marker.specs.declared.walk.Walked.the-variants.{Stopped, Home}
 
@@ -35,11 +35,18 @@ callFaultF n k c customer here arrival =
       | some readiness ↦ WindowMissed n k c readiness (dueF (customer .window))
     ]
 
--- the calls of run n from number k on, served from place a with the label l, `far` behind it, and the way home
+-- the calls of run n from number k on, served from place a with the label l, `far` behind it, and the way home; a closed leg stops the walk
 unfoldable pub walkF : Tables → Option (BreakOf Float) → (n place k : ℕ) → Float → ℕ → Label → List ℕ → Walked
-walkF t rest n place k far a l [] = Home (homeF (Ieee.add binary64 far (distanceF t a 0)) (timeF t a 0) l)
+walkF t rest n place k far a l [] =
+    elim (legF t a 0) [
+      | none ↦ Stopped (RoadClosed n k)
+      | some g ↦ Home (homeF (Ieee.add binary64 far (g .distance)) (g .time) l)
+    ]
 walkF t rest n place k far a l (c ∷ cs) =
-    elim (serveF (recordF t c) (breakAtF rest place k) k (timeF t a c) l) [
-      | none ↦ Stopped (callFaultF n k c (recordF t c) (breakAtF rest place k) (Ieee.add binary64 (l .time) (timeF t a c)))
-      | some m ↦ walkF t rest n place (suc k) (Ieee.add binary64 far (distanceF t a c)) c m cs
+    elim (legF t a c) [
+      | none ↦ Stopped (RoadClosed n k)
+      | some g ↦ elim (serveF (recordF t c) (breakAtF rest place k) k (g .time) l) [
+        | none ↦ Stopped (callFaultF n k c (recordF t c) (breakAtF rest place k) (Ieee.add binary64 (l .time) (g .time)))
+        | some m ↦ walkF t rest n place (suc k) (Ieee.add binary64 far (g .distance)) c m cs
+      ]
     ]

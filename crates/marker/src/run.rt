@@ -1,4 +1,4 @@
-// The mark of one run: load, the walk through its calls and its totals are tested in this order.
+// The mark of one run: its legs, its load, the walk through its calls and its totals are tested in this order.
 ghost use mathlib.Core.Path.{_≡_};
 ghost use mathlib.Core.List.{map};
 ghost use Prim.Native.Nat.{_≤_};
@@ -16,6 +16,7 @@ use clock::schedule::Scheduled;
 use clock::schedule::excused;
 use evaluation::load::Demands;
 use evaluation::load::load_of;
+use evaluation::way::first_closed;
 use models::customer::Customer;
 use models::head::Head;
 use models::limits::RouteLimits;
@@ -103,7 +104,8 @@ pub fn overload(run: usize, load: Load, capacity: Space) -> Verdict
     }
 }
 
-// The first fault of run number `run` with its break place, or its cost. The demands are what the customers ask for.
+// The first fault of run number `run` with its break place, or its cost: a leg that is closed, wherever it is in the
+// run, before all others. The demands are what the customers ask for.
 pub fn mark_run(
     run: usize,
     calls: &[usize],
@@ -120,6 +122,10 @@ pub fn mark_run(
         let ground = groundOf customers (now (distances .entry)) (now (times .entry)) head in
         ⌜ r ≡ runMarkF ground run (now (calls .entry)) place ⌝ }
 {
+    let leg = first_closed(calls, distances, times, head.places);
+    if leg > 0 {
+        return Marked::Faulty(Verdict::RoadClosed { run, leg });
+    }
     let load = load_of(calls, demands);
     let capacity = head.capacity;
     if !load.fits(capacity) {

@@ -1,7 +1,7 @@
 // What the marker says of a cutting.
 
 // A fault carries its run, from 1, and the value and limit that clash; a window or break fault also the call's place in
-// the run, from 1, and its customer.
+// the run, from 1, and its customer, and a closed leg its number in the run alone: leg 1 leaves the depot.
 pub enum Verdict {
     // The joined calls differ from the planner's served customers, first at this position, from 1.
     OtherCalls {
@@ -53,5 +53,10 @@ pub enum Verdict {
         run: usize,
         load: u64,
         capacity: u32,
+    },
+    // The first leg of the run without a road.
+    RoadClosed {
+        run: usize,
+        leg: usize,
     },
 }

@@ -1,5 +1,7 @@
 // The walk through the calls of a run with its break place: the first fault at a call, or the way home.
 ghost use mathlib.Core.Path.{_≡_};
+ghost use Prim.Native.Nat.{_<_};
+ghost use lib.ListN.{length};
 ghost use Rattle.whole.specs.Whole.{fl};
 ghost use Rattle.models.specs.Records.{customerOf, breakOf, restOf};
 ghost use Rattle.clock.specs.Serving.{startLabel};
@@ -13,6 +15,7 @@ use clock::schedule::Scheduled;
 use clock::schedule::break_start_at;
 use clock::schedule::ready_at;
 use clock::schedule::serve;
+use distance::leg::Drive;
 use distance::leg::leg_between;
 use evaluation::schedule::record_index;
 use models::customer::Customer;
@@ -20,7 +23,7 @@ use models::customer::due_or_zero;
 use models::vehicle::Rest;
 use models::vehicle::VehicleBreak;
 
-// Stopped by a fault at a call, or home with the run's totals.
+// Stopped by a fault at a call or by a closed leg, or home with the run's totals.
 pub enum Walked {
     Stopped(Verdict),
     Home(Scheduled),
@@ -82,7 +85,8 @@ pub fn call_fault(
     }
 }
 
-// The calls of run number `run` served in order from the depot, the break at its place alone, and the way home.
+// The calls of run number `run` served in order from the depot, the break at its place alone, and the way home. A leg
+// that is closed stops the walk.
 pub fn walk(
     run: usize,
     calls: &[usize],
@@ -93,6 +97,7 @@ pub fn walk(
     size: usize,
     rest: Rest,
 ) -> Walked
+    requires { ⌜ length (now calls) < 0xFFFF_FFFF_FFFF_FFFF ⌝ }
     ensures { λ r.
         let tables = lent customers (now (distances .entry)) (now (times .entry)) size in
         ⌜ r ≡ walkF tables (restOf rest) run place 1 (fl 0) 0 startLabel (now (calls .entry)) ⌝ }
@@ -103,12 +108,14 @@ pub fn walk(
     let mut i = 0;
     while i < calls.len() {
         let cid = calls[i];
-        let leg = leg_between(distances, times, size, prev, cid);
+        i += 1;
+        let Drive::Open(leg) = leg_between(distances, times, size, prev, cid) else {
+            return Walked::Stopped(Verdict::RoadClosed { run, leg: i });
+        };
         distance = distance + leg.distance;
         let travel = leg.time;
         let index = record_index(cid);
         let customer = customers[index];
-        i += 1;
         let here = break_at(rest, place, i);
         let Reached::At(l) = serve(label, travel, customer, i, here) else {
             return Walked::Stopped(call_fault(run, i, cid, customer, here, label.time + travel));
@@ -116,6 +123,8 @@ pub fn walk(
         label = l;
         prev = cid;
     }
-    let back = leg_between(distances, times, size, prev, 0);
+    let Drive::Open(back) = leg_between(distances, times, size, prev, 0) else {
+        return Walked::Stopped(Verdict::RoadClosed { run, leg: i + 1 });
+    };
     Walked::Home(label.home(distance + back.distance, back.time))
 }

@@ -1,6 +1,6 @@
 // What the numbers of a sheet may be.
 ghost use mathlib.Core.Path.{_≡_};
-ghost use Rattle.definitions.specs.Domain.{isPlaces, isCapacity, isDemand, isPenalty, isNumber, isCall};
+ghost use Rattle.definitions.specs.Domain.{isPlaces, isCapacity, isDemand, isPenalty, isNumber, isClosed, isLeg, isCall};
 
 pub const MOST_NUMBER: u32 = 10_000_000;
 
@@ -40,6 +40,23 @@ pub fn is_number(n: u32) -> bool
     ensures { λ r. ⌜ r ≡ isNumber n ⌝ }
 {
     n <= MOST_NUMBER
+}
+
+// What a leg table holds for a leg without a road.
+pub const NO_ROAD: u32 = 0xFFF_FFFF;
+
+// A leg without a road is closed.
+pub fn is_closed(n: u32) -> bool
+    ensures { λ r. ⌜ r ≡ isClosed n ⌝ }
+{
+    n == NO_ROAD
+}
+
+// Of a leg table.
+pub fn is_leg(n: u32) -> bool
+    ensures { λ r. ⌜ r ≡ isLeg n ⌝ }
+{
+    is_number(n) || is_closed(n)
 }
 
 // A call's customer, on a sheet with that many places.

@@ -9,14 +9,13 @@ use Rattle.bounds.proofs.Inside.{sized, few-calls}
 use Rattle.bounds.proofs.CostBoundLaws.{arc-priced, plain-priced, plan-fits}
 use Rattle.definitions.specs.Sheet.{Sheet}
 use Rattle.definitions.specs.Clock.{arc}
-use Rattle.definitions.specs.Drop.{Held, Result, result, cutOf as bestOf, plainArc, split, splitTw}
+use Rattle.definitions.specs.Drop.{Result, plainArc, split, splitTw}
 use Rattle.definitions.specs.Lent.{cutting}
 use Rattle.definitions.specs.Refusals.{refusalOf, Within, WithinCalls}
 use Rattle.definitions.specs.Room.{written}
 use Rattle.definitions.specs.Answers.{Answer, front, unlessRefused, answer}
 use Rattle.definitions.specs.Clauses.{bare, Clauses}
 use Rattle.theorems.proofs.Accepted.{accepted-within}
-use Rattle.theorems.proofs.Agreement.{plain-drops}
 use Rattle.theorems.proofs.Bare.{split-kept}
 use Rattle.theorems.proofs.Sentences.{split-tw-kept}
 use Rattle.whole.specs.Whole.{limit}
@@ -51,9 +50,7 @@ unfolding split
 split-keeps =
     record {
       clauses = split-kept;
-      cost-small = λ s W tour T.
-          let S = sized s W in
-          subst (λ (h : Held). result s tour h (bestOf (plainArc s) tour h) .cost ≤ limit) (plain-drops s tour) (plan-fits (plainArc s) (plain-priced s S) tour (few-calls s tour T) s S .0);
+      cost-small = λ s W tour T. let S = sized s W in plan-fits (plainArc s) (plain-priced s S) tour (few-calls s tour T) s S .0;
     }
 
 pub split-tw-keeps : Keeps splitTw (λ s. s)

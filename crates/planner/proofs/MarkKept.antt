@@ -8,7 +8,7 @@ use lib.Ieee.{Float}
 use Rattle.definitions.specs.Lent.{marking}
 use Rattle.definitions.specs.Refusals.{refusalOf}
 use Rattle.definitions.specs.Marker as Whole
-use Rattle.definitions.specs.Marker.{otherCalls, overload, breakTooLate, windowMissed, breakMissing, tooFar, tooLong, best, dearer, cheaper, wheelchairOverload, verdictNumber}
+use Rattle.definitions.specs.Marker.{otherCalls, overload, breakTooLate, windowMissed, breakMissing, tooFar, tooLong, best, dearer, cheaper, wheelchairOverload, roadClosed, verdictNumber}
 use Rattle.definitions.specs.Answers.{Answer, gives, unlessRefused, answer, markOf}
 use Rattle.theorems.proofs.GivenMarks.{given-says, given-cheaper-only}
 use Rattle.theorems.proofs.OneMark.{says-mark}
@@ -35,6 +35,7 @@ is-cheaper best e = absurd (omega arith)
 is-cheaper (dearer by) e = absurd (omega arith)
 is-cheaper (cheaper by) e = (by, refl)
 is-cheaper (wheelchairOverload run load capacity) e = absurd (omega arith)
+is-cheaper (roadClosed run leg) e = absurd (omega arith)
 
 module _ (q : LentSheet) (tour calls ends breaks : List ℕ) where
   abbrev answered : Answer Whole.Verdict

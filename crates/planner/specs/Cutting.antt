@@ -12,7 +12,7 @@ use Rattle.definitions.specs.Room.{written}
 use Rattle.definitions.specs.Answers.{Answer, front, answer}
 use Rattle.definitions.specs.Clauses.{Legal, Sum, Least, Tied, Drops, Served, Partition, bare}
 use Rattle.whole.specs.Value.{value}
-use Rattle.split.specs.declared.split.SplitResult.{SplitResult}
+use Rattle.split_tw.specs.declared.answer.SplitResult.{SplitResult}
 use Rattle.call_cuts.specs.declared.cutting.Cut.{Cut}
 use Rattle.call_cuts.specs.declared.cutting.Cut.the-variants as Cases
 use Rattle.call_cuts.specs.Cutting.{cutLent, cutIn}
@@ -90,7 +90,7 @@ module _ (cut : Sheet → List ℕ → Result) (looksAt : Sheet → Sheet) (q : 
     -- each position of the tour is held or dropped, and none is both
     pub partition : IfCut r (λ c. Partition tour held (counted c new .dropped))
 
--- by capacity alone: windows, limits and break are not looked at
+-- by loads and closed legs alone: windows, limits and break are not looked at
 abbrev pub SplitContract : LentSheet → List ℕ → CutOutput → Cut → CutOutput → Type 0
 SplitContract q tour old r new = CutContract split bare q tour old r new
 

@@ -8,8 +8,8 @@ use lending::gathered;
 use models::customer::Customer;
 use models::head::Head;
 
-// A tour cut at least cost by capacity alone: the served customers, the run ends and the dropped positions are written
-// at the front of the lent lists.
+// A tour cut at least cost by loads and closed legs alone: the served customers, the run ends and the dropped
+// positions are written at the front of the lent lists.
 pub fn split(
     head: Head,
     customers: &[Customer],
@@ -41,8 +41,8 @@ pub fn split(
     )
 }
 
-// A tour cut at least cost by capacity, windows, limits and break: the served customers, the run ends and the dropped
-// positions are written at the front of the lent lists.
+// A tour cut at least cost by all that a run is held to: the served customers, the run ends and the dropped positions
+// are written at the front of the lent lists.
 pub fn split_tw(
     head: Head,
     customers: &[Customer],

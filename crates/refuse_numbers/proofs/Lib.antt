@@ -8,3 +8,7 @@ mod Searching
 pub mod Rows
 -- Pairs that fall, on floats and on whole numbers.
 pub mod Falling
+-- The numbers of a leg table.
+pub mod Legs
+-- Closed legs.
+pub mod ClosedLegs

@@ -4,20 +4,20 @@ ghost use mathlib.Core.Path.{_≡_};
 ghost use mathlib.Core.Bool.{_||_};
 ghost use lib.ListN.{take};
 ghost use Rattle.basics.specs.Lists.{any};
-ghost use Rattle.definitions.specs.Domain.{isNumber};
+ghost use Rattle.definitions.specs.Domain.{isLeg};
 ghost use Rattle.definitions.specs.Refusals.{unfit};
 ghost use Rattle.whole.specs.Value.{value};
 ghost use Rattle.refuse_numbers.specs.Rows.{rowsFind};
-use crate::numbers::unfit_number;
+use crate::numbers::unfit_leg;
 use models::count::fewer;
 
 // Whether one of the numbers is out of range.
 pub fn bad_numbers(numbers: &[f64]) -> bool
-    ensures { λ r. ⌜ r ≡ any (unfit value isNumber) (now (numbers .entry)) ⌝ }
+    ensures { λ r. ⌜ r ≡ any (unfit value isLeg) (now (numbers .entry)) ⌝ }
 {
     let mut left = numbers;
     while 0 < left.len() {
-        if unfit_number(left[0]) {
+        if unfit_leg(left[0]) {
             return true;
         }
         left = &left[1..];
@@ -29,9 +29,9 @@ pub fn bad_numbers(numbers: &[f64]) -> bool
 // the next row of both. A table that ends has no further rows, and an empty time table has none. What stands behind the
 // k rows is not looked at: a number out of range is found exactly where one stands in the first k rows of either table.
 pub fn bad_rows(distances: &[f64], times: &[f64], size: usize, k: usize) -> bool
-    ensures { λ r. ⌜ r ≡ rowsFind (unfit value isNumber) size k (now (distances .entry)) (now (times .entry)) ⌝ }
+    ensures { λ r. ⌜ r ≡ rowsFind (unfit value isLeg) size k (now (distances .entry)) (now (times .entry)) ⌝ }
     ensures { λ r.
-        let bad = any (unfit value isNumber) in
+        let bad = any (unfit value isLeg) in
         ⌜ r ≡ bad (take (k * size) (now (distances .entry))) || bad (take (k * size) (now (times .entry))) ⌝ }
 {
     let mut d = distances;
@@ -52,7 +52,7 @@ pub fn bad_rows(distances: &[f64], times: &[f64], size: usize, k: usize) -> bool
 
 // All rows of tables with `size` rows.
 pub fn bad_tables(distances: &[f64], times: &[f64], size: usize) -> bool
-    ensures { λ r. ⌜ r ≡ rowsFind (unfit value isNumber) size size (now (distances .entry)) (now (times .entry)) ⌝ }
+    ensures { λ r. ⌜ r ≡ rowsFind (unfit value isLeg) size size (now (distances .entry)) (now (times .entry)) ⌝ }
 {
     bad_rows(distances, times, size, size)
 }

@@ -11,14 +11,14 @@ use borrow.Author.Tests.{ltb-false}
 use Rattle.basics.proofs.TestLaws.{by-test, or-left, not-false}
 use Rattle.basics.specs.Tests.{either}
 use Rattle.basics.specs.Options.{present, valueOr}
-use Rattle.basics.specs.Lists.{All}
-use Rattle.definitions.specs.Domain.{isPlaces, isNumber}
+use Rattle.basics.specs.Lists.{any, All}
+use Rattle.definitions.specs.Domain.{isPlaces, isLeg}
 use Rattle.definitions.specs.Sheet.{SheetOf, records, own, mapSheet, anySoft}
 use Rattle.definitions.specs.Lent.{Lent, whole, wholeSheet, Call}
 use Rattle.definitions.specs.Refusal.{Refusal, refusal, firstFit}
-use Rattle.definitions.specs.Refusals.{tooShort, tablesOdd, unfit, badSheet, outOfRange, repeats, pairsFall, refusals, refusalOf}
+use Rattle.definitions.specs.Refusals.{tooShort, tablesOdd, unfit, badSheet, outOfRange, repeats, pairsFall, closuresDiffer, anyClosed, refusals, refusalOf}
 use Rattle.theorems.proofs.InOrder.{testOf, none-fits, zero-none, Agree, agree, _also_}
-use Rattle.theorems.proofs.Ranges.{LentInRange, lent-in-range, in-range}
+use Rattle.theorems.proofs.Ranges.{InRange, LentInRange, lent-in-range, in-range}
 use Rattle.models.specs.declared.customer.Customer.{Customer}
 use Rattle.models.specs.Records.{customerOf, restOf}
 use Rattle.models.specs.Image.{flSheet}
@@ -27,11 +27,14 @@ use Rattle.models.specs.declared.head.Head.{Head}
 use Rattle.refuse_lists.specs.declared.kind.Kind.{Kind}
 use Rattle.refuse_order.specs.Lent.{sheetOf, lentOf, Gathered}
 use Rattle.refuse_numbers.specs.Falling.{pairsFallF}
+use Rattle.distance.specs.Lookup.{isClosedF}
+use Rattle.refuse_numbers.specs.ClosedLegs.{disagreeF}
 use Rattle.refuse_lists.specs.Needs.{resultsShort, tooShortOf, runsOddOf}
 use Rattle.refuse_lists.specs.Called.{noneCalled, calledTwice}
 use Rattle.refuse_order.specs.Order.{callOf, badHead, byRows, Refuses, Images}
 use Rattle.refuse_numbers.proofs.Rows.{all-rows}
 use Rattle.refuse_numbers.proofs.Falling.{pairs-exact}
+use Rattle.refuse_numbers.proofs.ClosedLegs.{any-exact, disagree-exact}
 use Rattle.refuse_order.proofs.Ranging.{places-high}
 use Rattle.refuse_order.proofs.Repeating.{repeats-noted}
 use Rattle.refuse_order.proofs.Image.{Fit, FitCustomer, FitSheet, sheet-image}
@@ -42,7 +45,7 @@ use Rattle.refuse_order.proofs.Fitting.{FitHead}
 -- where the tables are places squared long, to look at them row by row is to look at both
 pub by-rows : (l : Lent Float) → tablesOdd (l .sheet) ≡ false → byRows l ≡ outOfRange value l
 unfolding byRows badHead outOfRange badSheet
-by-rows l even = rw (all-rows (l .sheet) even (unfit value isNumber)) (simp or-assoc)
+by-rows l even = rw (all-rows (l .sheet) even (unfit value isLeg)) (simp or-assoc)
 
 -- ---- the array in place of the customers lent
 
@@ -103,11 +106,17 @@ twiceOn g = calledTwice noneCalled (g .tour)
 abbrev pairsOn : Given → Bool
 pairsOn g = pairsFallF (sheetOf (g .head) (g .array) [] [])
 
+abbrev closuresOn : Given → Bool
+closuresOn g = disagreeF (g .distances) (g .times)
+
 abbrev runsOn : Given → Bool
 runsOn g = runsOddOf (g .kind) (present (restOf (g .head .limits .rest))) (length (g .calls)) (g .ends) (g .breaks)
 
 abbrev payOn : Given → Bool
 payOn g = g .kind .improves && anySoft (take (g .head .places) (map customerOf (g .array)))
+
+abbrev closedOn : Given → Bool
+closedOn g = g .kind .improves && any isClosedF (g .distances)
 
 -- ---- each is the definitions' own where the ones before it fail
 
@@ -153,6 +162,17 @@ module _ (g : Given) (customers : List Customer) (G : Gathered customers (g .cou
         unfolding pairsFall pairsFallF
         pairs = rw first-same (sym (pairs-exact (sheetOn g (g .array)) (R .sheet)))
 
+        in-tables : InRange value (sheetOn g (g .array))
+        in-tables = in-range value (sheetOn g (g .array)) (R .sheet)
+
+        closures : closuresDiffer value (sheetOn g customers .legs) ≡ closuresOn g
+        unfolding closuresDiffer
+        closures = sym (disagree-exact (g .distances) (g .times) (in-tables .distances) (in-tables .times))
+
+        closed : g .kind .improves && anyClosed value (sheetOn g customers .legs) ≡ closedOn g
+        unfolding anyClosed
+        closed = ap (λ (b : Bool). g .kind .improves && b) (sym (any-exact (g .distances) (in-tables .distances)))
+
         pay : g .kind .improves && anySoft (records (sheetOn g customers)) ≡ payOn g
         pay = rw first-same
 
@@ -166,8 +186,10 @@ testsOn g =
     ∷ refusal 1 (rangeOn g)
     ∷ refusal 21 (twiceOn g)
     ∷ refusal 2 (pairsOn g)
+    ∷ refusal 22 (closuresOn g)
     ∷ refusal 5 (runsOn g)
     ∷ refusal 4 (payOn g)
+    ∷ refusal 23 (closedOn g)
     ∷ []
 
 -- they are the definitions' own, each where those before it fail
@@ -179,8 +201,10 @@ tests-agree g customers G =
     also (refl, λ m. sym (range g customers G (m 13) (m 14)))
     also (refl, λ m. sym (twice g customers G (m 13) (m 14) (m 1)))
     also (refl, λ m. sym (pairs g customers G (m 13) (m 14) (m 1)))
+    also (refl, λ m. sym (closures g customers G (m 13) (m 14) (m 1)))
     also (refl, λ m. refl)
     also (refl, λ m. sym (pay g customers G (m 13) (m 14) (m 1)))
+    also (refl, λ m. sym (closed g customers G (m 13) (m 14) (m 1)))
     also tt
 
 module _ (g : Given) (n : ℕ) (told : n ≡ valueOr 0 (firstFit (testsOn g))) where

@@ -1,18 +1,18 @@
 -- A sheet in range whose floats are those of the format holds the whole numbers that it means: each float is the image of its number. Assumes nothing.
 use Prim.Native.Nat.{ℕ, _≤_}
 use native.Mathlib.Omega.{arith}
-use mathlib.Core.Path.{_≡_, refl}
-use mathlib.Core.Bool.{Bool, false}
+use mathlib.Core.Path.{_≡_, refl, subst}
+use mathlib.Core.Bool.{Bool, true, false, _||_}
 use mathlib.Core.List.{List, [], _∷_, map}
 use mathlib.Core.Option.{Option, none, some, Option·map}
 use lib.Dec.{T, leb}
 use lib.Ieee as Ieee
 use lib.Ieee.{Float, binary64}
-use borrow.Author.Tests.{leb-true}
-use Rattle.basics.proofs.TestLaws.{or-left, or-right}
+use borrow.Author.Tests.{leb-true, eqb-true}
+use Rattle.basics.proofs.TestLaws.{by-test, or-left, or-right}
 use Rattle.basics.specs.Options.{Holds}
 use Rattle.basics.specs.Lists.{any, All}
-use Rattle.definitions.specs.Domain.{isNumber}
+use Rattle.definitions.specs.Domain.{noRoad, isNumber, isClosed, isLeg}
 use Rattle.definitions.specs.Sheet.{WindowOf, BreakOf, CustomerOf, SheetOf, records, own, mapWindow, mapBreak, mapCustomer}
 use Rattle.definitions.specs.Lent.{Lent, whole, wholeSheet, Call}
 use Rattle.definitions.specs.Refusals.{unfit, badOptional, badBreak, badWindow, badCustomer, badSheet, refusals, refusalOf}
@@ -102,8 +102,15 @@ module _ {A B : Type 0} (P : A → Type 0) (bad : A → Bool) (to : A → B) (ba
   exact-list [] f h = refl
   exact-list (x ∷ l) f h = λ i. each x (f .0) (or-left (bad x) (any bad l) h) i ∷ exact-list l (f .1) (or-right (bad x) (any bad l) h) i
 
-numbers : (l : List Float) → All Fit l → any (unfit value isNumber) l ≡ false → l ≡ map fl (map (whole value) l)
-numbers = exact-list Fit (unfit value isNumber) (whole value) fl number
+-- a number of a leg table, a closed leg's too
+leg : (x : Float) → Fit x → unfit value isLeg x ≡ false → x ≡ fl (whole value x)
+leg x f h =
+    let e = held value isLeg x h in
+    by-test (isNumber (whole value x)) (λ t. let m = leb-true (whole value x) 10000000 t in fl-value x (whole value x) f (e .0) (omega arith))
+    (λ n. let m = eqb-true (whole value x) noRoad (subst (λ (b : Bool). b || isClosed (whole value x) ≡ true) n (e .1)) in fl-value x (whole value x) f (e .0) (omega arith))
+
+legs : (l : List Float) → All Fit l → any (unfit value isLeg) l ≡ false → l ≡ map fl (map (whole value) l)
+legs = exact-list Fit (unfit value isLeg) (whole value) fl leg
 
 -- a sheet in range is the image of the sheet that it means, of which it is lent the first records
 pub sheet-image : (s : SheetOf Float) → FitSheet s → badSheet value s ≡ false → own s ≡ flSheet (wholeSheet value s)
@@ -124,7 +131,7 @@ sheet-image s f h =
       customers =
           exact-list FitCustomer (badCustomer value) (mapCustomer (whole value)) flCustomer exact-customer
           (records s) (f .customers) (R .customers) i;
-      legs = record { distances = numbers (s .legs .distances) (f .distances) (R .distances) i; times = numbers (s .legs .times) (f .times) (R .times) i };
+      legs = record { distances = legs (s .legs .distances) (f .distances) (R .distances) i; times = legs (s .legs .times) (f .times) (R .times) i };
     }
 
 -- and so is what an accepted call is lent

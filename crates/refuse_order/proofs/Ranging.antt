@@ -12,7 +12,7 @@ use borrow.Author.Tests.{leb-true}
 use Rattle.basics.proofs.TestLaws.{and-left, and-right, or-left, not-false}
 use Rattle.basics.specs.Tests.{either}
 use Rattle.basics.specs.Lists.{any}
-use Rattle.definitions.specs.Domain.{isPlaces, isCapacity, isNumber}
+use Rattle.definitions.specs.Domain.{isPlaces, isCapacity, isNumber, isLeg}
 use Rattle.definitions.specs.Load.{eachOf}
 use Rattle.definitions.specs.Sheet.{SheetOf}
 use Rattle.definitions.specs.Refusals.{unfit, badOptional, badBreak, badCustomer, badDepot, badTour, badRunList}
@@ -74,7 +74,7 @@ module _ (g : Seen) where
   rangeOf = byRows (lentOf (sheetOf (g .head) (g .array) (g .distances) (g .times)) (g .tour) (g .calls) [] [] [])
 
   abbrev rowsBad : Bool
-  rowsBad = rowsFind (unfit value isNumber) places places (g .distances) (g .times)
+  rowsBad = rowsFind (unfit value isLeg) places places (g .distances) (g .times)
 
   -- the head is the same with and without customers and tables
   same-head : badHead (sheetOf (g .head) (g .array) (g .distances) (g .times)) ≡ badHead headAlone

@@ -7,7 +7,7 @@ use lib.Ieee.{Float}
 use Rattle.basics.specs.Tests.{either}
 use Rattle.basics.specs.Options.{valueOr}
 use Rattle.basics.specs.Lists.{any}
-use Rattle.definitions.specs.Domain.{isPlaces, isCapacity, isNumber}
+use Rattle.definitions.specs.Domain.{isPlaces, isCapacity, isNumber, isLeg}
 use Rattle.definitions.specs.Load.{eachOf}
 use Rattle.definitions.specs.Sheet.{SheetOf, records, own}
 use Rattle.definitions.specs.Lent.{Lent, wholeSheet, Call, call}
@@ -44,7 +44,7 @@ byRows l =
     (badHead s
     ∷ badDepot value (records s)
     ∷ any (badCustomer value) (records s)
-    ∷ rowsFind (unfit value isNumber) (s .head .places) (s .head .places) (s .legs .distances) (s .legs .times)
+    ∷ rowsFind (unfit value isLeg) (s .head .places) (s .head .places) (s .legs .distances) (s .legs .times)
     ∷ badTour (s .head .places) (l .tour)
     ∷ badRunList (s .head .places) (l .calls)
     ∷ [])

@@ -1,8 +1,9 @@
-// Refusals 14, 1, 2, 5 and 4 of a sheet, with the first customers lent in an array.
+// Refusals 14, 1, 2, 5, 4 and 23 of a sheet, with the first customers lent in an array.
 ghost use mathlib.Core.Path.{_≡_};
 ghost use mathlib.Core.Bool.{_&&_};
 ghost use mathlib.Core.List.{[], map};
 ghost use lib.ListN.{length, take};
+ghost use Rattle.basics.specs.Lists.{any};
 ghost use Rattle.basics.specs.Options.{present};
 ghost use Rattle.definitions.specs.Sheet.{anySoft};
 ghost use Rattle.definitions.specs.Refusals.{tablesOdd};
@@ -10,6 +11,7 @@ ghost use Rattle.models.specs.Records.{customerOf, restOf};
 ghost use Rattle.refuse_lists.specs.Needs.{runsOddOf};
 ghost use Rattle.refuse_order.specs.Lent.{sheetOf, lentOf};
 ghost use Rattle.refuse_order.specs.Order.{badHead, byRows};
+ghost use Rattle.distance.specs.Lookup.{isClosedF};
 ghost use Rattle.refuse_numbers.specs.Falling.{pairsFallF};
 use models::customer::Customer;
 use models::domain::is_places;
@@ -20,6 +22,7 @@ use refuse_lists::lengths::is_square;
 use refuse_lists::runs::runs_odd;
 use refuse_numbers::calls::bad_run_list;
 use refuse_numbers::calls::bad_tour;
+use refuse_numbers::closures::any_closed;
 use refuse_numbers::customers::Test;
 use refuse_numbers::customers::any_applies;
 use refuse_numbers::numbers::unfit_number;
@@ -109,4 +112,11 @@ pub fn lateness_pay(improves: bool, customers: [Customer; 64], places: usize) ->
     ensures { λ r. ⌜ r ≡ improves && anySoft (take places (map customerOf customers)) ⌝ }
 {
     improves && any_applies(Test::Soft, customers, places)
+}
+
+// Closed legs, given to an improver.
+pub fn closed_legs(improves: bool, distances: &[f64]) -> bool
+    ensures { λ r. ⌜ r ≡ improves && any isClosedF (now (distances .entry)) ⌝ }
+{
+    improves && any_closed(distances)
 }

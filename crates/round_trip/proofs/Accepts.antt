@@ -4,7 +4,7 @@ use native.Mathlib.Omega.{arith}
 use native.Mathlib.Nat.{mul-le-mul}
 use mathlib.Core.Path.{_≡_, refl, sym, ap, subst, _∙_}
 use mathlib.Core.Bool.{Bool, true, false, cond, not}
-use mathlib.Core.List.{List, [], _∷_, _++_, append-assoc, cons≢nil, tail}
+use mathlib.Core.List.{List, [], _∷_, _++_, append-nil, append-assoc, cons≢nil, tail}
 use mathlib.Core.Option.{Option, none, some}
 use mathlib.Core.Logic.{inl, inr}
 use lib.ListN.{length, drop, length-append}
@@ -13,23 +13,29 @@ use borrow.Author.Tests.{leb-true, eq-eqb, ne-eqb, lt-ltb, le-ltb}
 use Rattle.basics.proofs.TestLaws.{by-test, both, and-left, or-left, or-right}
 use Rattle.basics.specs.Options.{Holds, IfAny}
 use Rattle.basics.specs.Lists.{All, Passes}
-use Rattle.definitions.specs.Domain.{isDemand, isCapacity, isPenalty, isNumber, isCall}
+use Rattle.definitions.specs.Domain.{isDemand, isCapacity, isPenalty, isNumber, closedApart, isLeg, isCall}
 use Rattle.definitions.specs.Sheet.{Window, Break, Customer, Sheet}
 use Rattle.definitions.specs.Words.{Word, word}
 use Rattle.definitions.specs.Encoding.{optional, isSaid, secondWords, breakWords, windowWords, customerWords}
 use Rattle.definitions.specs.Refusal.{firstFit}
+use Rattle.definitions.specs.Refusals.{disagree}
 use Rattle.definitions.specs.Reader.{State, start, next, onward, behindSecond, mayStand, inRange, pairFalls, among, faults, faultAt, accepted, behind, walk}
 use Rattle.round_trip.proofs.Says.{second, second-is, second-any, callWords, timeWords, tableWords, limitWords, fromCustomers, fromLimits, behindSeats, allWords, others}
 use Rattle.theorems.proofs.Again.{again, again-repeats}
 use Rattle.round_trip.proofs.Good.{GoodWindow, GoodBreak, GoodCustomer, AsMany, GoodSheet, GoodTour}
 
--- the state behind the word of kind k and value v, the r-th of its kind in a row, where the tour has these calls
-abbrev pub behindCalls : List ℕ → ℕ → ℕ → ℕ → ℕ → ℕ → State
-behindCalls cs k v r n d = record { last = word k v; row = r; places = n; coming = d; called = cs }
+-- the state behind the word of kind k and value v, the r-th of its kind in a row, where the tour has the calls cs, and the times of the
+-- distances fs have yet to come
+abbrev pub behindCalls : List ℕ → List ℕ → ℕ → ℕ → ℕ → ℕ → ℕ → State
+behindCalls fs cs k v r n d = record { last = word k v; row = r; places = n; coming = d; called = cs; facing = fs }
 
 -- before the tour
+abbrev pub behindLegs : List ℕ → ℕ → ℕ → ℕ → ℕ → ℕ → State
+behindLegs fs k v r n d = behindCalls fs [] k v r n d
+
+-- and before the tables
 abbrev pub behindWord : ℕ → ℕ → ℕ → ℕ → ℕ → State
-behindWord k v r n d = behindCalls [] k v r n d
+behindWord k v r n d = behindLegs [] k v r n d
 
 -- a good word
 pub record Fine (s : State) (i k v : ℕ) : Type 0 where
@@ -55,57 +61,79 @@ last-step s i v m e = rw (no-fault s i 0xF v (record { stands = m; ranged = refl
 abbrev Accepted : State → ℕ → List Word → Type 0
 Accepted s i ws = walk s i ws false ≡ accepted
 
-tour-ok : (cs : List ℕ) (v r n d i : ℕ) (tour : List ℕ) (f : ℕ) → Passes (isCall n) tour → again cs tour ≡ false → f ≡ i + length tour
-    → Accepted (behindCalls cs 0xE v r n d) i (callWords tour f)
+tour-ok : (fs cs : List ℕ) (v r n d i : ℕ) (tour : List ℕ) (f : ℕ) → Passes (isCall n) tour → again cs tour ≡ false → f ≡ i + length tour
+    → Accepted (behindCalls fs cs 0xE v r n d) i (callWords tour f)
 unfolding mayStand inRange pairFalls
-tour-ok cs v r n d i [] f a h e = last-step (behindCalls cs 0xE v r n d) i f refl (omega arith)
-tour-ok cs v r n d i (c ∷ tour) f a h e =
-    step (behindCalls cs 0xE v r n d) i 0xE c (callWords tour f) false refl
+tour-ok fs cs v r n d i [] f a h e = last-step (behindCalls fs cs 0xE v r n d) i f refl (omega arith)
+tour-ok fs cs v r n d i (c ∷ tour) f a h e =
+    step (behindCalls fs cs 0xE v r n d) i 0xE c (callWords tour f) false refl
     (record { stands = refl; ranged = a .0; others = rw (or-left (among c cs) (again (c ∷ cs) tour) h) refl })
-    ∙ tour-ok (c ∷ cs) c (suc r) n d (suc i) tour f (a .1) (or-right (among c cs) (again (c ∷ cs) tour) h) (omega arith)
+    ∙ tour-ok fs (c ∷ cs) c (suc r) n d (suc i) tour f (a .1) (or-right (among c cs) (again (c ∷ cs) tour) h) (omega arith)
 
 -- from a state that a tour may follow
-tour-from : (k v r n d i : ℕ) (tour : List ℕ) (f : ℕ) → eqb 0xE k ≡ false
-    → among 0xE (mayStand (behindWord k v r n d)) ≡ true → among 0xF (mayStand (behindWord k v r n d)) ≡ true
-    → GoodTour n tour → f ≡ i + length tour → Accepted (behindWord k v r n d) i (callWords tour f)
+tour-from : (fs : List ℕ) (k v r n d i : ℕ) (tour : List ℕ) (f : ℕ) → eqb 0xE k ≡ false
+    → among 0xE (mayStand (behindLegs fs k v r n d)) ≡ true → among 0xF (mayStand (behindLegs fs k v r n d)) ≡ true
+    → GoodTour n tour → f ≡ i + length tour → Accepted (behindLegs fs k v r n d) i (callWords tour f)
 unfolding inRange pairFalls
-tour-from k v r n d i [] f p mE mF C e = last-step (behindWord k v r n d) i f mF (omega arith)
-tour-from k v r n d i (c ∷ tour) f p mE mF C e =
-    step (behindWord k v r n d) i 0xE c (callWords tour f) false refl
+tour-from fs k v r n d i [] f p mE mF C e = last-step (behindLegs fs k v r n d) i f mF (omega arith)
+tour-from fs k v r n d i (c ∷ tour) f p mE mF C e =
+    step (behindLegs fs k v r n d) i 0xE c (callWords tour f) false refl
     (record { stands = mE; ranged = C .each .0; others = refl })
-    ∙ rw p (tour-ok (c ∷ []) c 1 n d (suc i) tour f (C .each .1) (again-repeats (c ∷ tour) ∙ C .once) (omega arith))
+    ∙ rw p (tour-ok fs (c ∷ []) c 1 n d (suc i) tour f (C .each .1) (again-repeats (c ∷ tour) ∙ C .once) (omega arith))
 
 -- ---- the tables
 
-times-ok : (v r n d i : ℕ) (ts tour : List ℕ) (f : ℕ) → Passes isNumber ts → r + length ts ≡ n * n → GoodTour n tour
-    → f ≡ i + length ts + length tour → Accepted (behindWord 0xD v r n d) i (timeWords ts tour f)
+times-ok : (fs : List ℕ) (v r n d i : ℕ) (ts tour : List ℕ) (f : ℕ) → Passes isLeg ts → length fs ≡ length ts → disagree some fs ts ≡ false → r + length ts ≡ n * n
+    → GoodTour n tour → f ≡ i + length ts + length tour → Accepted (behindLegs fs 0xD v r n d) i (timeWords ts tour f)
 unfolding mayStand inRange pairFalls
-times-ok v r n d i [] tour f a h C e =
+times-ok fs v r n d i [] tour f a l w h C e =
     let full : ltb r (n * n) ≡ false = le-ltb r (n * n) (omega arith) in
-    tour-from 0xD v r n d i tour f refl (rw full refl) (rw full refl) C (omega arith)
-times-ok v r n d i (t ∷ ts) tour f a h C e =
-    step (behindWord 0xD v r n d) i 0xD t (timeWords ts tour f) false refl
-    (record { stands = rw (lt-ltb r (n * n) (omega arith)) refl; ranged = a .0; others = refl })
-    ∙ times-ok t (suc r) n d (suc i) ts tour f (a .1) (omega arith) C (omega arith)
+    tour-from fs 0xD v r n d i tour f refl (rw full refl) (rw full refl) C (omega arith)
+times-ok [] v r n d i (t ∷ ts) tour f a l w h C e = absurd (none-faced l)
+  where
+    none-faced : 0 ≡ suc (length ts) → ⊥
+    none-faced z = omega arith
+times-ok (x ∷ fs) v r n d i (t ∷ ts) tour f a l w h C e =
+    step (behindLegs (x ∷ fs) 0xD v r n d) i 0xD t (timeWords ts tour f) false refl
+    (record { stands = rw (lt-ltb r (n * n) (omega arith)) refl; ranged = a .0; others = rw (or-left (closedApart x t) (disagree some fs ts) w) refl })
+    ∙ times-ok fs t (suc r) n d (suc i) ts tour f (a .1) (omega arith) (or-right (closedApart x t) (disagree some fs ts) w) (omega arith) C (omega arith)
 
-distances-ok : (v r n d i : ℕ) (ds ts tour : List ℕ) (f : ℕ) → 0 < n * n → Passes isNumber ds → r + length ds ≡ n * n → Passes isNumber ts → AsMany (n * n) ts
-    → GoodTour n tour → f ≡ i + length ds + length ts + length tour → Accepted (behindWord 0xC v r n d) i (tableWords ds ts tour f)
+-- the first time, behind the distances fs
+times-from : (fs : List ℕ) (v r n d i t : ℕ) (ts tour : List ℕ) (f : ℕ) → r ≡ n * n → Passes isLeg (t ∷ ts) → length fs ≡ suc (length ts) → disagree some fs (t ∷ ts) ≡ false
+    → 1 + length ts ≡ n * n → GoodTour n tour → f ≡ i + suc (length ts) + length tour → Accepted (behindLegs fs 0xC v r n d) i (timeWords (t ∷ ts) tour f)
 unfolding mayStand inRange pairFalls
-distances-ok v r n d i [] [] tour f z a h at m C e =
-    let full : ltb r (n * n) ≡ false = le-ltb r (n * n) (omega arith) in
-    tour-from 0xC v r n d i tour f refl (rw full refl) (rw full refl) C (omega arith)
-distances-ok v r n d i [] (t ∷ ts) tour f z a h at m C e =
-    step (behindWord 0xC v r n d) i 0xD t (timeWords ts tour f) false refl
-    (record { stands = rw (le-ltb r (n * n) (omega arith)) refl; ranged = at .0; others = refl })
-    ∙ times-ok t 1 n d (suc i) ts tour f (at .1) (many m) C (omega arith)
+times-from [] v r n d i t ts tour f z a l w h C e = absurd (none-faced l)
+  where
+    none-faced : 0 ≡ suc (length ts) → ⊥
+    none-faced z = omega arith
+times-from (x ∷ fs) v r n d i t ts tour f z a l w h C e =
+    step (behindLegs (x ∷ fs) 0xC v r n d) i 0xD t (timeWords ts tour f) false refl
+    (record { stands = rw (le-ltb r (n * n) (omega arith)) refl; ranged = a .0; others = rw (or-left (closedApart x t) (disagree some fs ts) w) refl })
+    ∙ times-ok fs t 1 n d (suc i) ts tour f (a .1) (omega arith) (or-right (closedApart x t) (disagree some fs ts) w) h C (omega arith)
+
+-- the distances ds, behind the distances fs
+distances-ok : (fs : List ℕ) (v n d i : ℕ) (ds ts tour : List ℕ) (f : ℕ) → 0 < n * n → Passes isLeg ds → length fs + length ds ≡ n * n → Passes isLeg ts → AsMany (n * n) ts
+    → disagree some (fs ++ ds) ts ≡ false → GoodTour n tour → f ≡ i + length ds + length ts + length tour
+    → Accepted (behindLegs fs 0xC v (length fs) n d) i (tableWords ds ts tour f)
+unfolding mayStand inRange pairFalls
+distances-ok fs v n d i [] [] tour f z a h at m w C e =
+    let full : ltb (length fs) (n * n) ≡ false = le-ltb (length fs) (n * n) (omega arith) in
+    tour-from fs 0xC v (length fs) n d i tour f refl (rw full refl) (rw full refl) C (omega arith)
+distances-ok fs v n d i [] (t ∷ ts) tour f z a h at m w C e =
+    times-from fs v (length fs) n d i t ts tour f (omega arith) at (omega (arith, many m)) (subst (λ (l : List ℕ). disagree some l (t ∷ ts) ≡ false) (append-nil fs) w) (many m) C (omega arith)
   where
     many : AsMany (n * n) (t ∷ ts) → 1 + length ts ≡ n * n
     many (inl x) = absurd (cons≢nil x)
     many (inr x) = omega arith
-distances-ok v r n d i (c ∷ ds) ts tour f z a h at m C e =
-    step (behindWord 0xC v r n d) i 0xC c (tableWords ds ts tour f) false refl
-    (record { stands = rw (lt-ltb r (n * n) (omega arith)) refl; ranged = a .0; others = refl })
-    ∙ distances-ok c (suc r) n d (suc i) ds ts tour f z (a .1) (omega arith) at m C (omega arith)
+distances-ok fs v n d i (c ∷ ds) ts tour f z a h at m w C e =
+    step (behindLegs fs 0xC v (length fs) n d) i 0xC c (tableWords ds ts tour f) false refl
+    (record { stands = rw (lt-ltb (length fs) (n * n) (omega arith)) refl; ranged = a .0; others = refl })
+    ∙ subst (λ (r : ℕ). Accepted (behindLegs (fs ++ (c ∷ [])) 0xC c r n d) (suc i) (tableWords ds ts tour f)) one-more
+    (distances-ok (fs ++ (c ∷ [])) c n d (suc i) ds ts tour f z (a .1) (omega (arith, one-more)) at m
+    (subst (λ (l : List ℕ). disagree some l ts ≡ false) (sym (append-assoc fs (c ∷ []) ds)) w) C (omega arith))
+  where
+    one-more : length (fs ++ (c ∷ [])) ≡ suc (length fs)
+    one-more = simp length-append (omega arith)
 
 -- ---- a second capacity or demand
 
@@ -282,16 +310,16 @@ customers-ok said (c ∷ cs) k v r n i rest l g E on =
 
 -- ---- all but the three first words
 
-tables-ok : (k v r n i : ℕ) (ds ts tour : List ℕ) (f : ℕ) → Ends k r → 0 < n * n → Passes isNumber ds → length ds ≡ n * n → Passes isNumber ts → AsMany (n * n) ts
-    → GoodTour n tour → f ≡ i + length ds + length ts + length tour → Accepted (behindWord k v r n 0) i (tableWords ds ts tour f)
+tables-ok : (k v r n i : ℕ) (ds ts tour : List ℕ) (f : ℕ) → Ends k r → 0 < n * n → Passes isLeg ds → length ds ≡ n * n → Passes isLeg ts → AsMany (n * n) ts
+    → disagree some ds ts ≡ false → GoodTour n tour → f ≡ i + length ds + length ts + length tour → Accepted (behindWord k v r n 0) i (tableWords ds ts tour f)
 unfolding inRange pairFalls
-tables-ok k v r n i [] ts tour f E z a h at m C e = absurd (none-due z h)
+tables-ok k v r n i [] ts tour f E z a h at m w C e = absurd (none-due z h)
   where
     none-due : 0 < n * n → 0 ≡ n * n → ⊥
     none-due x y = omega arith
-tables-ok k v r n i (c ∷ ds) ts tour f E z a h at m C e =
+tables-ok k v r n i (c ∷ ds) ts tour f E z a h at m w C e =
     step (behindWord k v r n 0) i 0xC c (tableWords ds ts tour f) false refl (record { stands = E .on v n 0; ranged = a .0; others = refl })
-    ∙ rw (E .fresh) (distances-ok c 1 n 0 (suc i) ds ts tour f z (a .1) (omega arith) at m C (omega arith))
+    ∙ rw (E .fresh) (distances-ok (c ∷ []) c n 0 (suc i) ds ts tour f z (a .1) (omega arith) at m w C (omega arith))
 
 break-ok : (b : Option Break) (k v n d i : ℕ) (rest : List Word) → Holds GoodBreak b → Ends k 1 → among 6 (mayStand (behindWord k v 1 n d)) ≡ true
     → eqb 6 k ≡ false → eqb k 6 ≡ false → Onward n d (i + length (breakWords b)) rest → Accepted (behindWord k v 1 n d) i (breakWords b ++ rest)
@@ -362,7 +390,7 @@ all-ok said s tour G C =
     from-tables = record {
       from = λ k v r E.
           tables-ok k v r n (customersEnd said s) (s .legs .distances) (s .legs .times) tour f
-          E (mul-le-mul some-place some-place) (G .distances) (G .square) (G .times) (G .as-many) C refl;
+          E (mul-le-mul some-place some-place) (G .distances) (G .square) (G .times) (G .as-many) (G .alike) C refl;
     }
 
     others-counted : length (others s) ≡ pred n

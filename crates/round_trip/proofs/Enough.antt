@@ -93,15 +93,15 @@ record Called (n : ℕ) (cs : List ℕ) : Type 0 where
 one-more : {n : ℕ} {cs : List ℕ} (u : ℕ) → Called n cs → isCall n u ≡ true → among u cs ≡ false → Called n (u ∷ cs)
 one-more {n} {cs} u C h o = record { places = C .places; each = (call-up-to n u (C .places) h, C .each); once = or-false (among u cs) (repeats cs) o (C .once) }
 
-module _ (cs : List ℕ) (v r n d u : ℕ) where
+module _ (fs cs : List ℕ) (v r n d u : ℕ) where
   -- behind a word of kind k, the next of kind j and value u: where it is in range, repeats no call and is not F, it lowers the number
   abbrev Lower : ℕ → ℕ → Type 0
   Lower k j =
-      let s = behindCalls cs k v r n d in
+      let s = behindCalls fs cs k v r n d in
       inRange s (word j u) ≡ true → repeated s (word j u) ≡ false → eqb j 0xF ≡ false → mostFrom (next s (word j u)) < most k r n d (length cs)
 
   abbrev on : ℕ
-  on = onward (behindCalls cs 0 0 r n d)
+  on = onward (behindCalls fs cs 0 0 r n d)
 
   -- the first word says how many places there are
   places-line : ByKind (Lower 16) (1 ∷ [])
@@ -116,7 +116,7 @@ module _ (cs : List ℕ) (v r n d u : ℕ) where
   fewer a b h g o f = omega arith
 
   -- behind a 0, a 2 and a 7
-  second-line : ByKind (Lower 0) (behindSecond (behindCalls cs 0 0 r n d) ∷ [])
+  second-line : ByKind (Lower 0) (behindSecond (behindCalls fs cs 0 0 r n d) ∷ [])
   second-line = by-cond (Lower 0) (eqb (suc d) n) 3 8 (λ t. rw t (fewer 5 6 (omega arith))) (λ t. rw t (fewer 3 4 (omega arith))) or no-other
 
   capacity-line : ByKind (Lower 2) (0 ∷ 3 ∷ [])
@@ -173,7 +173,7 @@ module _ (cs : List ℕ) (v r n d u : ℕ) where
       next-call : Called n (u ∷ cs) → 63 - suc (length cs) < 63 - length cs
       next-call M = omega (arith, up-to-few 63 (u ∷ cs) (M .each) (M .once))
 
-  lines : d < n → Called n cs → ByLine (λ k ks. ByKind (Lower k) ks) (table (behindCalls cs 0 0 r n d))
+  lines : d < n → Called n cs → ByLine (λ k ks. ByKind (Lower k) ks) (table (behindCalls fs cs 0 0 r n d))
   lines z C =
       places-line
       then second-line
@@ -201,7 +201,7 @@ Begun s = (s .last .kind ≡ 16) ⊎ (s .coming < s .places)
 lowers : (s : State) (w : Word) → Begun s → Called (s .places) (s .called) → among (w .kind) (mayStand s) ≡ true → inRange s w ≡ true → repeated s w ≡ false
     → eqb (w .kind) 0xF ≡ false → mostFrom (next s w) < mostFrom s
 unfolding mayStand
-lowers s w b C m g o f = by-kind (Lower cs v r n d u k) (mayStand s) (w .kind) (go b) m g o f
+lowers s w b C m g o f = by-kind (Lower fs cs v r n d u k) (mayStand s) (w .kind) (go b) m g o f
   where
     k : ℕ
     k = s .last .kind
@@ -224,9 +224,12 @@ lowers s w b C m g o f = by-kind (Lower cs v r n d u k) (mayStand s) (w .kind) (
     cs : List ℕ
     cs = s .called
 
-    go : Begun s → ByKind (Lower cs v r n d u k) (mayStand s)
-    go (inl e) = subst (λ (q : ℕ). ByKind (Lower cs v r n d u q) (lookup q (table s))) (sym e) (places-line cs v r n d u)
-    go (inr z) = by-line (λ q ks. ByKind (Lower cs v r n d u q) ks) (table s) k no-other (lines cs v r n d u z C)
+    fs : List ℕ
+    fs = s .facing
+
+    go : Begun s → ByKind (Lower fs cs v r n d u k) (mayStand s)
+    go (inl e) = subst (λ (q : ℕ). ByKind (Lower fs cs v r n d u q) (lookup q (table s))) (sym e) (places-line fs cs v r n d u)
+    go (inr z) = by-line (λ q ks. ByKind (Lower fs cs v r n d u q) ks) (table s) k no-other (lines fs cs v r n d u z C)
 
 -- ---- the answer
 

@@ -2,19 +2,19 @@
 use Prim.Native.Nat.{ℕ, _*_, _≤_, _<_}
 use native.Mathlib.Omega.{arith}
 use native.Mathlib.Nat.{mul-le-mul}
-use mathlib.Core.Path.{_≡_, sym, ap, _∙_}
-use mathlib.Core.Bool.{Bool, true, false}
+use mathlib.Core.Path.{_≡_, sym, ap, subst, _∙_}
+use mathlib.Core.Bool.{Bool, true, false, _||_}
 use mathlib.Core.List.{List, [], _∷_, _++_, map, tail}
 use mathlib.Core.Option.{Option, none, some}
 use mathlib.Core.Logic.{inl, inr}
 use lib.ListN.{length, length-append}
 use lib.Dec.{leb, ltb}
-use borrow.Author.Tests.{leb-true, ltb-true}
-use Rattle.basics.proofs.TestLaws.{both, and-right}
+use borrow.Author.Tests.{leb-true, ltb-true, eqb-true}
+use Rattle.basics.proofs.TestLaws.{by-test, both, and-right}
 use Rattle.basics.specs.Options.{Holds, IfAny}
 use Rattle.basics.specs.Lists.{All, Passes}
 use Rattle.basics.proofs.ListLaws.{all-append, all-imp, all-map}
-use Rattle.definitions.specs.Domain.{isDemand, isCapacity, isPenalty, isNumber, isCall}
+use Rattle.definitions.specs.Domain.{isDemand, isCapacity, isPenalty, isNumber, noRoad, isClosed, isLeg, isCall}
 use Rattle.definitions.specs.Sheet.{Window, Break, Customer, Sheet}
 use Rattle.definitions.specs.Words.{Word, word, wordsOf, leftOver, bytesOf}
 use Rattle.definitions.specs.Encoding.{optional, isSaid, secondWords, breakWords, windowWords, customerWords, bodyWords, encode}
@@ -39,6 +39,9 @@ small m h v e = omega (arith, leb-true v m e)
 
 numbers : Small isNumber
 numbers = small 10000000 (omega arith)
+
+legs : Small isLeg
+legs v e = by-test (isNumber v) (λ t. numbers v t) (λ f. let c = eqb-true v noRoad (subst (λ (b : Bool). b || isClosed v ≡ true) f e) in omega arith)
 
 fit : (k : ℕ) (p : ℕ → Bool) → k < 16 → Small p → (v : ℕ) → p v ≡ true → Fits (word k v)
 fit k p h s v e = record { kind = h; value = s v e }
@@ -183,10 +186,10 @@ module _ (said : List Bool) (s : Sheet) (tour : List ℕ) (G : GoodSheet s) (C :
           (record { kind = omega arith; value = omega (arith, few-words, body-length said s tour) }, tt)
 
       timed : AllFit (timeWords (s .legs .times) tour f)
-      timed = all-append Fits (map (word 0xD) (s .legs .times)) (callWords tour f) (fit-row 0xD isNumber (s .legs .times) (omega arith) numbers (G .times)) called
+      timed = all-append Fits (map (word 0xD) (s .legs .times)) (callWords tour f) (fit-row 0xD isLeg (s .legs .times) (omega arith) legs (G .times)) called
 
       tabled : AllFit (tableWords (s .legs .distances) (s .legs .times) tour f)
-      tabled = all-append Fits (map (word 0xC) (s .legs .distances)) (timeWords (s .legs .times) tour f) (fit-row 0xC isNumber (s .legs .distances) (omega arith) numbers (G .distances)) timed
+      tabled = all-append Fits (map (word 0xC) (s .legs .distances)) (timeWords (s .legs .times) tour f) (fit-row 0xC isLeg (s .legs .distances) (omega arith) legs (G .distances)) timed
 
       rest : List Word
       rest = fromCustomers said s tour f

@@ -14,10 +14,10 @@ use Rattle.basics.proofs.TestLaws.{both, and-left, not-false, not-of-true}
 use Rattle.basics.specs.Options.{present, Holds, IfAny}
 use Rattle.basics.specs.Lists.{All, Passes, Fails, isEmpty}
 use Rattle.basics.proofs.ListLaws.{all-imp, any-fails, fails-any, fails-not, not-fails}
-use Rattle.definitions.specs.Domain.{isPlaces, isCapacity, isDemand, isPenalty, isNumber, isCall, mostCalls}
+use Rattle.definitions.specs.Domain.{isPlaces, isCapacity, isDemand, isPenalty, isNumber, isLeg, isCall, mostCalls}
 use Rattle.definitions.specs.Load.{Load, noLoad, eachOf}
 use Rattle.definitions.specs.Sheet.{Window, Break, Customer, Sheet, records, depot}
-use Rattle.definitions.specs.Refusals.{Within, badCalls, repeats, badBreak, badCustomer, badDepot, badOptional, badWindow, breakFalls, unfit, windowFalls}
+use Rattle.definitions.specs.Refusals.{Within, badCalls, repeats, badBreak, badCustomer, badDepot, badOptional, badWindow, breakFalls, unfit, windowFalls, disagree, closuresDiffer}
 use Rattle.theorems.proofs.Ranges.{TablesEven, tables-even, even-tables, calls-in-range, range-calls, break-in-range, range-break, window-in-range, range-window, customer-in-range, range-customer, depot-in-range, InRange, in-range, range-in, PairsRise, pairs-rise, rise-pairs}
 use Rattle.theorems.proofs.Repeats.{tour-few}
 use Rattle.round_trip.proofs.Says.{others}
@@ -53,10 +53,12 @@ pub record GoodSheet (s : Sheet) : Type 0 where
   pub counted : length (s .customers) ≡ s .head .places
   pub first : s .customers ≡ depot ∷ others s
   pub customers : All GoodCustomer (others s)
-  pub distances : Passes isNumber (s .legs .distances)
+  pub distances : Passes isLeg (s .legs .distances)
   pub square : length (s .legs .distances) ≡ s .head .places * s .head .places
-  pub times : Passes isNumber (s .legs .times)
+  pub times : Passes isLeg (s .legs .times)
   pub as-many : AsMany (s .head .places * s .head .places) (s .legs .times)
+  -- both tables close the same legs
+  pub alike : disagree some (s .legs .distances) (s .legs .times) ≡ false
 
 -- a tour on a sheet with n places
 pub record GoodTour (n : ℕ) (tour : List ℕ) : Type 0 where
@@ -132,6 +134,7 @@ as-many-good m [] h = inl refl
 as-many-good m (t ∷ ts) h = inr (eqb-true (length (t ∷ ts)) m (not-false (eqb (length (t ∷ ts)) m) h))
 
 pub good-sheet : (s : Sheet) → Within s → GoodSheet s
+unfolding closuresDiffer
 good-sheet s W =
     record {
       places = placed;
@@ -143,10 +146,11 @@ good-sheet s W =
       counted = W .counted;
       first = first-good (s .customers) (omega (arith, W .counted, leb-true 1 (s .head .places) (and-left (leb 1 (s .head .places)) (leb (s .head .places) 64) placed))) (rw all-records at (R .depot));
       customers = all-tail GoodCustomer (s .customers) good-customers;
-      distances = fails-not isNumber (s .legs .distances) (any-fails (unfit some isNumber) (s .legs .distances) (R .distances));
+      distances = fails-not isLeg (s .legs .distances) (any-fails (unfit some isLeg) (s .legs .distances) (R .distances));
       square = eqb-true (length (s .legs .distances)) full (not-false (eqb (length (s .legs .distances)) full) (T .distances));
-      times = fails-not isNumber (s .legs .times) (any-fails (unfit some isNumber) (s .legs .times) (R .times));
+      times = fails-not isLeg (s .legs .times) (any-fails (unfit some isLeg) (s .legs .times) (R .times));
       as-many = as-many-good full (s .legs .times) (T .times);
+      alike = W .closed-alike;
     }
   where
     R : InRange some s
@@ -221,6 +225,7 @@ good-as-many m (t ∷ ts) (inl e) = absurd (cons≢nil e)
 good-as-many m (t ∷ ts) (inr e) = not-of-true (eqb (length (t ∷ ts)) m) (eq-eqb (length (t ∷ ts)) m e)
 
 pub good-within : (s : Sheet) → GoodSheet s → Within s
+unfolding closuresDiffer
 good-within s G =
     record {
       counted = G .counted;
@@ -237,14 +242,15 @@ good-within s G =
         rest = good-break (s .head .rest) (G .rest);
         depot = rw all-records refl;
         customers = rw all-records (fails-any (badCustomer some) (others s) (all-imp GoodCustomer (λ (c : Customer). badCustomer some c ≡ false) good-customer (others s) (G .customers)));
-        distances = fails-any (unfit some isNumber) (s .legs .distances) (not-fails isNumber (s .legs .distances) (G .distances));
-        times = fails-any (unfit some isNumber) (s .legs .times) (not-fails isNumber (s .legs .times) (G .times));
+        distances = fails-any (unfit some isLeg) (s .legs .distances) (not-fails isLeg (s .legs .distances) (G .distances));
+        times = fails-any (unfit some isLeg) (s .legs .times) (not-fails isLeg (s .legs .times) (G .times));
       });
       paired = rise-pairs some s (record {
         rest = break-rises (s .head .rest) (G .rest);
         windows = rw all-records (fails-any (λ (c : Customer). windowFalls some (c .window)) (others s)
             (all-imp GoodCustomer (λ (c : Customer). windowFalls some (c .window) ≡ false) (λ c g. window-rises (c .window) (g .window)) (others s) (G .customers)));
       });
+      closed-alike = G .alike;
     }
   where
     full : ℕ

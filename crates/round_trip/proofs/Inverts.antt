@@ -4,25 +4,26 @@ use native.Mathlib.Omega.{arith}
 use native.Mathlib.Nat.{mul-le-mul}
 use mathlib.Core.Path.{_≡_, refl, sym, ap, subst, _∙_}
 use mathlib.Core.Bool.{Bool, true, false, cond, _&&_, not}
-use mathlib.Core.List.{List, [], _∷_, _++_}
+use mathlib.Core.List.{List, [], _∷_, _++_, append-nil, append-assoc, tail}
 use mathlib.Core.Option.{Option, none, some}
 use mathlib.Core.Logic.{inl, inr}
-use lib.ListN.{length}
+use lib.ListN.{length, length-append, getD}
 use lib.Dec.{eqb, ltb, leb, eqb·suc-zero}
 use borrow.Author.Tests.{eqb-true, ltb-true, ltb-false, leb-true}
 use Rattle.basics.proofs.TestLaws.{by-test, not-false, and-left, and-true, or-false}
 use Rattle.basics.specs.Options.{Holds, IfAny}
 use Rattle.basics.specs.Lists.{All, Passes}
-use Rattle.definitions.specs.Domain.{isPlaces, isCapacity, isDemand, isPenalty, isNumber, isCall}
+use Rattle.definitions.specs.Domain.{isPlaces, isCapacity, isDemand, isPenalty, isNumber, closedApart, isLeg, isCall}
 use Rattle.definitions.specs.Sheet.{Customer, Sheet, depot}
 use Rattle.definitions.specs.Words.{Word, word}
 use Rattle.definitions.specs.Encoding.{optional, secondWords, breakWords, windowWords, customerWords}
-use Rattle.definitions.specs.Reader.{State, start, next, onward, mayStand, inRange, repeated, pairFalls, among, faults, faultAt, accepted, refused, behind, unless, walk}
+use Rattle.definitions.specs.Reader.{State, start, next, onward, mayStand, inRange, repeated, pairFalls, closureDiffers, among, faults, faultAt, accepted, refused, behind, unless, walk}
+use Rattle.definitions.specs.Refusals.{disagree}
 use Rattle.theorems.proofs.InOrder.{none-fits}
 use Rattle.theorems.proofs.Again.{again, again-repeats}
 use Rattle.round_trip.proofs.Says.{callWords, timeWords, tableWords, allWords}
 use Rattle.round_trip.proofs.Good.{GoodWindow, GoodBreak, GoodCustomer, AsMany, GoodSheet, GoodTour}
-use Rattle.round_trip.proofs.Accepts.{behindCalls, behindWord, Seconds, seconds-head, seconds-customer, secondRange, customerThen, behindCustomer, customer-then, behind-customer, wordCount}
+use Rattle.round_trip.proofs.Accepts.{behindCalls, behindLegs, behindWord, Seconds, seconds-head, seconds-customer, secondRange, customerThen, behindCustomer, customer-then, behind-customer, wordCount}
 use Rattle.round_trip.proofs.ByKind.{ByKind, no-other, _or_, by-kind, map-kinds}
 
 -- ---- a word that is taken
@@ -32,6 +33,7 @@ record Taken (s : State) (i : ℕ) (w : Word) (ws : List Word) (left : Bool) : T
   ranged : inRange s w ≡ true
   once : repeated s w ≡ false
   paired : pairFalls s w ≡ false
+  alike : closureDiffers s w ≡ false
   counted : eqb (w .kind) 0xF && not (eqb (w .value) i) ≡ false
   on : cond (eqb (w .kind) 0xF) (behind (suc i) ws left) (walk (next s w) (suc i) ws left) ≡ accepted
 
@@ -49,7 +51,7 @@ taken s i w ws left h = go (faultAt s i w) refl h
     go (some n) e f = not-accepted n i f
     go none e f =
         let N = none-fits (faults s i w) e in
-        record { stands = not-false (among (w .kind) (mayStand s)) (N 11); ranged = not-false (inRange s w) (N 1); once = N 21; paired = N 2; counted = N 3; on = f }
+        record { stands = not-false (among (w .kind) (mayStand s)) (N 11); ranged = not-false (inRange s w) (N 1); once = N 21; paired = N 2; alike = N 22; counted = N 3; on = f }
 
 ended : {A : Type 0} (s : State) (i : ℕ) (left : Bool) → walk s i [] left ≡ accepted → A
 unfolding walk
@@ -105,40 +107,49 @@ tour-more n cs i v ws left h o E =
       nothing-left = E .nothing-left;
     }
 
-tour-inv : (cs : List ℕ) (v r n d i : ℕ) (ws : List Word) (left : Bool) → walk (behindCalls cs 0xE v r n d) i ws left ≡ accepted → TourEnd n cs left i ws
+tour-inv : (fs cs : List ℕ) (v r n d i : ℕ) (ws : List Word) (left : Bool) → walk (behindCalls fs cs 0xE v r n d) i ws left ≡ accepted → TourEnd n cs left i ws
 unfolding mayStand inRange
-tour-inv cs v r n d i [] left a = ended (behindCalls cs 0xE v r n d) i left a
-tour-inv cs v r n d i (w ∷ ws) left a =
-    by-word (TourEnd n cs left) (behindCalls cs 0xE v r n d) i left w ws (0xE ∷ 0xF ∷ []) refl
-    ((λ T. tour-more n cs i (w .value) ws left (T .ranged) (T .once) (tour-inv (w .value ∷ cs) (w .value) (suc r) n d (suc i) ws left (T .on)))
-    or tour-over (behindCalls cs 0xE v r n d) n cs i (w .value) ws left
+tour-inv fs cs v r n d i [] left a = ended (behindCalls fs cs 0xE v r n d) i left a
+tour-inv fs cs v r n d i (w ∷ ws) left a =
+    by-word (TourEnd n cs left) (behindCalls fs cs 0xE v r n d) i left w ws (0xE ∷ 0xF ∷ []) refl
+    ((λ T. tour-more n cs i (w .value) ws left (T .ranged) (T .once) (tour-inv fs (w .value ∷ cs) (w .value) (suc r) n d (suc i) ws left (T .on)))
+    or tour-over (behindCalls fs cs 0xE v r n d) n cs i (w .value) ws left
     or no-other) a
 
 -- the first call or F, behind a word of another kind
-tour-cases : (k v r n d i u : ℕ) (ws : List Word) (left : Bool) → eqb 0xE k ≡ false
-    → ByKind (Case (TourEnd n [] left) (behindWord k v r n d) i left u ws) (0xE ∷ 0xF ∷ [])
+tour-cases : (fs : List ℕ) (k v r n d i u : ℕ) (ws : List Word) (left : Bool) → eqb 0xE k ≡ false
+    → ByKind (Case (TourEnd n [] left) (behindLegs fs k v r n d) i left u ws) (0xE ∷ 0xF ∷ [])
 unfolding inRange
-tour-cases k v r n d i u ws left p =
-    (λ T. tour-more n [] i u ws left (T .ranged) refl (tour-inv (u ∷ []) u 1 n d (suc i) ws left (rw p at (T .on))))
-    or tour-over (behindWord k v r n d) n [] i u ws left
+tour-cases fs k v r n d i u ws left p =
+    (λ T. tour-more n [] i u ws left (T .ranged) refl (tour-inv fs (u ∷ []) u 1 n d (suc i) ws left (rw p at (T .on))))
+    or tour-over (behindLegs fs k v r n d) n [] i u ws left
     or no-other
 
 tour-good : {n i : ℕ} {ws : List Word} {left : Bool} (E : TourEnd n [] left i ws) → GoodTour n (E .tour)
 tour-good E = record { each = E .calls; once = sym (again-repeats (E .tour)) ∙ E .once }
 
--- ---- the times, of which r stand before
+-- ---- the times of the distances fs, of which r stand before
 
-record TimesEnd (n r : ℕ) (left : Bool) (i : ℕ) (ws : List Word) : Type 0 where
+record TimesEnd (fs : List ℕ) (n r : ℕ) (left : Bool) (i : ℕ) (ws : List Word) : Type 0 where
   ts : List ℕ
   tour : List ℕ
   is : ws ≡ timeWords ts tour (i + length ts + length tour)
-  times : Passes isNumber ts
+  times : Passes isLeg ts
   square : r + length ts ≡ n * n
+  alike : disagree some fs ts ≡ false
   calls : GoodTour n tour
   nothing-left : left ≡ false
 
-times-over : (n r i : ℕ) (ws : List Word) (left : Bool) → r ≡ n * n → TourEnd n [] left i ws → TimesEnd n r left i ws
-times-over n r i ws left h E =
+none-disagrees : (fs : List ℕ) → disagree some fs [] ≡ false
+none-disagrees [] = refl
+none-disagrees (x ∷ fs) = refl
+
+one-agrees : (fs ts : List ℕ) (t : ℕ) → closedApart (getD fs 0 0) t ≡ false → disagree some (tail fs) ts ≡ false → disagree some fs (t ∷ ts) ≡ false
+one-agrees [] ts t h w = refl
+one-agrees (x ∷ fs) ts t h w = or-false (closedApart x t) (disagree some fs ts) h w
+
+times-over : (fs : List ℕ) (n r i : ℕ) (ws : List Word) (left : Bool) → r ≡ n * n → TourEnd n [] left i ws → TimesEnd fs n r left i ws
+times-over fs n r i ws left h E =
     let same : i + length (E .tour) ≡ i + 0 + length (E .tour) = omega arith in
     record {
       ts = [];
@@ -146,12 +157,14 @@ times-over n r i ws left h E =
       is = E .is ∙ ap (callWords (E .tour)) same;
       times = tt;
       square = omega arith;
+      alike = none-disagrees fs;
       calls = tour-good E;
       nothing-left = E .nothing-left;
     }
 
-times-more : (n r i v : ℕ) (ws : List Word) (left : Bool) → isNumber v ≡ true → TimesEnd n (suc r) left (suc i) ws → TimesEnd n r left i (word 0xD v ∷ ws)
-times-more n r i v ws left h E =
+times-more : (fs : List ℕ) (n r i v : ℕ) (ws : List Word) (left : Bool) → isLeg v ≡ true → closedApart (getD fs 0 0) v ≡ false → TimesEnd (tail fs) n (suc r) left (suc i) ws
+    → TimesEnd fs n r left i (word 0xD v ∷ ws)
+times-more fs n r i v ws left h w E =
     let same : suc i + length (E .ts) + length (E .tour) ≡ i + suc (length (E .ts)) + length (E .tour) = omega arith in
     record {
       ts = v ∷ E .ts;
@@ -159,69 +172,87 @@ times-more n r i v ws left h E =
       is = ap (λ (l : List Word). word 0xD v ∷ l) (E .is ∙ ap (timeWords (E .ts) (E .tour)) same);
       times = (h, E .times);
       square = omega (arith, E .square);
+      alike = one-agrees fs (E .ts) v w (E .alike);
       calls = E .calls;
       nothing-left = E .nothing-left;
     }
 
-times-inv : (v r n d i : ℕ) (ws : List Word) (left : Bool) → r ≤ n * n → walk (behindWord 0xD v r n d) i ws left ≡ accepted → TimesEnd n r left i ws
+times-inv : (fs : List ℕ) (v r n d i : ℕ) (ws : List Word) (left : Bool) → r ≤ n * n → walk (behindLegs fs 0xD v r n d) i ws left ≡ accepted → TimesEnd fs n r left i ws
 unfolding mayStand inRange
-times-inv v r n d i [] left h a = ended (behindWord 0xD v r n d) i left a
-times-inv v r n d i (w ∷ ws) left h a =
-    let s = behindWord 0xD v r n d in
+times-inv fs v r n d i [] left h a = ended (behindLegs fs 0xD v r n d) i left a
+times-inv fs v r n d i (w ∷ ws) left h a =
+    let s = behindLegs fs 0xD v r n d in
     by-test (ltb r (n * n))
-    (λ t. by-word (TimesEnd n r left) s i left w ws (0xD ∷ []) (rw t refl)
-    ((λ T. times-more n r i (w .value) ws left (T .ranged) (times-inv (w .value) (suc r) n d (suc i) ws left (ltb-true r (n * n) t) (T .on))) or no-other) a)
+    (λ t. by-word (TimesEnd fs n r left) s i left w ws (0xD ∷ []) (rw t refl)
+    ((λ T. times-more fs n r i (w .value) ws left (T .ranged) (T .alike) (times-inv (tail fs) (w .value) (suc r) n d (suc i) ws left (ltb-true r (n * n) t) (T .on))) or no-other) a)
     (λ f. let full : r ≡ n * n = omega (arith, ltb-false r (n * n) f) in
-    by-word (TimesEnd n r left) s i left w ws (0xE ∷ 0xF ∷ []) (rw f refl)
-    (map-kinds (tour-cases 0xD v r n d i (w .value) ws left refl) (λ k c T. times-over n r i (word k (w .value) ∷ ws) left full (c T))) a)
+    by-word (TimesEnd fs n r left) s i left w ws (0xE ∷ 0xF ∷ []) (rw f refl)
+    (map-kinds (tour-cases fs 0xD v r n d i (w .value) ws left refl) (λ k c T. times-over fs n r i (word k (w .value) ∷ ws) left full (c T))) a)
 
--- ---- the distances, of which r stand before
+-- ---- the distances, behind the distances fs
 
-record GoodTables (n r : ℕ) (ds ts tour : List ℕ) : Type 0 where
-  distances : Passes isNumber ds
-  square : r + length ds ≡ n * n
-  times : Passes isNumber ts
+record GoodTables (n : ℕ) (fs ds ts tour : List ℕ) : Type 0 where
+  distances : Passes isLeg ds
+  square : length fs + length ds ≡ n * n
+  times : Passes isLeg ts
   as-many : AsMany (n * n) ts
+  alike : disagree some (fs ++ ds) ts ≡ false
   calls : GoodTour n tour
 
-record TablesEnd (n r : ℕ) (left : Bool) (i : ℕ) (ws : List Word) : Type 0 where
+record TablesEnd (n : ℕ) (fs : List ℕ) (left : Bool) (i : ℕ) (ws : List Word) : Type 0 where
   ds : List ℕ
   ts : List ℕ
   tour : List ℕ
   is : ws ≡ tableWords ds ts tour (i + length ds + length ts + length tour)
-  good : GoodTables n r ds ts tour
+  good : GoodTables n fs ds ts tour
   nothing-left : left ≡ false
 
-no-times : (n r i : ℕ) (ws : List Word) (left : Bool) → r ≡ n * n → TourEnd n [] left i ws → TablesEnd n r left i ws
-no-times n r i ws left h E =
+no-times : (n : ℕ) (fs : List ℕ) (i : ℕ) (ws : List Word) (left : Bool) → length fs ≡ n * n → TourEnd n [] left i ws → TablesEnd n fs left i ws
+no-times n fs i ws left h E =
     let same : i + length (E .tour) ≡ i + 0 + 0 + length (E .tour) = omega arith in
     record {
       ds = [];
       ts = [];
       tour = E .tour;
       is = E .is ∙ ap (callWords (E .tour)) same;
-      good = record { distances = tt; square = omega arith; times = tt; as-many = inl refl; calls = tour-good E };
+      good = record { distances = tt; square = omega arith; times = tt; as-many = inl refl; alike = none-disagrees (fs ++ []); calls = tour-good E };
       nothing-left = E .nothing-left;
     }
 
-with-times : (n r i v : ℕ) (ws : List Word) (left : Bool) → r ≡ n * n → isNumber v ≡ true → TimesEnd n 1 left (suc i) ws → TablesEnd n r left i (word 0xD v ∷ ws)
-with-times n r i v ws left h g E =
+with-times : (n : ℕ) (fs : List ℕ) (i v : ℕ) (ws : List Word) (left : Bool) → length fs ≡ n * n → isLeg v ≡ true → closedApart (getD fs 0 0) v ≡ false
+    → TimesEnd (tail fs) n 1 left (suc i) ws → TablesEnd n fs left i (word 0xD v ∷ ws)
+with-times n fs i v ws left h g w E =
     let same : suc i + length (E .ts) + length (E .tour) ≡ i + 0 + suc (length (E .ts)) + length (E .tour) = omega arith in
     record {
       ds = [];
       ts = v ∷ E .ts;
       tour = E .tour;
       is = ap (λ (l : List Word). word 0xD v ∷ l) (E .is ∙ ap (timeWords (E .ts) (E .tour)) same);
-      good = record { distances = tt; square = omega arith; times = (g, E .times); as-many = inr (omega (arith, E .square)); calls = E .calls };
+      good = record {
+        distances = tt;
+        square = omega arith;
+        times = (g, E .times);
+        as-many = inr (omega (arith, E .square));
+        alike = subst (λ (l : List ℕ). disagree some l (v ∷ E .ts) ≡ false) (sym (append-nil fs)) (one-agrees fs (E .ts) v w (E .alike));
+        calls = E .calls;
+      };
       nothing-left = E .nothing-left;
     }
 
 -- one distance more in front
-tables-more : {n r : ℕ} {ds ts tour : List ℕ} (v : ℕ) → isNumber v ≡ true → GoodTables n (suc r) ds ts tour → GoodTables n r (v ∷ ds) ts tour
-tables-more v h G = record { distances = (h, G .distances); square = omega (arith, G .square); times = G .times; as-many = G .as-many; calls = G .calls }
+tables-more : {n : ℕ} {fs ds ts tour : List ℕ} (v : ℕ) → isLeg v ≡ true → GoodTables n (fs ++ (v ∷ [])) ds ts tour → GoodTables n fs (v ∷ ds) ts tour
+tables-more {n} {fs} {ds} {ts} v h G =
+    record {
+      distances = (h, G .distances);
+      square = omega (arith, G .square, length-append fs (v ∷ []));
+      times = G .times;
+      as-many = G .as-many;
+      alike = subst (λ (l : List ℕ). disagree some l ts ≡ false) (append-assoc fs (v ∷ []) ds) (G .alike);
+      calls = G .calls;
+    }
 
-distances-more : (n r i v : ℕ) (ws : List Word) (left : Bool) → isNumber v ≡ true → TablesEnd n (suc r) left (suc i) ws → TablesEnd n r left i (word 0xC v ∷ ws)
-distances-more n r i v ws left h E =
+distances-more : (n : ℕ) (fs : List ℕ) (i v : ℕ) (ws : List Word) (left : Bool) → isLeg v ≡ true → TablesEnd n (fs ++ (v ∷ [])) left (suc i) ws → TablesEnd n fs left i (word 0xC v ∷ ws)
+distances-more n fs i v ws left h E =
     let same : suc i + length (E .ds) + length (E .ts) + length (E .tour) ≡ i + suc (length (E .ds)) + length (E .ts) + length (E .tour) = omega arith in
     record {
       ds = v ∷ E .ds;
@@ -232,18 +263,21 @@ distances-more n r i v ws left h E =
       nothing-left = E .nothing-left;
     }
 
-distances-inv : (v r n d i : ℕ) (ws : List Word) (left : Bool) → r ≤ n * n → 0 < n * n → walk (behindWord 0xC v r n d) i ws left ≡ accepted → TablesEnd n r left i ws
+distances-inv : (fs : List ℕ) (v r n d i : ℕ) (ws : List Word) (left : Bool) → length fs ≡ r → r ≤ n * n → 0 < n * n → walk (behindLegs fs 0xC v r n d) i ws left ≡ accepted
+    → TablesEnd n fs left i ws
 unfolding mayStand inRange
-distances-inv v r n d i [] left h z a = ended (behindWord 0xC v r n d) i left a
-distances-inv v r n d i (w ∷ ws) left h z a =
-    let s = behindWord 0xC v r n d in
+distances-inv fs v r n d i [] left l h z a = ended (behindLegs fs 0xC v r n d) i left a
+distances-inv fs v r n d i (w ∷ ws) left l h z a =
+    let s = behindLegs fs 0xC v r n d in
     by-test (ltb r (n * n))
-    (λ t. by-word (TablesEnd n r left) s i left w ws (0xC ∷ []) (rw t refl)
-    ((λ T. distances-more n r i (w .value) ws left (T .ranged) (distances-inv (w .value) (suc r) n d (suc i) ws left (ltb-true r (n * n) t) z (T .on))) or no-other) a)
-    (λ f. let full : r ≡ n * n = omega (arith, ltb-false r (n * n) f) in
-    by-word (TablesEnd n r left) s i left w ws (0xD ∷ 0xE ∷ 0xF ∷ []) (rw f refl)
-    ((λ T. with-times n r i (w .value) ws left full (T .ranged) (times-inv (w .value) 1 n d (suc i) ws left z (T .on)))
-    or map-kinds (tour-cases 0xC v r n d i (w .value) ws left refl) (λ k c T. no-times n r i (word k (w .value) ∷ ws) left full (c T))) a)
+    (λ t. by-word (TablesEnd n fs left) s i left w ws (0xC ∷ []) (rw t refl)
+    ((λ T. distances-more n fs i (w .value) ws left (T .ranged)
+    (distances-inv (fs ++ (w .value ∷ [])) (w .value) (suc r) n d (suc i) ws left (omega (arith, length-append fs (w .value ∷ []))) (ltb-true r (n * n) t) z (T .on)))
+    or no-other) a)
+    (λ f. let full : length fs ≡ n * n = omega (arith, ltb-false r (n * n) f) in
+    by-word (TablesEnd n fs left) s i left w ws (0xD ∷ 0xE ∷ 0xF ∷ []) (rw f refl)
+    ((λ T. with-times n fs i (w .value) ws left full (T .ranged) (T .alike) (times-inv (tail fs) (w .value) 1 n d (suc i) ws left z (T .on)))
+    or map-kinds (tour-cases fs 0xC v r n d i (w .value) ws left refl) (λ k c T. no-times n fs i (word k (w .value) ∷ ws) left full (c T))) a)
 
 -- ---- what stands from the next customer on, where d customers are to come
 
@@ -257,11 +291,11 @@ record Rest (n d : ℕ) (left : Bool) (i : ℕ) (ws : List Word) : Type 0 where
   is : ws ≡ customerWords said cs ++ tableWords ds ts tour (i + length (customerWords said cs) + length ds + length ts + length tour)
   counted : length cs ≡ d
   customers : All GoodCustomer cs
-  tables : GoodTables n 0 ds ts tour
+  tables : GoodTables n [] ds ts tour
   nothing-left : left ≡ false
 
 -- no customer is left
-from-distances : (n i : ℕ) (ws : List Word) (left : Bool) → TablesEnd n 0 left i ws → Rest n 0 left i ws
+from-distances : (n i : ℕ) (ws : List Word) (left : Bool) → TablesEnd n [] left i ws → Rest n 0 left i ws
 from-distances n i ws left E =
     let same : i + length (E .ds) + length (E .ts) + length (E .tour) ≡ i + 0 + length (E .ds) + length (E .ts) + length (E .tour) = omega arith in
     record {
@@ -495,7 +529,7 @@ unfolding mayStand inRange
 from-here n zero left h = record {
   on = λ k v r i u ws c T.
       let z = mul-le-mul h h in
-      from-distances n i (word 0xC u ∷ ws) left (distances-more n 0 i u ws left (T .ranged) (distances-inv u 1 n 0 (suc i) ws left z z (rw c at (T .on))));
+      from-distances n i (word 0xC u ∷ ws) left (distances-more n [] i u ws left (T .ranged) (distances-inv (u ∷ []) u 1 n 0 (suc i) ws left refl z z (rw c at (T .on))));
 }
 from-here n (suc d) left h = record {
   on = λ k v r i u ws c.
@@ -558,6 +592,7 @@ is-sheet n seats left ws p c S =
         square = omega (arith, R .tables .square);
         times = R .tables .times;
         as-many = R .tables .as-many;
+        alike = R .tables .alike;
       };
       calls = R .tables .calls;
       nothing-left = R .nothing-left;

@@ -14,9 +14,9 @@ use Rattle.basics.specs.Lists.{count, All}
 use Rattle.basics.proofs.ListLaws.{all-imp}
 use Rattle.bounds.specs.Sized.{Sized, Place}
 use Rattle.definitions.specs.Domain.{mostCalls, mostNumber}
-use Rattle.definitions.specs.Sheet.{Sheet, distance}
+use Rattle.definitions.specs.Sheet.{Sheet}
 use Rattle.definitions.specs.Run as Run
-use Rattle.definitions.specs.Improver.{givenOf, total}
+use Rattle.definitions.specs.Improver.{openLeg, givenOf, total}
 use Rattle.definitions.specs.Elimination.{Put, beyond, inserts, candidates}
 use Rattle.whole.specs.Difference.{diff}
 use Rattle.whole.proofs.DifferenceLaws.{diff-same, diff-lt, diff-le}
@@ -145,7 +145,7 @@ module _ (s : Sheet) (S : Sized s) (T : GivenF) (I : Image s T) (c : ℕ) (p : P
         record {
           cost-is =
               cost ∙ adds-exact s S T I run (x .pos) c (good-run s n rs W (x .run)) p
-              ∙ diff-same (distance s prev c + distance s c next) (distance s prev next) (total (givenOf s) (putOf c rs x .runs)) (total (givenOf s) rs)
+              ∙ diff-same (openLeg s prev c + openLeg s c next) (openLeg s prev next) (total (givenOf s) (putOf c rs x .runs)) (total (givenOf s) rs)
               (omega (arith, total-put s rs (W .some-calls) (x .run) (x .pos) c inside pos));
           next = good-put s n rs W (x .run) (x .pos) c p;
           grown-is = put-run (x .run) (x .pos) c rs inside;

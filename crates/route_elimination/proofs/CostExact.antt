@@ -15,15 +15,15 @@ use Rattle.basics.proofs.TestLaws.{by-test}
 use Rattle.basics.specs.Lists.{sum, All}
 use Rattle.basics.proofs.ListLaws.{sum-append}
 use Rattle.bounds.specs.Sized.{Sized, Place}
-use Rattle.bounds.proofs.Inside.{depot-inside, call-inside, distance-small}
-use Rattle.bounds.proofs.BoundLaws.{distance-most}
+use Rattle.bounds.proofs.Inside.{depot-inside, call-inside}
+use Rattle.bounds.proofs.BoundLaws.{legs-most, open-small}
 use Rattle.definitions.specs.Domain.{mostCalls, mostNumber}
 use Rattle.definitions.specs.Load.{Load, plus, carried, loadBy}
 use Rattle.definitions.proofs.LoadLaws.{load-same, load-more}
-use Rattle.definitions.specs.Sheet.{Sheet, customer, distance}
+use Rattle.definitions.specs.Sheet.{Sheet, customer}
 use Rattle.definitions.specs.Run.{load, fits}
 use Rattle.definitions.specs.RunList.{callsOf}
-use Rattle.definitions.specs.Improver.{givenOf, distanceOf, total}
+use Rattle.definitions.specs.Improver.{openLeg, givenOf, distanceOf, total}
 use Rattle.theorems.proofs.LegLaws.{final, insertion-before, insertion-last}
 use Rattle.theorems.proofs.EliminationLaws.{Calls}
 use Rattle.whole.specs.Whole.{fl, limit, Is}
@@ -33,8 +33,8 @@ use Rattle.whole.proofs.DifferenceLaws.{fl-diff}
 use Rattle.whole.proofs.InfinityLaws.{is-lt-inf}
 use Rattle.evaluation.specs.Tables.{placeBefore}
 use Rattle.evaluation.proofs.ClockExact as Clock
-use Rattle.evaluation.proofs.ClockExact.{distance-exact}
 use Rattle.improve_base.specs.Route.{routeDistanceF}
+use Rattle.improve_base.proofs.LegExact.{distance-exact}
 use Rattle.improve_base.proofs.RouteExact.{route-distance-exact}
 use Rattle.improve_runs.specs.RunLists.{runAt, insertAt, putIn}
 use Rattle.route_elimination.specs.Loads.{roomF}
@@ -64,8 +64,8 @@ before-is run (suc k) h = final-at 0 run (suc k) h
 module _ (s : Sheet) where
   abbrev Adds : List ℕ → ℕ → ℕ → Type 0
   Adds run pos c =
-      distanceOf (givenOf s) (insertAt pos c run) + distance s (placeBefore run pos) (getD run pos 0)
-      ≡ distanceOf (givenOf s) run + distance s (placeBefore run pos) c + distance s c (getD run pos 0)
+      distanceOf (givenOf s) (insertAt pos c run) + openLeg s (placeBefore run pos) (getD run pos 0)
+      ≡ distanceOf (givenOf s) run + openLeg s (placeBefore run pos) c + openLeg s c (getD run pos 0)
 
   -- before a call
   adds-before : (run : List ℕ) (pos c : ℕ) → pos < length run → Adds run pos c
@@ -78,8 +78,8 @@ module _ (s : Sheet) where
         insertion-before (givenOf s) xs c y (drop (suc pos) run),
         ap (λ (l : List ℕ). distanceOf (givenOf s) (xs ++ (c ∷ l))) (drop-cons run pos 0 h),
         ap (distanceOf (givenOf s)) (split-at run pos 0 h),
-        ap (λ (a : ℕ). distance s a y) p,
-        ap (λ (a : ℕ). distance s a c) p,
+        ap (λ (a : ℕ). openLeg s a y) p,
+        ap (λ (a : ℕ). openLeg s a c) p,
       )
 
   -- behind the last
@@ -95,9 +95,9 @@ module _ (s : Sheet) where
         arith,
         insertion-last (givenOf s) x xs c,
         ap₂ (λ (l m : List ℕ). distanceOf (givenOf s) (l ++ (c ∷ m))) t d,
-        ap₂ (λ (a b : ℕ). distance s a b) p (sym n),
-        ap (λ (a : ℕ). distance s a c) p,
-        ap (λ (b : ℕ). distance s c b) n,
+        ap₂ (λ (a b : ℕ). openLeg s a b) p (sym n),
+        ap (λ (a : ℕ). openLeg s a c) p,
+        ap (λ (b : ℕ). openLeg s c b) n,
       )
 
   -- what c adds in a run that has calls
@@ -108,8 +108,8 @@ module _ (s : Sheet) where
 
   -- and in run k of several
   pub total-put : (rs : List (List ℕ)) → All Calls rs → (k pos c : ℕ) → k < length rs → pos ≤ length (runAt rs k)
-      → total (givenOf s) (putIn k pos c rs) + distance s (placeBefore (runAt rs k) pos) (getD (runAt rs k) pos 0)
-      ≡ total (givenOf s) rs + distance s (placeBefore (runAt rs k) pos) c + distance s c (getD (runAt rs k) pos 0)
+      → total (givenOf s) (putIn k pos c rs) + openLeg s (placeBefore (runAt rs k) pos) (getD (runAt rs k) pos 0)
+      ≡ total (givenOf s) rs + openLeg s (placeBefore (runAt rs k) pos) c + openLeg s c (getD (runAt rs k) pos 0)
   total-put [] a k pos c h b = absurd (not-suc-le-zero h)
   total-put (r ∷ rs) a zero pos c h b = omega (arith, insertion r (a .0) pos c b)
   total-put (r ∷ rs) a (suc k) pos c h b = omega (arith, total-put rs (a .1) k pos c (le-of-suc-le-suc h) b)
@@ -117,7 +117,7 @@ module _ (s : Sheet) where
   module _ (S : Sized s) where
     run-most : (run : List ℕ) → Calls run → distanceOf (givenOf s) run ≤ length run * (2 * mostNumber)
     run-most [] h = absurd h
-    run-most (x ∷ xs) h = omega (arith, distance-most s S 0 (x ∷ xs))
+    run-most (x ∷ xs) h = omega (arith, legs-most (openLeg s) (open-small s S) 0 (x ∷ xs))
 
     pub total-most : (rs : List (List ℕ)) → All Calls rs → total (givenOf s) rs ≤ calls rs * (2 * mostNumber)
     total-most [] a = omega arith
@@ -150,8 +150,8 @@ module _ (s : Sheet) (S : Sized s) (T : GivenF) (I : Image s T) where
       let whole = sym (load-more demand run c) ∙ load-same demand (run ++ (c ∷ [])) (c ∷ run) (λ f. last-first f run c) in
       ap₂ carried (ap₂ plus (load-exact run a) (demand-exact c p) ∙ whole) (I .capacity-holds)
 
-  leg-exact : (a b : ℕ) → Place s a → Place s b → legF T a b ≡ fl (distance s a b)
-  leg-exact = distance-exact s S (T .tables) (I .tables-hold)
+  leg-exact : (a b : ℕ) → Place s a → Place s b → legF T a b ≡ fl (openLeg s a b)
+  leg-exact = distance-exact s S (I .none-closed) (T .tables) (I .tables-hold)
 
   before-inside : (run : List ℕ) (pos : ℕ) → All (Place s) run → Place s (placeBefore run pos)
   unfolding placeBefore
@@ -159,22 +159,22 @@ module _ (s : Sheet) (S : Sized s) (T : GivenF) (I : Image s T) where
   before-inside run (suc k) a = call-inside s S run k a
 
   pub adds-exact : (run : List ℕ) (pos c : ℕ) → All (Place s) run → Place s c
-      → addsF (legF T) run pos c ≡ diff (distance s (placeBefore run pos) c + distance s c (getD run pos 0)) (distance s (placeBefore run pos) (getD run pos 0))
+      → addsF (legF T) run pos c ≡ diff (openLeg s (placeBefore run pos) c + openLeg s c (getD run pos 0)) (openLeg s (placeBefore run pos) (getD run pos 0))
   unfolding addsF
   adds-exact run pos c a p =
       let prev = placeBefore run pos in
       let next = getD run pos 0 in
       let before = before-inside run pos a in
       let behind = call-inside s S run pos a in
-      let x = distance-small s S prev c in
-      let y = distance-small s S c next in
-      rw (leg-exact prev c before p, leg-exact c next p behind, leg-exact prev next before behind, fl-add (distance s prev c) (distance s c next) (omega arith) (omega arith))
-      (fl-diff (distance s prev c + distance s c next) (distance s prev next) (omega arith) (omega (arith, distance-small s S prev next)))
+      let x = open-small s S prev c in
+      let y = open-small s S c next in
+      rw (leg-exact prev c before p, leg-exact c next p behind, leg-exact prev next before behind, fl-add (openLeg s prev c) (openLeg s c next) (omega arith) (omega arith))
+      (fl-diff (openLeg s prev c + openLeg s c next) (openLeg s prev next) (omega arith) (omega (arith, open-small s S prev next)))
 
   -- ---- the distance of a run
 
   distance-run-exact : (run : List ℕ) → All (Place s) run → length run ≤ mostCalls → routeDistanceF (legF T) run ≡ fl (distanceOf (givenOf s) run)
-  distance-run-exact run a few = route-distance-exact s S (T .tables) (I .tables-hold) run few a
+  distance-run-exact run a few = route-distance-exact s S (I .none-closed) (T .tables) (I .tables-hold) run few a
 
   -- what goes with a run
   pub saved-exact : (run : List ℕ) → All (Place s) run → length run ≤ mostCalls → savedF T run ≡ fl (distanceOf (givenOf s) run + s .head .fixed)
@@ -183,4 +183,4 @@ module _ (s : Sheet) (S : Sized s) (T : GivenF) (I : Image s T) where
     where
       far : (run : List ℕ) → length run ≤ mostCalls → distanceOf (givenOf s) run ≤ limit
       far [] few = omega arith
-      far (c ∷ cs) few = omega (arith, distance-most s S 0 (c ∷ cs))
+      far (c ∷ cs) few = omega (arith, legs-most (openLeg s) (open-small s S) 0 (c ∷ cs))

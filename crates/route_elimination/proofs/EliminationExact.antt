@@ -15,14 +15,14 @@ use Rattle.basics.specs.Lists.{All}
 use Rattle.bounds.specs.Sized.{Sized, Place}
 use Rattle.bounds.proofs.Inside.{sized, few-calls, calls-inside}
 use Rattle.basics.proofs.ListLaws.{all-take, all-drop}
-use Rattle.bounds.proofs.BoundLaws.{distance-most}
+use Rattle.bounds.proofs.BoundLaws.{legs-most, open-small}
 use Rattle.definitions.specs.Domain.{mostCalls}
 use Rattle.definitions.specs.Sheet.{Sheet}
 use Rattle.definitions.specs.Refusals.{Within, WithinCalls, endsFall}
 use Rattle.definitions.specs.Sort.{rising, sort}
 use Rattle.definitions.specs.RunList.{runsFrom, runsOf}
 use Rattle.theorems.proofs.RunListLaws.{RiseTo, calls-back}
-use Rattle.definitions.specs.Improver.{givenOf, distanceOf, total}
+use Rattle.definitions.specs.Improver.{openLeg, givenOf, distanceOf, total}
 use Rattle.definitions.specs.Elimination.{nonEmpty, Parted, parted, placedAll, emptied, firstEmptied, search, searches, eliminated}
 use Rattle.theorems.proofs.SortLaws.{sort-all}
 use Rattle.theorems.proofs.EliminationLaws.{Calls}
@@ -69,7 +69,7 @@ module _ (s : Sheet) (S : Sized s) (T : GivenF) (I : Image s T) where
       where
         go : (run : List ℕ) → Calls run → length run ≤ mostCalls → distanceOf (givenOf s) run + s .head .fixed ≤ halves
         go [] c few = absurd c
-        go (x ∷ xs) c few = omega (arith, distance-most s S 0 (x ∷ xs), S .fixed-small)
+        go (x ∷ xs) c few = omega (arith, legs-most (openLeg s) (open-small s S) 0 (x ∷ xs), S .fixed-small)
 
     room : calls (p .rest) + length moving ≤ mostCalls
     room = omega (arith, sort-length (bySeats (givenOf s .demand)) (p .run), P .few)

@@ -15,10 +15,11 @@ use Rattle.models.specs.declared.load.Space.{Space}
 use Rattle.models.specs.Load.{spaceOf}
 use Rattle.evaluation.specs.Records.{Tables, lent}
 use Rattle.evaluation.specs.Tables as Tables
-use Rattle.evaluation.specs.Tables.{distanceF, placeBefore}
+use Rattle.evaluation.specs.Tables.{placeBefore}
 use Rattle.evaluation.specs.Route.{feasibleF}
 use Rattle.cut_stops.specs.Stops.{Numbers, listed}
 use Rattle.improve_base.specs.declared.search.Search.{Search}
+use Rattle.improve_base.specs.Leg.{distanceF}
 use Rattle.improve_base.specs.Search.{SearchF, searchOf}
 use Rattle.improve_runs.specs.RunLists.{Runs, runsIn, Sound, runAt, insertAt, putIn}
 use Rattle.route_elimination.specs.declared.insertion.Spot.{Spot}

@@ -6,6 +6,7 @@ ghost use Prim.Native.Nat.{_≤_};
 ghost use lib.ListN.{length};
 ghost use Rattle.evaluation.specs.Tables.{askedF};
 ghost use Rattle.cut_stops.specs.Stops.{numbers, Long};
+ghost use Rattle.improve_base.specs.Leg.{AllOpen};
 ghost use Rattle.improve_runs.specs.RunLists.{room, Sound, runs, runsIn};
 ghost use Rattle.route_elimination.specs.Loads.{roomF, Loaded};
 ghost use Rattle.route_elimination.specs.Insertion.{givenIn, legF, nowhereF, folded, offered, leastIn, leastOf, eachFrom, betterIn, betterOf};
@@ -36,6 +37,7 @@ pub fn bound_in(
 ) -> Spot
     requires { let lists = numbers (now codes) (now figures) in
         ⌜ Long lists × (length (now route) ≤ room) × (given .search .constrained ≡ true) ⌝ }
+    requires { ⌜ AllOpen (now distances) × AllOpen (now times) ⌝ }
     ensures { λ r.
         let lists = numbers (now (codes .entry)) (now (figures .entry)) in
         let G = givenIn given lists (now (distances .entry)) (now (times .entry)) in
@@ -77,6 +79,7 @@ pub fn bound_of(
     requires { let rest = runs (now calls) (now ends) many count in
         ⌜ Sound rest × Loaded (askedF (now demands)) (runsIn rest) 256 (now loads) ⌝ }
     requires { ⌜ Long (numbers (now codes) (now figures)) × (given .search .constrained ≡ true) ⌝ }
+    requires { ⌜ AllOpen (now distances) × AllOpen (now times) ⌝ }
     ensures { λ r.
         let lists = numbers (now (codes .entry)) (now (figures .entry)) in
         let G = givenIn given lists (now (distances .entry)) (now (times .entry)) in

@@ -5,9 +5,10 @@ ghost use mathlib.Core.Bool.{true};
 ghost use Prim.Native.Nat.{_+_, _≤_};
 ghost use lib.ListN.{length};
 ghost use Rattle.basics.specs.Lists.{only};
-ghost use Rattle.distance.specs.Lookup.{lookupF};
+ghost use Rattle.distance.specs.Lookup.{numberF};
 ghost use Rattle.evaluation.specs.Tables.{askedF, Asks};
 ghost use Rattle.cut_stops.specs.Stops.{numbers, Long, recordsIn};
+ghost use Rattle.improve_base.specs.Leg.{AllOpen};
 ghost use Rattle.improve_runs.specs.RunLists.{room, Sound, runs, runsIn};
 ghost use Rattle.route_elimination.specs.Loads.{roomF, Loaded};
 ghost use Rattle.route_elimination.specs.Insertion.{givenIn, legF, nowhereF, folded, offered, placesIn, placesOf, eachFrom, upTo, betterIn, betterOf, bestF, wantedF, Wants, Finds};
@@ -60,7 +61,8 @@ pub fn next_wanted(
     size: usize,
 ) -> usize
     requires { ⌜ (length (now route) ≤ room) × (from ≤ length (now route) + 1) ⌝ }
-    ensures { λ r. ⌜ Wants mover bound best (lookupF (now (distances .entry)) size) (now (route .entry)) from r ⌝ }
+    requires { ⌜ AllOpen (now distances) ⌝ }
+    ensures { λ r. ⌜ Wants mover bound best (numberF (now (distances .entry)) size) (now (route .entry)) from r ⌝ }
 {
     let c = mover.call;
     let mut pos = from;
@@ -90,6 +92,7 @@ pub fn best_in(
 ) -> Spot
     requires { let lists = numbers (now codes) (now figures) in
         ⌜ Long lists × (length (now route) ≤ room) × (given .search .constrained ≡ true) ⌝ }
+    requires { ⌜ AllOpen (now distances) × AllOpen (now times) ⌝ }
     ensures { λ r.
         let lists = numbers (now (codes .entry)) (now (figures .entry)) in
         let G = givenIn given lists (now (distances .entry)) (now (times .entry)) in
@@ -150,6 +153,7 @@ pub fn best_offered(
 ) -> Spot
     requires { let lists = numbers (now codes) (now figures) in
         ⌜ Long lists × (length (now route) ≤ room) × (given .search .constrained ≡ true) ⌝ }
+    requires { ⌜ AllOpen (now distances) × AllOpen (now times) ⌝ }
     ensures { λ r.
         let lists = numbers (now (codes .entry)) (now (figures .entry)) in
         let G = givenIn given lists (now (distances .entry)) (now (times .entry)) in
@@ -192,6 +196,7 @@ pub fn best_tested(
     requires { let rest = runs (now calls) (now ends) many count in
         ⌜ Sound rest × Loaded (askedF (now demands)) (runsIn rest) 256 (now loads) ⌝ }
     requires { ⌜ Long (numbers (now codes) (now figures)) × (given .search .constrained ≡ true) ⌝ }
+    requires { ⌜ AllOpen (now distances) × AllOpen (now times) ⌝ }
     ensures { λ r.
         let lists = numbers (now (codes .entry)) (now (figures .entry)) in
         let G = givenIn given lists (now (distances .entry)) (now (times .entry)) in
@@ -246,6 +251,7 @@ pub fn best_place(
         ⌜ Sound rest × Loaded (askedF (now demands)) (runsIn rest) 256 (now loads) ⌝ }
     requires { let lists = numbers (now codes) (now figures) in
         ⌜ Long lists × Asks (recordsIn lists) (now demands) ⌝ }
+    requires { ⌜ AllOpen (now distances) × AllOpen (now times) ⌝ }
     ensures { λ r.
         let lists = numbers (now (codes .entry)) (now (figures .entry)) in
         let G = givenIn given lists (now (distances .entry)) (now (times .entry)) in

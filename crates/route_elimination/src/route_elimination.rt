@@ -8,6 +8,7 @@ ghost use Rattle.definitions.specs.RunList.{runsOf};
 ghost use Rattle.definitions.specs.Refusals.{endsFall};
 ghost use Rattle.evaluation.specs.Tables.{Asks};
 ghost use Rattle.cut_stops.specs.Stops.{numbers, Long, recordsIn};
+ghost use Rattle.improve_base.specs.Leg.{AllOpen};
 ghost use Rattle.improve_runs.specs.RunLists.{room, Sound, runs, runsIn};
 ghost use Rattle.route_elimination.specs.Insertion.{givenIn, lentGiven};
 ghost use Rattle.route_elimination.specs.Elimination.{finiteF, partAt, Tries, emptiedF, eliminatedF, Eliminates, lists, Leaves};
@@ -70,6 +71,7 @@ pub fn emptied(
     requires { ⌜ (length (now «rest_calls») ≡ room) × (length (now «rest_ends») ≡ room) ⌝ }
     requires { let lists = numbers (now codes) (now figures) in
         ⌜ Long lists × Asks (recordsIn lists) (now demands) ⌝ }
+    requires { ⌜ AllOpen (now distances) × AllOpen (now times) ⌝ }
     ensures { λ goes.
         let lists = numbers (now (codes .entry)) (now (figures .entry)) in
         let G = givenIn given lists (now (distances .entry)) (now (times .entry)) in
@@ -126,6 +128,7 @@ pub fn eliminate(
     requires { ⌜ Sound (runs (now calls) (now ends) many count) ⌝ }
     requires { let lists = numbers (now codes) (now figures) in
         ⌜ Long lists × Asks (recordsIn lists) (now demands) ⌝ }
+    requires { ⌜ AllOpen (now distances) × AllOpen (now times) ⌝ }
     ensures { λ left.
         let lists = numbers (now (codes .entry)) (now (figures .entry)) in
         let G = givenIn given lists (now (distances .entry)) (now (times .entry)) in
@@ -189,6 +192,7 @@ pub fn eliminate_routes(
     requires { let rise = endsFall 0 (now ends) (length (now calls)) ≡ false in
         ⌜ (length (now calls) ≤ 128) × (length (now ends) ≤ 128) × rise ⌝ }
     requires { ⌜ (length (now calls) ≤ length (now «out_calls»)) × (length (now ends) ≤ length (now «out_ends»)) ⌝ }
+    requires { ⌜ AllOpen (now distances) × AllOpen (now times) ⌝ }
     ensures { λ r.
         let G = lentGiven customers (now (distances .entry)) (now (times .entry)) size capacity fixed search in
         let old = lists (now («out_calls» .entry)) (now («out_ends» .entry)) in

@@ -5,6 +5,7 @@ ghost use Prim.Native.Nat.{_≤_};
 ghost use lib.ListN.{length, take};
 ghost use Rattle.evaluation.specs.Route.{feasibleF};
 ghost use Rattle.cut_stops.specs.Stops.{numbers, Long};
+ghost use Rattle.improve_base.specs.Leg.{AllOpen};
 ghost use Rattle.improve_base.specs.Prefix.{prefixOf, Leads};
 ghost use Rattle.improve_runs.specs.RunLists.{room, Sound, runs, runsIn, runAt, insertAt};
 ghost use Rattle.route_elimination.specs.Insertion.{givenIn, paysF, allowedF, Inside};
@@ -60,6 +61,7 @@ pub fn is_feasible_after(
     requires { ⌜ Long (numbers (now codes) (now figures)) × (length (now route) ≤ room) × (pos ≤ length (now route)) ⌝ }
     requires { let G = givenIn given (numbers (now codes) (now figures)) (now distances) (now times) in
         ⌜ Leads (G .tables) (G .search .limits) (take pos (now route)) (prefixOf prefix) ⌝ }
+    requires { ⌜ AllOpen (now distances) × AllOpen (now times) ⌝ }
     ensures { λ r.
         let lists = numbers (now (codes .entry)) (now (figures .entry)) in
         let G = givenIn given lists (now (distances .entry)) (now (times .entry)) in
@@ -93,6 +95,7 @@ pub fn is_feasible_with(
     times: &[f64],
 ) -> bool
     requires { ⌜ Long (numbers (now codes) (now figures)) × (length (now route) ≤ room) × (pos ≤ length (now route)) ⌝ }
+    requires { ⌜ AllOpen (now distances) × AllOpen (now times) ⌝ }
     ensures { λ r.
         let lists = numbers (now (codes .entry)) (now (figures .entry)) in
         let G = givenIn given lists (now (distances .entry)) (now (times .entry)) in
@@ -140,6 +143,7 @@ pub fn is_allowed(
 ) -> bool
     requires { let rest = runs (now calls) (now ends) many count in
         ⌜ Sound rest × Inside (runsIn rest) spot × Long (numbers (now codes) (now figures)) ⌝ }
+    requires { ⌜ AllOpen (now distances) × AllOpen (now times) ⌝ }
     ensures { λ r.
         let lists = numbers (now (codes .entry)) (now (figures .entry)) in
         let G = givenIn given lists (now (distances .entry)) (now (times .entry)) in
@@ -183,6 +187,7 @@ pub fn better(
         ⌜ Long lists × (length (now route) ≤ room) × (spot .pos ≤ length (now route)) ⌝ }
     requires { let G = givenIn given (numbers (now codes) (now figures)) (now distances) (now times) in
         ⌜ Leads (G .tables) (G .search .limits) (take (spot .pos) (now route)) (prefixOf prefix) ⌝ }
+    requires { ⌜ AllOpen (now distances) × AllOpen (now times) ⌝ }
     ensures { λ r.
         let lists = numbers (now (codes .entry)) (now (figures .entry)) in
         let G = givenIn given lists (now (distances .entry)) (now (times .entry)) in

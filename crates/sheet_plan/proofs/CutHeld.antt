@@ -9,8 +9,8 @@ use Rattle.definitions.specs.Drop.{Result, splitTw}
 use Rattle.definitions.specs.Room.{written}
 use Rattle.models.specs.declared.customer.Customer.{Customer}
 use Rattle.models.specs.declared.head.Head.{Head}
-use Rattle.split.specs.declared.split.SplitResult.{SplitResult}
-use Rattle.split.specs.Answer.{ResultF, Counted}
+use Rattle.split_tw.specs.declared.answer.SplitResult.{SplitResult}
+use Rattle.split_tw.specs.Answer.{ResultF, Counted}
 use Rattle.cut_rows.specs.Runs.{lent}
 use Rattle.split_tw.specs.SplitTw.{splitTwF}
 use Rattle.cut_exact.proofs.Image.{flResult}

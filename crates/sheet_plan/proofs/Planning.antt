@@ -19,7 +19,7 @@ use Rattle.models.specs.declared.customer.Customer.{Customer}
 use Rattle.models.specs.declared.head.Head.{Head}
 use Rattle.models.specs.Records.{restOf}
 use Rattle.evaluation.specs.Records.{LimitsF, TakenF, lent}
-use Rattle.split.specs.declared.split.SplitResult.{SplitResult}
+use Rattle.split_tw.specs.declared.answer.SplitResult.{SplitResult}
 use Rattle.cut_table.proofs.Fronts.{front, inside, counted}
 use Rattle.sheet_loaded.specs.Held.{InMemory}
 use Rattle.sheet_loaded.proofs.HeadHeld.{held-limits}

@@ -6,7 +6,7 @@ use lib.ListN.{length}
 use Rattle.whole.specs.Whole.{fl}
 use Rattle.definitions.specs.Drop.{Result}
 use Rattle.definitions.specs.Room.{written}
-use Rattle.split.specs.declared.split.SplitResult.{SplitResult}
+use Rattle.split_tw.specs.declared.answer.SplitResult.{SplitResult}
 
 -- the lists that a cut is written to, as they are before or after it
 pub record CutLists : Type 0 where

@@ -13,7 +13,7 @@ use Rattle.definitions.specs.Drop.{Result, splitTw}
 use Rattle.definitions.specs.Marker.{withPlaces}
 use Rattle.definitions.specs.Room.{written}
 use Rattle.definitions.specs.RunList.{runsOf}
-use Rattle.split.specs.declared.split.SplitResult.{SplitResult}
+use Rattle.split_tw.specs.declared.answer.SplitResult.{SplitResult}
 use Rattle.sheet_plan.specs.Cut.{CutLists, cutLists, CutLeft}
 
 -- the cutting of `split_tw`, and when the break of each run starts, 0 where it has none

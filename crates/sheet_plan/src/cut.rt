@@ -8,7 +8,7 @@ ghost use Rattle.sheet_loaded.specs.Held.{InMemory, Held};
 ghost use Rattle.sheet_plan.specs.Cut.{cutLists, CutLeft};
 use models::customer::Customer;
 use models::head::Head;
-use split::split::SplitResult;
+use split_tw::answer::SplitResult;
 use split_tw::split_tw::split_tw;
 
 // The served customers, the run ends and the dropped positions are written at the front of the lists.

@@ -13,7 +13,7 @@ use models::customer::Customer;
 use models::head::Head;
 use sheet_loaded::load::load;
 use sheet_read::read::Contents;
-use split::split::SplitResult;
+use split_tw::answer::SplitResult;
 
 // The plan of the tour on the sheet that is held. Its lists are written at the front of those lent; what the cut comes
 // to is returned.

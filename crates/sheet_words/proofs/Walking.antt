@@ -11,13 +11,14 @@ use lib.Dec.{eqb, leb, ltb}
 use borrow.Author.Tests.{eqb-true, leb-true, ltb-true}
 use Rattle.basics.proofs.TestLaws.{by-test, and-right, not-false}
 use Rattle.definitions.specs.Words.{Word, word}
-use Rattle.definitions.specs.Reader.{State, refused, start, next, inRange, faults, faultAt, behind, walk}
+use Rattle.definitions.specs.Reader.{State, refused, start, next, mayStand, inRange, among, faults, faultAt, behind, walk}
 use Rattle.theorems.proofs.InOrder.{none-fits}
 use Rattle.refuse_lists.specs.Called.{noneCalled, Notes}
 use Rattle.refuse_lists.proofs.Calling.{none-noted, one-noted}
 use Rattle.sheet_words.specs.declared.state.State as Code
 use Rattle.sheet_words.specs.Held.{noWord, stateWith, stateOf, notesWith}
 use Rattle.sheet_words.proofs.ByIndex.{words-from}
+use Rattle.sheet_words.proofs.Facing.{Facing, none-facing, facing-next}
 
 -- ws are the words, and left says whether bytes are left over behind them
 module _ (ws : List Word) (left : Bool) (i : ℕ) where
@@ -46,9 +47,14 @@ module _ (ws : List Word) (left : Bool) (i : ℕ) where
       walk-on f k = rw (words-from ws i w h e, ← f, k)
 
 -- what a word without fault passed
-in-range : (s : State) (i : ℕ) (w : Word) → faultAt s i w ≡ none → inRange s w ≡ true
-unfolding faultAt
-in-range s i w h = not-false (inRange s w) (none-fits (faults s i w) h 1)
+module _ (s : State) (i : ℕ) (w : Word) (h : faultAt s i w ≡ none) where
+  stands : among (w .kind) (mayStand s) ≡ true
+  unfolding faultAt
+  stands = not-false (among (w .kind) (mayStand s)) (none-fits (faults s i w) h 11)
+
+  in-range : inRange s w ≡ true
+  unfolding faultAt
+  in-range = not-false (inRange s w) (none-fits (faults s i w) h 1)
 
 -- ---- the loop
 
@@ -62,14 +68,27 @@ pub record Reached (ws : List Word) (left : Bool) (s : Code.State) (called : Lis
   pub calls : List ℕ
   pub long : length called ≡ 64
   pub notes : Notes called calls
-  pub same : walk (stateWith calls s) i (drop i ws) left ≡ walk start 0 ws left
+  -- the distances whose times have yet to come, which stand among the words
+  pub distances : List ℕ
+  pub facing : Facing ws (stateWith calls distances s) i
+  pub same : walk (stateWith calls distances s) i (drop i ws) left ≡ walk start 0 ws left
 
 module _ (ws : List Word) (left : Bool) where
   pub set-out : (s : Code.State) → stateOf s ≡ start → Reached ws left s noneCalled 0
   set-out s e =
       let r : s .row ≡ 0 = ap (λ (t : State). t .row) e in
       let p : s .places ≡ 0 = ap (λ (t : State). t .places) e in
-      record { inside = omega arith; few = omega arith; few-places = omega arith; calls = []; long = refl; notes = none-noted; same = rw e }
+      record {
+        inside = omega arith;
+        few = omega arith;
+        few-places = omega arith;
+        calls = [];
+        long = refl;
+        notes = none-noted;
+        distances = [];
+        facing = rw e (none-facing ws);
+        same = rw e;
+      }
 
   -- a row has at most one word more behind a word
   row-grows : (s : State) (w : Word) → next s w .row ≤ suc (s .row)
@@ -93,11 +112,16 @@ module _ (ws : List Word) (left : Bool) where
         rw t (length-set called v true ∙ long, one-noted called (s .called) v (omega arith) M))
         (λ f. rw f (long, M))
 
+  -- what the code's state is beside
+  abbrev pub stateAt : (s : Code.State) (called : List Bool) (i : ℕ) → Reached ws left s called i → State
+  stateAt s called i r = stateWith (r .calls) (r .distances) s
+
   pub turn : (s t : Code.State) (called after : List Bool) (i k : ℕ) (w : Word) (r : Reached ws left s called i) → i < length ws → w ≡ getD ws i noWord
-      → none ≡ faultAt (stateWith (r .calls) s) i w → eqb (w .kind) 0xF ≡ false → stateWith (next (stateWith (r .calls) s) w .called) t ≡ next (stateWith (r .calls) s) w
+      → none ≡ faultAt (stateAt s called i r) i w → eqb (w .kind) 0xF ≡ false
+      → stateWith (next (stateAt s called i r) w .called) (next (stateAt s called i r) w .facing) t ≡ next (stateAt s called i r) w
       → after ≡ notesWith called w → k ≡ suc i → Reached ws left t after k
   turn s t called after i k w r h e f n g m q =
-      let was = stateWith (r .calls) s in
+      let was = stateAt s called i r in
       let row : t .row ≡ next was w .row = ap (λ (u : State). u .row) g in
       let places : t .places ≡ next was w .places = ap (λ (u : State). u .places) g in
       let grows = row-grows was w in
@@ -110,5 +134,7 @@ module _ (ws : List Word) (left : Bool) where
         calls = next was w .called;
         long = rw m (noted .0);
         notes = rw m (noted .1);
+        distances = next was w .facing;
+        facing = rw (q, g) (facing-next ws was i (r .facing) w e (stands was i w (sym f)) fit n);
         same = rw (q, g) (walk-on ws left i was w h e f n ∙ r .same);
       }

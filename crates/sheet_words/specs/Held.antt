@@ -21,13 +21,15 @@ heldWord w = record { kind = w .kind; value = w .value }
 abbrev pub noWord : D.Word
 noWord = D.word 16 0
 
--- the code's state beside the calls of the tour so far, of which the code has notes
-abbrev pub stateWith : List ℕ → State → Reader.State
-stateWith called s = record { last = heldWord (s .last); row = s .row; places = s .places; coming = s .coming; called = called }
+-- the code's state beside the calls of the tour so far, of which the code has notes, and the distances whose times have yet to come, which
+-- the code finds among the words
+abbrev pub stateWith : List ℕ → List ℕ → State → Reader.State
+stateWith called facing s =
+    record { last = heldWord (s .last); row = s .row; places = s .places; coming = s .coming; called = called; facing = facing }
 
 -- for the tests that do not ask which those are
 abbrev pub stateOf : State → Reader.State
-stateOf s = stateWith [] s
+stateOf s = stateWith [] [] s
 
 -- the notes of the customers called, behind one more word
 abbrev pub notesWith : List Bool → D.Word → List Bool

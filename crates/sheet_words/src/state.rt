@@ -1,18 +1,20 @@
 // What the words so far leave to be known, which words may stand next, and what is wrong with a word.
 ghost use mathlib.Core.Path.{_≡_};
-ghost use mathlib.Core.Bool.{cond, _&&_, _||_, not};
+ghost use mathlib.Core.Bool.{cond, _&&_, _||_, not, true};
 ghost use mathlib.Core.List.{List, [], _∷_};
 ghost use Prim.Native.Nat.{ℕ, suc, pred, _*_, _^_, _<_};
 ghost use lib.Dec.{eqb, ltb};
 ghost use Rattle.basics.specs.Options.{valueOr};
 ghost use Rattle.definitions.specs.Domain.{isCapacity, isDemand};
 ghost use Rattle.definitions.specs.Reader as Reader;
-ghost use Rattle.definitions.specs.Reader.{among, onward, behindSecond, mayStand, inRange, repeated, pairFalls, faultAt};
+ghost use Rattle.definitions.specs.Reader.{among, onward, behindSecond, mayStand, inRange, repeated, pairFalls};
+ghost use Rattle.definitions.specs.Reader.{closureDiffers, faultAt};
 ghost use Rattle.sheet_words.specs.Held.{heldWord, stateWith, stateOf, faultOf};
 use crate::Word;
 use models::domain::is_call;
 use models::domain::is_capacity;
 use models::domain::is_demand;
+use models::domain::is_leg;
 use models::domain::is_number;
 use models::domain::is_penalty;
 use models::domain::is_places;
@@ -119,9 +121,9 @@ impl State {
     pub fn next(self, w: Word) -> Self
         requires { ⌜ suc (self .row) < 2 ^ 64 ⌝ }
         ensures { λ r.
-            ⌜ ((called : List ℕ) →
-            let after = Reader.next (stateWith called self) (heldWord w) in
-            stateWith (after .called) r ≡ after) ⌝ }
+            ⌜ ((called facing : List ℕ) →
+            let after = Reader.next (stateWith called facing self) (heldWord w) in
+            stateWith (after .called) (after .facing) r ≡ after) ⌝ }
     {
         State {
             last: w,
@@ -243,6 +245,8 @@ impl State {
             2 => is_capacity(w.value),
             7 => is_demand(w.value),
             0xB => is_penalty(w.value),
+            0xC => is_leg(w.value),
+            0xD => is_leg(w.value),
             0xE => is_call(self.places as usize, w.value as usize),
             0xF => true,
             0 => self.second_in_range(w.value),
@@ -271,30 +275,38 @@ impl State {
     }
 
     // The number of what is wrong with the word of index i, and 0 where nothing is: `again` says whether it calls a
-    // customer that was called before. Every test is made, whatever the others say.
-    pub fn number_at(self, i: usize, w: Word, again: bool) -> u32
+    // customer that was called before, and `differs`, of a word that may stand, whether it is a time that disagrees on
+    // closure with its distance. Every test is made, whatever the others say.
+    pub fn number_at(self, i: usize, w: Word, again: bool, differs: bool) -> u32
         ensures { λ r.
-            ⌜ ((called : List ℕ) → again ≡ repeated (stateWith called self) (heldWord w)
-            → r ≡ valueOr 0 (faultAt (stateWith called self) i (heldWord w))) ⌝ }
+            ⌜ ((called facing : List ℕ) →
+            let s = stateWith called facing self in
+            again ≡ repeated s (heldWord w)
+            → (among (w .kind) (mayStand s) ≡ true → differs ≡ closureDiffers s (heldWord w))
+            → r ≡ valueOr 0 (faultAt s i (heldWord w))) ⌝ }
     {
-        let numbers = [11, 1, 21, 2, 3];
+        let numbers = [11, 1, 21, 2, 22, 3];
         let fits = [
             !self.may_stand(w.kind),
             !self.in_range(w),
             again,
             self.pair_falls(w),
+            differs,
             wrong_count(w, i),
         ];
         first_fit(&numbers, &fits)
     }
 
     // What is wrong with the word of index i.
-    pub fn fault_at(self, i: usize, w: Word, again: bool) -> Fault
+    pub fn fault_at(self, i: usize, w: Word, again: bool, differs: bool) -> Fault
         ensures { λ r.
-            ⌜ ((called : List ℕ) → again ≡ repeated (stateWith called self) (heldWord w)
-            → faultOf r ≡ faultAt (stateWith called self) i (heldWord w)) ⌝ }
+            ⌜ ((called facing : List ℕ) →
+            let s = stateWith called facing self in
+            again ≡ repeated s (heldWord w)
+            → (among (w .kind) (mayStand s) ≡ true → differs ≡ closureDiffers s (heldWord w))
+            → faultOf r ≡ faultAt s i (heldWord w)) ⌝ }
     {
-        let number = self.number_at(i, w, again);
+        let number = self.number_at(i, w, again, differs);
         if number == 0 {
             return Fault::Sound;
         }

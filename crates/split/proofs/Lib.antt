@@ -1,7 +1,4 @@
--- What is gathered once for a cut by capacity alone.
-pub mod Gathered
--- From the table to the cut, and to the answer.
-pub mod Cutting
-pub mod Answering
--- The calls that no vehicle carries, left out.
-pub mod Keeping
+-- The records, one after the other, without windows and penalties.
+pub mod Bared
+-- What is lent, without windows, penalties, limits and break.
+pub mod Bare

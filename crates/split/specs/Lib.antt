@@ -1,4 +1,4 @@
--- What a cutting gives.
-pub mod Answer
--- The cut by capacity alone.
+-- What is lent to the cut.
 pub mod Split
+-- The same by what the cut is lent itself.
+pub mod Bare

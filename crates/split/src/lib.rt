@@ -1,2 +1,2 @@
-// The cut of a giant tour into runs by capacity alone.
+// The cut of a giant tour into runs by loads and closed legs alone.
 pub mod split;

@@ -19,7 +19,7 @@ use Rattle.split_tw.specs.SplitTw.{Settled}
 use Rattle.cut_drops.specs.Drops.{dropsF}
 use Rattle.cut_drops.specs.Refill.{Given, instanceWith, ListsOf, SomeLists, Stayed, Unfilled, Holds}
 use Rattle.cut_table.proofs.Writing.{front-written}
-use Rattle.split.proofs.Cutting.{table-falls, table-cut}
+use Rattle.split_tw.proofs.Cutting.{table-falls, table-cut}
 
 module _ (E : Given) (customers : List Customer) (calls tour : List ℕ) (e : calls ≡ tour) (W : ListsOf E tour customers) where
   lists : ListsOf E calls customers

@@ -9,7 +9,7 @@ use Rattle.definitions.specs.Drop.{callsAt}
 use Rattle.cut_rows.specs.Tariff.{CutDone}
 use Rattle.cut_rows.specs.Runs.{Instance, tariff}
 use Rattle.cut_drops.specs.Drops.{dropsF}
-use Rattle.split.specs.Answer.{ResultF, planF}
+use Rattle.split_tw.specs.Answer.{ResultF, planF}
 
 module _ (I : Instance) where
   -- those held at the end are cut

@@ -8,8 +8,9 @@ ghost use Rattle.definitions.specs.Room.{written};
 ghost use Rattle.cut_stops.specs.Stops.{Below64};
 ghost use Rattle.cut_rows.specs.Runs.{lent};
 ghost use Rattle.cut_drops.specs.Drops.{dropsF};
-ghost use Rattle.split.specs.Answer.{Counted};
+ghost use Rattle.split_tw.specs.Answer.{Counted};
 ghost use Rattle.split_tw.specs.SplitTw.{Settled, splitTwF};
+use crate::answer::SplitResult;
 use cut_drops::hold::hold;
 use cut_rows::terms::Terms;
 use cut_stops::stops::ALL_CODES;
@@ -22,7 +23,6 @@ use cut_table::held::write_front;
 use models::customer::Customer;
 use models::limits::RouteLimits;
 use models::load::Space;
-use split::split::SplitResult;
 use whole::infinity;
 
 // What the drops come to: how many calls are held at the end, and their cut.

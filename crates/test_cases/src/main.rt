@@ -9,7 +9,7 @@ use evaluation::route::Start;
 use io::print_decimal;
 use io::write_all;
 use listing_lines::number::whole_part;
-use split::split::SplitResult;
+use split_tw::answer::SplitResult;
 use test_sheets::changes::Change;
 use test_sheets::changes::changed;
 use test_sheets::digits::begin;

@@ -5,8 +5,8 @@ use mathlib.Core.List.{List}
 use lib.ListN.{length, take}
 use Rattle.definitions.specs.Room.{written}
 use Rattle.cut_table.proofs.Fronts.{front, inside, counted}
-use Rattle.split.specs.declared.split.SplitResult.{SplitResult}
-use Rattle.split.specs.Answer.{ResultF, Counted}
+use Rattle.split_tw.specs.declared.answer.SplitResult.{SplitResult}
+use Rattle.split_tw.specs.Answer.{ResultF, Counted}
 use Rattle.test_lists.specs.Answers.{result}
 
 -- three lists, for the served customers, the run ends and the dropped positions

@@ -9,8 +9,10 @@ use Rattle.cut_theory.specs.Tab.{mostCut}
 use Rattle.definitions.specs.Load.{Load}
 use Rattle.definitions.specs.Sheet.{Sheet, CustomerOf}
 use Rattle.definitions.specs.Reader.{sheet, refusedAt, read}
-use Rattle.bounds.proofs.Inside as Inside
+use Rattle.bounds.proofs.Inside.{few-tour}
 use Rattle.evaluation.specs.Records.{LimitsF}
+use Rattle.cut_stops.specs.Stops.{Below64}
+use Rattle.cut_exact.proofs.Exact.{below-64}
 use Rattle.improve_base.specs.Search.{searchF}
 use Rattle.route_elimination.specs.Insertion.{GivenF}
 use Rattle.sheet_loaded.specs.declared.load.Loaded.{Loaded}
@@ -30,10 +32,12 @@ same-given : {c c' : List (CustomerOf Float)} {d d' t t' : List Float} {n n' : �
 same-given a b e g h i j = rw (a, b, e, g, h, i, j) refl
 
 module _ {s : Sheet} {tour : List ℕ} {l : Loaded} {old new : Arrays} (H : Holds s tour l old new) where
-  pub few-tour : length (take (l .calls) (new .tour)) ≤ mostCut
-  few-tour =
+  -- its tour is as the cut takes it
+  pub cuttable : (length (take (l .calls) (new .tour)) ≤ mostCut) × Below64 (take (l .calls) (new .tour))
+  cuttable =
       let M = H .in-memory in
-      Inside.few-tour s (M .within) (take (l .calls) (new .tour)) (M .calls) (M .once)
+      let calls = take (l .calls) (new .tour) in
+      (few-tour s (M .within) calls (M .calls) (M .once), below-64 s (M .within) calls (M .calls))
 
   given-is : givenIn l (take (l .«distance_count») (new .distances)) (take (l .«time_count») (new .times)) ≡ givenOf s
   given-is =

@@ -18,8 +18,10 @@ use Rattle.evaluation.specs.Image.{flLimits}
 use Rattle.sheet_read.specs.Parts.{depots}
 use Rattle.improve_base.specs.Search.{searchF}
 use Rattle.route_elimination.specs.Insertion.{GivenF}
-use Rattle.split.specs.Answer.{ResultF}
-use Rattle.split.specs.Split.{Instance, splitF}
+use Rattle.cut_rows.specs.Runs.{Instance}
+use Rattle.split_tw.specs.Answer.{ResultF}
+use Rattle.split_tw.specs.SplitTw.{splitTwF}
+use Rattle.split.specs.Bare.{bareOf}
 use Rattle.test_runs.specs.Alike.{sameList}
 use Rattle.test_runs.specs.Along.{Short}
 use Rattle.test_runs.specs.Words.{Words, line, figure, numbers}
@@ -45,11 +47,9 @@ givenOf s =
       search = searchF customers (s .head .places) (flLimits s);
     }
 
--- what the cut by capacity alone is given of it
+-- what the cut by loads and closed legs alone is given of it
 abbrev pub bare : GivenF → Instance
-bare G =
-    let t = G .tables in
-    record { customers = t .customers; distances = t .distances; size = t .size; capacity = G .capacity; fixed = G .fixed }
+bare G = bareOf (record { tables = G .tables; capacity = G .capacity; fixed = G .fixed; limits = G .search .limits })
 
 -- what a cut gives, by its parts
 abbrev pub result : (served ends dropped : List ℕ) (cost distance : Float) → ResultF
@@ -66,7 +66,7 @@ cutWords x =
 
 -- what is made of the runs of these calls, and the cut of the tour
 abbrev pub answerWords : GivenF → (tour calls ends : List ℕ) → Words
-answerWords G tour calls ends = runsWords G (runsOf calls ends) ++ cutWords (splitF (bare G) tour)
+answerWords G tour calls ends = runsWords G (runsOf calls ends) ++ cutWords (splitTwF (bare G) tour)
 
 abbrev pub textOf : Words → List ℕ
 textOf [] = []

@@ -5,6 +5,7 @@ ghost use lib.ListN.{length};
 ghost use Rattle.cut_theory.specs.Tab.{mostCut};
 ghost use Rattle.definitions.specs.Domain.{mostCalls};
 ghost use Rattle.definitions.specs.Reader as Reader;
+ghost use Rattle.cut_stops.specs.Stops.{Below64};
 ghost use Rattle.sheet_loaded.specs.Held.{Found};
 ghost use Rattle.test_runs.specs.Along.{Short};
 ghost use Rattle.test_runs.specs.Runs.{givenIn};
@@ -33,7 +34,8 @@ fn text_alike(
     distances: &[f64],
     times: &[f64],
 ) -> bool
-    requires { ⌜ Fits (now calls) (now ends) (now recorded) × (length (now tour) ≤ mostCut) ⌝ }
+    requires { ⌜ Fits (now calls) (now ends) (now recorded) ⌝ }
+    requires { ⌜ (length (now tour) ≤ mostCut) × Below64 (now tour) ⌝ }
     ensures { λ r.
         let G = givenIn held (now (distances .entry)) (now (times .entry)) in
         let tour = now (tour .entry) in
@@ -43,7 +45,7 @@ fn text_alike(
         return false;
     }
     let mut end = runs_text(recorded, calls, ends, held, distances, times);
-    end = cut_text(recorded, end, tour, held, distances);
+    end = cut_text(recorded, end, tour, held, distances, times);
     end == recorded.len()
 }
 
@@ -57,7 +59,8 @@ fn list_alike(
     distances: &[f64],
     times: &[f64],
 ) -> bool
-    requires { ⌜ Fits (now calls) (now ends) (now recorded) × (length (now tour) ≤ mostCut) ⌝ }
+    requires { ⌜ Fits (now calls) (now ends) (now recorded) ⌝ }
+    requires { ⌜ (length (now tour) ≤ mostCut) × Below64 (now tour) ⌝ }
     ensures { λ r.
         let G = givenIn held (now (distances .entry)) (now (times .entry)) in
         let tour = now (tour .entry) in

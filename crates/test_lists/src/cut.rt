@@ -1,18 +1,20 @@
-// The cut of a tour by capacity alone, as a recorded text says it.
+// The cut of a tour by loads and closed legs alone, as a recorded text says it.
 ghost use mathlib.Core.Path.{_≡_};
 ghost use Prim.Native.Nat.{_≤_};
 ghost use mathlib.Core.List.{[], _∷_, _++_};
 ghost use lib.ListN.{length};
 ghost use Rattle.cut_theory.specs.Tab.{mostCut};
 ghost use Rattle.definitions.specs.Listing.{endOfLine};
-ghost use Rattle.split.specs.Split.{splitF, lent};
+ghost use Rattle.cut_stops.specs.Stops.{Below64};
+ghost use Rattle.split_tw.specs.SplitTw.{splitTwF};
 ghost use Rattle.test_runs.specs.Along.{follows};
 ghost use Rattle.test_runs.specs.Words as Words;
-ghost use Rattle.test_lists.specs.Answers.{result, cutWords};
+ghost use Rattle.test_runs.specs.Runs.{givenIn};
+ghost use Rattle.test_lists.specs.Answers.{bare, result, cutWords};
 use cut_table::cells::MOST_CUT;
 use sheet_loaded::load::Loaded;
-use split::split::SplitResult;
 use split::split::split;
+use split_tw::answer::SplitResult;
 use test_runs::recorded::calls;
 use test_runs::recorded::figure;
 use test_runs::recorded::word;
@@ -66,13 +68,12 @@ pub fn cut_text(
     tour: &[usize],
     held: Loaded,
     distances: &[f64],
+    times: &[f64],
 ) -> usize
-    requires { ⌜ length (now tour) ≤ mostCut ⌝ }
+    requires { ⌜ (length (now tour) ≤ mostCut) × Below64 (now tour) ⌝ }
     ensures { λ r.
-        let head = held .head in
-        let sheet = lent (held .customers) (now (distances .entry))
-        (head .places) (head .capacity) (head .«fixed_cost») in
-        ⌜ r ≡ follows (now (recorded .entry)) at (cutWords (splitF sheet (now (tour .entry)))) ⌝ }
+        let sheet = bare (givenIn held (now (distances .entry)) (now (times .entry))) in
+        ⌜ r ≡ follows (now (recorded .entry)) at (cutWords (splitTwF sheet (now (tour .entry)))) ⌝ }
 {
     let head = held.head;
     let customers = held.customers;
@@ -83,6 +84,7 @@ pub fn cut_text(
         tour,
         customers,
         distances,
+        times,
         head.places,
         head.capacity,
         head.fixed_cost,

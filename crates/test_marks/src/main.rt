@@ -101,6 +101,10 @@ fn show_fault(verdict: Verdict) {
             load,
             capacity,
         } => over(b"wheelchair overload", run, load, wide(capacity)),
+        Verdict::RoadClosed { run, leg } => {
+            run_fault(b"road closed", run);
+            numbered(b", leg ", leg as u64);
+        }
         Verdict::BreakMissing {
             run,
             duration,
@@ -276,6 +280,13 @@ fn faults() {
     run(b"far", Change::DistanceLimit(26.0), 12, 0);
 }
 
+// No road between the two customers.
+fn roads() {
+    run(b"closed", Change::Between(268435455.0), 12, 0);
+    run(b"closed the other way", Change::Between(268435455.0), 21, 0);
+    cut(b"a run each", Change::Between(268435455.0), 12, 12, 12, 0);
+}
+
 fn full_costs() {
     full_run(b"full best", 12, 2);
     full_cut(b"full dearer", 12, 12, 12, 0);
@@ -316,6 +327,7 @@ fn main() {
     calls();
     drops();
     faults();
+    roads();
     full_costs();
     full_faults();
     order();

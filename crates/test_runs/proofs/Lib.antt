@@ -6,5 +6,7 @@ pub mod Front
 pub mod Along
 -- The loop over a run list.
 pub mod Turns
+-- A sheet that the improvers take.
+pub mod Open
 -- The runs left by elimination.
 pub mod Left

@@ -1,7 +1,7 @@
 -- The words of what is made of a run list. Definitions only.
 use Prim.Native.Nat.{ℕ, _≤_}
 use mathlib.Core.Path.{_≡_}
-use mathlib.Core.Bool.{Bool, false, cond}
+use mathlib.Core.Bool.{Bool, false, cond, _||_}
 use mathlib.Core.List.{List, [], _∷_, _++_, map}
 use lib.Ieee.{Float}
 use lib.ListN.{length, take, replicate}
@@ -14,6 +14,7 @@ use Rattle.models.specs.Records.{customerOf}
 use Rattle.evaluation.specs.Records.{lent, limitsOf}
 use Rattle.evaluation.specs.Route.{feasibleF, costF}
 use Rattle.visits.specs.Building.{buildRouteF}
+use Rattle.improve_base.specs.Leg.{AllOpen, shut}
 use Rattle.improve_base.specs.Search.{searchF}
 use Rattle.two_opt.specs.TwoOpt.{improvedF, improvedDistanceF}
 use Rattle.route_elimination.specs.Insertion.{GivenF}
@@ -28,6 +29,13 @@ pub record RunList (calls ends : List ℕ) : Type 0 where
   pub few-calls : length calls ≤ 128
   pub few-ends : length ends ≤ 128
   pub rising : endsFall 0 ends (length calls) ≡ false
+
+-- what is asked of the tables for what is said of a run: it is reversed only where no leg is closed
+abbrev pub Drivable : Topic → (distances times : List Float) → Type 0
+Drivable Visits distances times = Unit {0}
+Drivable Evaluation distances times = Unit {0}
+Drivable Reversal distances times = AllOpen distances × AllOpen times
+Drivable Calls distances times = Unit {0}
 
 -- a sheet that is held, with its tables
 abbrev pub givenIn : Loaded → List Float → List Float → GivenF
@@ -58,10 +66,14 @@ module _ (G : GivenF) where
   abbrev pub pays : Bool
   pays = any soft (take (G .tables .size) (G .tables .customers))
 
-  -- on a sheet without lateness pay: each run reversed, and the runs left by elimination
+  -- the improvers don't take the sheet: they take neither such pay nor a closed leg
+  abbrev pub unimproved : Bool
+  unimproved = pays || shut (G .tables .distances) (G .tables .times)
+
+  -- on a sheet that they take: each run reversed, and the runs left by elimination
   abbrev pub improvedWords : List (List ℕ) → Words
   improvedWords runs = each (runWords Reversal) runs ++ each (runWords Calls) (eliminatedF G runs)
 
   -- the visits of each run, whether it may be made and what it costs, and what the improvers make of the runs
   abbrev pub runsWords : List (List ℕ) → Words
-  runsWords runs = each (runWords Visits) runs ++ each (runWords Evaluation) runs ++ cond pays [] (improvedWords runs)
+  runsWords runs = each (runWords Visits) runs ++ each (runWords Evaluation) runs ++ cond unimproved [] (improvedWords runs)

@@ -11,7 +11,7 @@ use Rattle.models.specs.Load.{loadOf}
 use Rattle.listing_lines.specs.Number.{wholePart}
 use Rattle.visits.specs.declared.visit.Visit.{Visit}
 use Rattle.visits.specs.declared.visit.ViolationType.{ViolationType}
-use Rattle.visits.specs.declared.visit.ViolationType.the-variants.{TimeWindowViolated, BreakNotPlaceable, CapacityExceeded, MaxDistanceExceeded, MaxDurationExceeded, WheelchairsExceeded}
+use Rattle.visits.specs.declared.visit.ViolationType.the-variants.{TimeWindowViolated, BreakNotPlaceable, CapacityExceeded, MaxDistanceExceeded, MaxDurationExceeded, WheelchairsExceeded, ClosedLeg}
 use Rattle.visits.specs.declared.visit.Violation.{Violation}
 use Rattle.visits.specs.Building.{RouteF}
 
@@ -60,6 +60,7 @@ violationFigures (CapacityExceeded load capacity) = overFigures 3 load capacity
 violationFigures (MaxDistanceExceeded distance most) = spaced 4 ∷ figure distance ∷ figure most ∷ []
 violationFigures (MaxDurationExceeded duration most) = spaced 5 ∷ figure duration ∷ figure most ∷ []
 violationFigures (WheelchairsExceeded load capacity) = overFigures 6 load capacity
+violationFigures (ClosedLeg leg) = spaced 7 ∷ spaced leg ∷ []
 
 abbrev pub violationLine : Violation → Words
 violationLine v = line "violation" (violationFigures (v .kind))

@@ -94,6 +94,10 @@ fn violation_figures(recorded: &[u8], at: usize, kind: ViolationType) -> usize
         ViolationType::WheelchairsExceeded { load, capacity } => {
             over_figures(recorded, at, 6, load, capacity)
         }
+        ViolationType::ClosedLeg { leg } => {
+            let end = number(recorded, at, 7);
+            number(recorded, end, leg as u64)
+        }
     }
 }
 

@@ -6,12 +6,13 @@ ghost use lib.ListN.{length};
 ghost use Rattle.definitions.specs.RunList.{runsOf};
 ghost use Rattle.definitions.specs.Room.{written};
 ghost use Rattle.theorems.proofs.RunListLaws.{RiseTo};
+ghost use Rattle.improve_base.specs.Leg.{AllOpen};
 ghost use Rattle.two_opt.specs.TwoOpt.{improvedF, improvedDistanceF};
 ghost use Rattle.route_elimination.specs.Elimination.{eliminatedF, Leaves, lists};
 ghost use Rattle.test_runs.specs.declared.runs.Topic.the-variants as Topics;
 ghost use Rattle.test_runs.specs.Along.{follows};
 ghost use Rattle.test_runs.specs.Words.{each, line, numbers};
-ghost use Rattle.test_runs.specs.Runs.{RunList, givenIn, runWords, runsWords, improvedWords};
+ghost use Rattle.test_runs.specs.Runs.{RunList, Drivable, givenIn, runWords, unimproved, improvedWords, runsWords};
 use crate::evaluations::evaluation_line;
 use crate::lines::built_lines;
 use crate::recorded::calls;
@@ -20,6 +21,7 @@ use crate::recorded::word;
 use evaluation::route::effective_cost;
 use evaluation::route::route_feasible;
 use improve_base::search::search_of;
+use refuse_numbers::closures::any_closed;
 use refuse_numbers::customers::Test;
 use refuse_numbers::customers::any_applies;
 use route_elimination::route_elimination::Left;
@@ -94,6 +96,7 @@ fn improved(
     current: &mut [usize],
 ) -> f64
     requires { ⌜ length (now run) ≤ length (now current) ⌝ }
+    requires { ⌜ AllOpen (now distances) × AllOpen (now times) ⌝ }
     ensures distance { λ r.
         let G = givenIn held (now (distances .entry)) (now (times .entry)) in
         ⌜ r ≡ improvedDistanceF (G .tables) (G .search) (now (run .entry)) ⌝ }
@@ -127,6 +130,7 @@ fn reversed(
     times: &[f64],
 ) -> usize
     requires { ⌜ length (now run) ≤ 128 ⌝ }
+    requires { ⌜ AllOpen (now distances) × AllOpen (now times) ⌝ }
     ensures { λ r.
         let G = givenIn held (now (distances .entry)) (now (times .entry)) in
         ⌜ r ≡ follows (now (recorded .entry)) at (runWords G Topics.Reversal (now (run .entry))) ⌝ }
@@ -158,6 +162,7 @@ fn run_text(
     times: &[f64],
 ) -> usize
     requires { ⌜ length (now run) ≤ 128 ⌝ }
+    requires { ⌜ Drivable topic (now distances) (now times) ⌝ }
     ensures { λ r.
         let G = givenIn held (now (distances .entry)) (now (times .entry)) in
         ⌜ r ≡ follows (now (recorded .entry)) at (runWords G topic (now (run .entry))) ⌝ }
@@ -182,6 +187,7 @@ fn each_run(
     times: &[f64],
 ) -> usize
     requires { ⌜ (length (now all) ≤ 128) × RiseTo 0 (now ends) (length (now all)) ⌝ }
+    requires { ⌜ Drivable topic (now distances) (now times) ⌝ }
     ensures { λ r.
         let G = givenIn held (now (distances .entry)) (now (times .entry)) in
         let runs = runsOf (now (all .entry)) (now (ends .entry)) in
@@ -211,6 +217,7 @@ fn eliminated(
 ) -> Left
     requires { ⌜ RunList (now all) (now ends) ⌝ }
     requires { ⌜ (length (now all) ≤ length (now «left_calls»)) × (length (now ends) ≤ length (now «left_ends»)) ⌝ }
+    requires { ⌜ AllOpen (now distances) × AllOpen (now times) ⌝ }
     ensures { λ r.
         let G = givenIn held (now (distances .entry)) (now (times .entry)) in
         let runs = runsOf (now (all .entry)) (now (ends .entry)) in
@@ -247,6 +254,7 @@ fn left_lines(
     times: &[f64],
 ) -> usize
     requires { ⌜ RunList (now all) (now ends) ⌝ }
+    requires { ⌜ AllOpen (now distances) × AllOpen (now times) ⌝ }
     ensures { λ r.
         let G = givenIn held (now (distances .entry)) (now (times .entry)) in
         let left = eliminatedF G (runsOf (now (all .entry)) (now (ends .entry))) in
@@ -286,6 +294,7 @@ fn improved_text(
     times: &[f64],
 ) -> usize
     requires { ⌜ RunList (now all) (now ends) ⌝ }
+    requires { ⌜ AllOpen (now distances) × AllOpen (now times) ⌝ }
     ensures { λ r.
         let G = givenIn held (now (distances .entry)) (now (times .entry)) in
         let runs = runsOf (now (all .entry)) (now (ends .entry)) in
@@ -296,7 +305,19 @@ fn improved_text(
     left_lines(recorded, end, all, ends, held, distances, times)
 }
 
-// All of it. A sheet with lateness pay has visits and evaluations only.
+// Whether the improvers don't take the sheet: some customer's lateness is paid for, or a leg is closed.
+fn is_unimproved(held: Loaded, distances: &[f64], times: &[f64]) -> bool
+    ensures { λ r. ⌜ r ≡ unimproved (givenIn held (now (distances .entry)) (now (times .entry))) ⌝ }
+{
+    let head = held.head;
+    let customers = held.customers;
+    if any_applies(Test::Soft, customers, head.places) {
+        return true;
+    }
+    any_closed(distances) || any_closed(times)
+}
+
+// All of it. A sheet that the improvers don't take has visits and evaluations only.
 pub fn runs_text(
     recorded: &[u8],
     all: &[usize],
@@ -315,9 +336,7 @@ pub fn runs_text(
     let mut end = each_run(recorded, 0, visits, all, ends, held, distances, times);
     let evaluation = Topic::Evaluation;
     end = each_run(recorded, end, evaluation, all, ends, held, distances, times);
-    let head = held.head;
-    let customers = held.customers;
-    if any_applies(Test::Soft, customers, head.places) {
+    if is_unimproved(held, distances, times) {
         return end;
     }
     improved_text(recorded, end, all, ends, held, distances, times)

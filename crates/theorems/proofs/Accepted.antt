@@ -2,7 +2,7 @@
 use Prim.Native.Nat.{ℕ, _≤_}
 use native.Mathlib.Omega.{arith}
 use mathlib.Core.Logic.{_↔_}
-use mathlib.Core.Path.{_≡_, refl, sym, _∙_}
+use mathlib.Core.Path.{_≡_, refl, sym, ap, _∙_}
 use mathlib.Core.Bool.{Bool, true, false, _&&_, _||_, not, true≢false, false≢true}
 use mathlib.Core.List.{List, [], _∷_, map}
 use mathlib.Core.Option.{Option, none, some, Option·map}
@@ -14,11 +14,11 @@ use Rattle.basics.proofs.TestLaws.{or-left, or-right, or-false, not-false, not-
 use Rattle.basics.specs.Options.{holds, present, valueOr}
 use Rattle.basics.specs.Lists.{isEmpty, any}
 use Rattle.basics.proofs.ListLaws.{all-imp, all-map, any-fails, fails-any, fails-not}
-use Rattle.definitions.specs.Domain.{isPlaces, isPenalty, isNumber, isCall}
-use Rattle.definitions.specs.Sheet.{WindowOf, BreakOf, CustomerOf, SheetOf, Customer, records, soft, anySoft, latenessPay, mapWindow, mapBreak, mapCustomer}
+use Rattle.definitions.specs.Domain.{isPlaces, isPenalty, isNumber, isClosed, closedApart, isLeg, isCall}
+use Rattle.definitions.specs.Sheet.{WindowOf, BreakOf, CustomerOf, LegsOf, SheetOf, Customer, records, soft, anySoft, latenessPay, mapWindow, mapBreak, mapCustomer, mapLegs}
 use Rattle.definitions.specs.Room.{short}
 use Rattle.definitions.specs.Lent.{Lent, whole, wholeSheet, Call}
-use Rattle.definitions.specs.Refusals.{tooShort, Within, WithinCalls, tablesOdd, unfit, badOptional, badBreak, badWindow, badCustomer, badDepot, badSheet, windowFalls, breakFalls, pairsFall, repeats, refusals, refusalOf}
+use Rattle.definitions.specs.Refusals.{tooShort, Within, WithinCalls, tablesOdd, unfit, badOptional, badBreak, badWindow, badCustomer, badDepot, badSheet, windowFalls, breakFalls, pairsFall, disagree, closuresDiffer, anyClosed, repeats, refusals, refusalOf}
 use Rattle.theorems.proofs.Ranges.{calls-in-range, LongEnough, long-enough, RunsEven, runs-even, even-runs, break-in-range, range-break, window-in-range, range-window, customer-in-range, range-customer, depot-in-range, range-depot, InRange, in-range, range-in, LentInRange, lent-in-range, range-lent, PairsRise, pairs-rise, rise-pairs, fitsBy, not-refused}
 use Rattle.theorems.proofs.InOrder.{fits-none, _also_}
 use Rattle.theorems.proofs.Repeats.{tour-few}
@@ -130,6 +130,21 @@ module _ {F : Type 0} (value : F → Option ℕ) where
   soft-same : (c : CustomerOf F) → soft (mapCustomer (whole value) c) ≡ soft c
   soft-same c = λ i. present-same (mapWindow (whole value)) (c .window) i && present-same (whole value) (c .penalty) i
 
+  -- ---- closed legs
+
+  disagree-same : (ds ts : List F) → disagree some (map (whole value) ds) (map (whole value) ts) ≡ disagree value ds ts
+  disagree-same [] ts = refl
+  disagree-same (d ∷ ds) [] = refl
+  disagree-same (d ∷ ds) (t ∷ ts) = ap (λ (b : Bool). closedApart (whole value d) (whole value t) || b) (disagree-same ds ts)
+
+  closures-same : (l : LegsOf F) → closuresDiffer some (mapLegs (whole value) l) ≡ closuresDiffer value l
+  unfolding closuresDiffer
+  closures-same l = disagree-same (l .distances) (l .times)
+
+  pub closed-same : (l : LegsOf F) → anyClosed some (mapLegs (whole value) l) ≡ anyClosed value l
+  unfolding anyClosed
+  closed-same l = any-same (whole value) (λ (x : F). isClosed (whole value x)) isClosed (λ x. refl) (l .distances)
+
   -- ---- a lent sheet
 
   module _ (s : SheetOf F) (l : s .head .places ≤ length (s .customers)) where
@@ -153,8 +168,8 @@ module _ {F : Type 0} (value : F → Option ℕ) where
           rest = fit-break (s .head .rest) (R .rest);
           depot = rw all-records (fit-depot (records s) (R .depot));
           customers = rw all-records (any-imp (mapCustomer (whole value)) (badCustomer value) (badCustomer some) fit-customer (records s) (R .customers));
-          distances = any-imp (whole value) (unfit value isNumber) (unfit some isNumber) (fit isNumber) (s .legs .distances) (R .distances);
-          times = any-imp (whole value) (unfit value isNumber) (unfit some isNumber) (fit isNumber) (s .legs .times) (R .times);
+          distances = any-imp (whole value) (unfit value isLeg) (unfit some isLeg) (fit isLeg) (s .legs .distances) (R .distances);
+          times = any-imp (whole value) (unfit value isLeg) (unfit some isLeg) (fit isLeg) (s .legs .times) (R .times);
         }
 
     whole-rises : PairsRise value s → PairsRise some (wholeSheet value s)
@@ -167,15 +182,16 @@ module _ {F : Type 0} (value : F → Option ℕ) where
               (records s) ∙ P .windows);
         }
 
-    -- one that is neither short, odd, out of range nor falling means one within the limits
-    pub whole-within : tablesOdd s ≡ false → badSheet value s ≡ false → pairsFall value s ≡ false → Within (wholeSheet value s)
+    -- one that is neither short, odd, out of range nor falling, and closes the same legs in both tables, means one within the limits
+    pub whole-within : tablesOdd s ≡ false → badSheet value s ≡ false → pairsFall value s ≡ false → closuresDiffer value (s .legs) ≡ false → Within (wholeSheet value s)
     unfolding wholeSheet
-    whole-within t r p =
+    whole-within t r p c =
         record {
           counted = counted;
           tables = rw (length-map (s .legs .distances) (whole value), length-map (s .legs .times) (whole value), empty-same (whole value) (s .legs .times)) t;
           ranged = range-in some (wholeSheet value s) (whole-in-range (in-range value s r));
           paired = rise-pairs some (wholeSheet value s) (whole-rises (pairs-rise value s p));
+          closed-alike = closures-same (s .legs) ∙ c;
         }
 
   -- lateness pay is on the sheet as lent where it is on the sheet that is meant
@@ -190,7 +206,7 @@ module _ {F : Type 0} (value : F → Option ℕ) where
     pub customers : l .sheet .head .places ≤ length (l .sheet .customers)
     pub results : AtLeast (k .needs (length (l .tour)) (length (l .calls)) (length (l .ends))) (l .rooms)
     pub breaks : k .marks ≡ true → length (l .ends) ≤ length (l .breaks)
-    -- 14, 1 and 2
+    -- 14, 1, 2 and 22
     pub ranged : InRange value (l .sheet)
     pub within : Within (wholeSheet value (l .sheet))
     pub tour : WithinCalls (wholeSheet value (l .sheet)) (l .tour)
@@ -201,6 +217,8 @@ module _ {F : Type 0} (value : F → Option ℕ) where
     pub runs : RunsEven k l
     -- 4
     pub unpaid : k .improves ≡ true → latenessPay (wholeSheet value (l .sheet)) ≡ false
+    -- 23
+    pub drivable : k .improves ≡ true → anyClosed some (wholeSheet value (l .sheet) .legs) ≡ false
 
   pub accepted-within : (k : Call) (l : Lent F) → refusalOf value k l ≡ none → Accepted k l
   unfolding wholeSheet refusals
@@ -210,12 +228,13 @@ module _ {F : Type 0} (value : F → Option ℕ) where
         results = at-least (k .needs (length (l .tour)) (length (l .calls)) (length (l .ends))) (l .rooms) (L .results);
         breaks = λ m. ltb-false (length (l .breaks)) (length (l .ends)) (rw m at (L .breaks));
         ranged = in-range value (l .sheet) (R .sheet);
-        within = whole-within (l .sheet) enough (N 14) (R .sheet) (N 2);
+        within = whole-within (l .sheet) enough (N 14) (R .sheet) (N 2) (N 22);
         tour = R .tour;
         calls = R .run-list;
         once = N 21;
         runs = runs-even k l (N 5);
         unpaid = λ m. pay-same (l .sheet) ∙ (rw m at (N 4));
+        drivable = λ m. closed-same (l .sheet .legs) ∙ (rw m at (N 23));
       }
     where
       -- each by its number
@@ -276,8 +295,10 @@ module _ {F : Type 0} (value : F → Option ℕ) where
         also range-lent value l (record { sheet = range-in value (l .sheet) (A .ranged); tour = A .tour; run-list = A .calls })
         also A .once
         also not-falling
+        also sym (closures-same (l .sheet .legs)) ∙ A .within .closed-alike
         also even-runs k l (A .runs)
         also only-where (k .improves) (anySoft (records (l .sheet))) (λ m. sym (pay-same (l .sheet)) ∙ A .unpaid m)
+        also only-where (k .improves) (anyClosed value (l .sheet .legs)) (λ m. sym (closed-same (l .sheet .legs)) ∙ A .drivable m)
         also tt)
 
   -- accepted is all else

@@ -7,6 +7,8 @@ use mathlib.Core.Logic.{_⊎_, inl, inr, ⊎-elim}
 use mathlib.Core.List.{List, [], _∷_, _++_, map, append-nil, append-assoc}
 use mathlib.Core.Option.{Option, none}
 use lib.ListN.{length, take, drop, getD, length-append, length-map}
+use lib.Dec.{ltb}
+use borrow.Author.Tests.{ltb-true, ltb-false}
 use Rattle.basics.proofs.TestLaws.{by-test}
 use Rattle.basics.specs.Lists.{without, count, In, first, next, Rising}
 use Rattle.basics.proofs.ListLaws.{length-without, length-count}
@@ -166,3 +168,19 @@ parts-not-both a (kept {d = d} x P) r In.first j = native.Mathlib.Nat.lt-irrefl 
 parts-not-both a (kept x P) r (In.next i) j = parts-not-both x P (r .1) i j
 parts-not-both a (gone {h = h} x P) r i In.first = native.Mathlib.Nat.lt-irrefl _ (rising-above x {l = h} (parts-rise x P (r .1) .0) i)
 parts-not-both a (gone x P) r i (In.next j) = parts-not-both x P (r .1) i j
+
+-- the drops lead to one end only
+pub settles-one : (Has : List ℕ → Type 0) (tour : List ℕ) {h g g' : Held} → Settles Has tour h g → Settles Has tour h g' → g ≡ g'
+settles-one Has tour (stop a) (stop b) = refl
+settles-one Has tour (stop a) (goes k l x b r) = absurd (x (a (suc k) l))
+settles-one Has tour (goes k l x b r) (stop a) = absurd (x (a (suc k) l))
+settles-one Has tour {h} {g} {g'} (goes k l x a r) (goes k' l' x' a' r') =
+    settles-one Has tour r (subst (λ (n : ℕ). Settles Has tour (dropAt n h) g') (sym one) r')
+  where
+    one : k ≡ k'
+    one =
+        by-test (ltb k k') (λ t. absurd (x (a' (suc k) (ltb-true k k' t))))
+        (λ f. by-test (ltb k' k) (λ t. absurd (x' (a (suc k') (ltb-true k' k t)))) (λ g. even (ltb-false k k' f) (ltb-false k' k g)))
+      where
+        even : k' ≤ k → k ≤ k' → k ≡ k'
+        even p q = omega arith

@@ -4,7 +4,7 @@ use native.Mathlib.Omega.{arith}
 use mathlib.Core.Path.{_≡_, refl, sym, ap, subst, _∙_}
 use mathlib.Core.Bool.{Bool, true, false, cond, not, true≢false}
 use mathlib.Core.List.{List, [], _∷_, tail}
-use mathlib.Core.Option.{Option, none, some}
+use mathlib.Core.Option.{Option, none, some, Option·map}
 use lib.ListN.{length, getD, take}
 use lib.Dec.{ltb, leb, eqb}
 use borrow.Author.Tests.{ltb-true, leb-false, eqb-true, eqb-false, le-leb, eq-eqb}
@@ -13,14 +13,15 @@ use Rattle.basics.specs.Options.{_>>=_, present, valueOr, orElse, given}
 use Rattle.basics.proofs.OptionLaws.{same, clash, bound}
 use Rattle.basics.specs.Lists.{isEmpty, all, All}
 use Rattle.definitions.specs.Load.{seated}
-use Rattle.definitions.specs.Sheet.{Window, Break, Sheet}
+use Rattle.definitions.specs.Sheet.{Window, Break, Sheet, Leg}
 use Rattle.definitions.specs.Window.{dueOf, enter}
 use Rattle.definitions.specs.Limits.{within}
-use Rattle.definitions.specs.Run.{breakStart, tooLate, ready, serveAt, Label, start, serve, Run, breakAt, serveAll, lastOf, Totals, ride, load, fits, placed}
+use Rattle.definitions.specs.Run.{breakStart, tooLate, ready, serveAt, Label, start, serve, Run, breakAt, serveAll, lastOf, firstClosed, Totals, ride, load, fits, placed}
 use Rattle.definitions.specs.Cutting.{joined, cuttingCost}
 use Rattle.definitions.specs.Drop.{splitTw}
-use Rattle.definitions.specs.Marker.{Verdict, otherCalls, overloadOf, breakMissing, tooFar, tooLong, differ, breakOr, callFault, walkFault, totalFault, runFault, firstFault, against, mark}
-use Rattle.definitions.specs.Marks.{Placeable, Proper, Differs, Reached, arrival, Home, Fails, by-load, by-wheelchairs, by-break, by-window, by-missing, by-distance, by-duration, FirstFails, plannerCost, Says, other, fault, priced}
+use Rattle.definitions.specs.Marker.{Verdict, otherCalls, overloadOf, breakMissing, tooFar, tooLong, roadClosed, differ, breakOr, arrivalFault, callFault, walkFault, totalFault, runFault, firstFault, against, mark}
+use Rattle.definitions.specs.Marks.{Placeable, Proper, Differs, legOf, Open, Reached, arrival, Home, Fails, by-road, by-load, by-wheelchairs, by-break, by-window, by-missing, by-distance, by-duration, FirstFails, plannerCost, Says, other, fault, priced}
+use Rattle.theorems.proofs.Roads.{open-leg, closed-is}
 use Rattle.theorems.proofs.Marking.{nothing-mapped, unmarked-legal, unmarked-runs, differ-same, compared, mark-other, mark-same}
 
 -- ---- the walk
@@ -85,9 +86,15 @@ shut-there (some w) (some p) r h = clash (sym h)
 shut-there (some w) none r h = by-test (ltb (w .due) r) (λ t. (w, refl, refl, refl, ltb-true (w .due) r t)) (λ f. clash (sym (rw f at h)))
 
 module _ (s : Sheet) (n : ℕ) (r : Run) where
-  reached-at : {v : Verdict} → fits s (r .calls) ≡ true → (x : Stops s n (r .place) 1 0 start (r .calls) v) → Reached s r (x .number) (getD (r .calls) (x .before) 0)
-  reached-at room x =
+  -- the leg to the call that stops it
+  leg-to : {v : Verdict} → Open s (r .calls) → (x : Stops s n (r .place) 1 0 start (r .calls) v) → (l : Leg) × (legOf s (r .calls) (x .before) ≡ some l)
+  leg-to roads x = open-leg s 1 0 (r .calls) roads (x .before) (omega (arith, x .inside))
+
+  reached-at : {v : Verdict} → Open s (r .calls) → fits s (r .calls) ≡ true → (x : Stops s n (r .place) 1 0 start (r .calls) v)
+      → Reached s r (x .number) (getD (r .calls) (x .before) 0)
+  reached-at roads room x =
       record {
+        roads = roads;
         room = room;
         before = x .before;
         number = omega (arith, x .number-is);
@@ -95,22 +102,30 @@ module _ (s : Sheet) (n : ℕ) (r : Run) where
         call-is = refl;
         label = x .label;
         served = x .served;
+        leg = leg-to roads x .0;
+        leg-is = leg-to roads x .1;
       }
 
-  call-fails : {v : Verdict} → fits s (r .calls) ≡ true → Stops s n (r .place) 1 0 start (r .calls) v → Fails s n r v
+  call-fails : {v : Verdict} → Open s (r .calls) → fits s (r .calls) ≡ true → Stops s n (r .place) 1 0 start (r .calls) v → Fails s n r v
   unfolding serveAt reached-at
-  call-fails {v} room x = go (ready (breakAt s (r .place) (x .number)) (arrival (reached-at room x))) refl
+  call-fails {v} roads room x = go (ready here (arrival (reached-at roads room x))) refl
     where
-      go : (o : Option ℕ) → ready (breakAt s (r .place) (x .number)) (arrival (reached-at room x)) ≡ o → Fails s n r v
+      here : Option Break
+      here = breakAt s (r .place) (x .number)
+
+      says : arrivalFault s n here (x .number) (getD (r .calls) (x .before) 0) (arrival (reached-at roads room x)) ≡ v
+      says = rw (leg-to roads x .1, callFault) at (x .says)
+
+      go : (o : Option ℕ) → ready here (arrival (reached-at roads room x)) ≡ o → Fails s n r v
       go none e =
-          let t = break-there (breakAt s (r .place) (x .number)) (arrival (reached-at room x)) e in
+          let t = break-there here (arrival (reached-at roads room x)) e in
           let p = at-its-place s (r .place) (x .number) _ (t .0) in
-          subst (λ (w : Verdict). Fails s n r w) (rw (e, callFault) at (x .says))
-          (by-break (record { reached = reached-at room x; break = _; rested = p .1; here = p .0; value-is = refl; limit-is = refl; over = t .1 }))
+          subst (λ (w : Verdict). Fails s n r w) (rw (e, arrivalFault) at says)
+          (by-break (record { reached = reached-at roads room x; break = _; rested = p .1; here = p .0; value-is = refl; limit-is = refl; over = t .1 }))
       go (some readiness) e =
-          let q = shut-there _ _ readiness (nothing-mapped _ _ (rw (e, serveAt) at (x .fails))) in
-          subst (λ (w : Verdict). Fails s n r w) (rw (e, callFault) at (x .says))
-          (by-window (record { reached = reached-at room x; value-is = e; window = q .0; shuts = q .1; hard = q .2; limit-is = q .3; over = q .4 }))
+          let q = shut-there _ _ readiness (nothing-mapped _ _ (rw (leg-to roads x .1, e, serveAt) at (x .fails))) in
+          subst (λ (w : Verdict). Fails s n r w) (rw (e, arrivalFault) at says)
+          (by-window (record { reached = reached-at roads room x; value-is = e; window = q .0; shuts = q .1; hard = q .2; limit-is = q .3; over = q .4 }))
 
 -- ---- the totals
 
@@ -159,25 +174,33 @@ module _ (s : Sheet) (n : ℕ) (r : Run) (proper : Placeable s r) where
       (λ d h. first-of (within (s .head .maxDuration) (t .duration)) _ none v (rw h refl) (λ l e. becomes v (long-fails t home p d l) e) (λ l h. clash h)))
 
   -- the load does not fit: it is over in seats, or within these and over in wheelchair places
-  overloaded : fits s (r .calls) ≡ false → Fails s n r (overloadOf n (load s (r .calls)) (s .head .capacity))
-  overloaded f =
+  overloaded : Open s (r .calls) → fits s (r .calls) ≡ false → Fails s n r (overloadOf n (load s (r .calls)) (s .head .capacity))
+  overloaded roads f =
       let l = load s (r .calls) in
       let k = s .head .capacity in
       by-test (seated l k)
-      (λ t. rw t (by-wheelchairs (record { seats-fit = t; value-is = refl; limit-is = refl; over = leb-false (l .wheelchairs) (k .wheelchairs) (rw t at f) })))
-      (λ o. rw o (by-load (record { value-is = refl; limit-is = refl; over = leb-false (l .seats) (k .seats) o })))
+      (λ t. rw t (by-wheelchairs (record { roads = roads; seats-fit = t; value-is = refl; limit-is = refl; over = leb-false (l .wheelchairs) (k .wheelchairs) (rw t at f) })))
+      (λ o. rw o (by-load (record { roads = roads; value-is = refl; limit-is = refl; over = leb-false (l .seats) (k .seats) o })))
 
   -- a fault names a test that fails, and every test before it holds
   pub fault-fails : (v : Verdict) → runFault s n r ≡ some v → Fails s n r v
   unfolding runFault
-  fault-fails v h =
-      first-of (fits s (r .calls)) _ _ v h
-      (λ f e. becomes v (overloaded f) e)
-      (λ room h. walked room (walkFault s n (r .place) 1 0 start (r .calls)) refl h)
+  fault-fails v h = road (firstClosed s (r .calls)) refl h
     where
-      walked : fits s (r .calls) ≡ true → (o : Option Verdict) → walkFault s n (r .place) 1 0 start (r .calls) ≡ o → orElse o (ride s r >>= totalFault s n r) ≡ some v → Fails s n r v
-      walked room (some w) e h = becomes v (call-fails s n r room (walk-stops s n (r .place) 1 0 start (r .calls) w e)) (same h)
-      walked room none e h = let y = bound (ride s r) _ v h in total-fails v (y .0) (record { room = room; rode = y .1 }) (y .2)
+      walked : Open s (r .calls) → fits s (r .calls) ≡ true → (o : Option Verdict) → walkFault s n (r .place) 1 0 start (r .calls) ≡ o
+          → orElse o (ride s r >>= totalFault s n r) ≡ some v → Fails s n r v
+      walked roads room (some w) e h = becomes v (call-fails s n r roads room (walk-stops s n (r .place) 1 0 start (r .calls) w e)) (same h)
+      walked roads room none e h = let y = bound (ride s r) _ v h in total-fails v (y .0) (record { roads = roads; room = room; rode = y .1 }) (y .2)
+
+      rest : Option Verdict
+      rest =
+          orElse (given (not (fits s (r .calls))) (overloadOf n (load s (r .calls)) (s .head .capacity)))
+          (orElse (walkFault s n (r .place) 1 0 start (r .calls)) (ride s r >>= totalFault s n r))
+
+      road : (o : Option ℕ) → firstClosed s (r .calls) ≡ o → orElse (Option·map (roadClosed n) o) rest ≡ some v → Fails s n r v
+      road (some leg) e h = becomes v (by-road (closed-is s (r .calls) leg e)) (same h)
+      road none e h =
+          first-of (fits s (r .calls)) _ _ v h (λ f q. becomes v (overloaded e f) q) (λ room q. walked e room (walkFault s n (r .place) 1 0 start (r .calls)) refl q)
 
 -- ---- several runs
 

@@ -3,8 +3,7 @@ use Prim.Native.Nat.{ℕ, _+_}
 use native.Mathlib.Omega.{arith}
 use mathlib.Core.Path.{_≡_, refl, sym, ap, _∙_}
 use mathlib.Core.List.{List, [], _∷_, _++_, reverse, reverseAux, reverseAux-eq}
-use Rattle.definitions.specs.Run.{legsFrom}
-use Rattle.definitions.specs.Improver.{Given, distanceOf}
+use Rattle.definitions.specs.Improver.{legsFrom, Given, distanceOf}
 
 -- where a walk from p through the calls ends
 abbrev pub final : ℕ → List ℕ → ℕ

@@ -11,15 +11,16 @@ use lib.Dec.{ltb}
 use borrow.Author.Tests.{eqb-true, eq-eqb, ne-eqb, leb-true, le-leb}
 use Rattle.basics.proofs.TestLaws.{or-left, or-right, by-test, both, and-true}
 use Rattle.basics.specs.Options.{_>>=_, holds, present}
-use Rattle.basics.proofs.OptionLaws.{same, clash, bound, held, granted}
+use Rattle.basics.proofs.OptionLaws.{same, clash, bound, unbound, held, granted}
 use Rattle.basics.specs.Lists.{isEmpty, any}
-use Rattle.definitions.specs.Sheet.{anySoft, Window, Break, Sheet, depot, customer, time, soft, latenessPay}
+use Rattle.definitions.specs.Sheet.{anySoft, Window, Break, Sheet, Leg, depot, customer, drive, soft, latenessPay}
 use Rattle.definitions.specs.Window.{Entry, enter}
 use Rattle.definitions.specs.Limits.{within, excused}
-use Rattle.definitions.specs.Run.{serveAt, ready, Label, start, serve, breakAt, serveAll, lastOf, distanceFrom, Totals, home, Run, ride, fits, allowed, placed, legal, price, runCost}
+use Rattle.definitions.specs.Run.{Label, start, serve, breakAt, serveAll, lastOf, distanceFrom, Totals, home, Run, ride, fits, allowed, placed, legal, price, runCost}
 use Rattle.definitions.specs.Clock.{Clock, tick, clockFrom, counts, clock, Arc, arc}
 use Rattle.theorems.proofs.Places.{kept}
-use Rattle.theorems.proofs.Serving.{serve-place}
+use Rattle.theorems.proofs.Roads.{homeBy, home-is, home-closed, home-has}
+use Rattle.theorems.proofs.Serving.{served-at, serve-leg, serve-place}
 
 -- ---- the before-label is the run with no break
 
@@ -72,9 +73,6 @@ module _ (s : Sheet) (calls : List ℕ) where
   abbrev pub end : Clock
   end = clockFrom s 1 0 (record { before = some start; after = none }) calls
 
-  abbrev pub back : ℕ
-  back = time s (lastOf 0 calls) 0
-
   abbrev pub labelOf : ℕ → Option Label
   labelOf p = serveAll s p 1 0 (some start) calls
 
@@ -85,31 +83,56 @@ module _ (s : Sheet) (calls : List ℕ) where
   unbroken = unbroken-from s 1 0 (le-refl 1) (some start) calls (λ l q. sym (ap (λ (m : Label). m .place) (same q)))
 
   -- the run's totals by its label
-  pub rides : (p : ℕ) (l : Label) → labelOf p ≡ some l → ride s (with p) ≡ some (home s calls l)
+  pub rides : (p : ℕ) (l : Label) → labelOf p ≡ some l → ride s (with p) ≡ home s calls l
   unfolding ride
-  rides p l e = ap (λ (o : Option Label). o >>= λ m. some (home s calls m)) e
+  rides p l e = ap (λ (o : Option Label). o >>= home s calls) e
 
-  pub ridden : (p : ℕ) (t : Totals) → ride s (with p) ≡ some t → (l : Label) × (labelOf p ≡ some l) × (home s calls l ≡ t)
+  pub ridden : (p : ℕ) (t : Totals) → ride s (with p) ≡ some t → (l : Label) × (labelOf p ≡ some l) × (home s calls l ≡ some t)
   unfolding ride
-  ridden p t q = let y = bound (labelOf p) _ t q in (y .0, y .1, same (y .2))
+  ridden p t q = bound (labelOf p) _ t q
 
-  pub clocked : (l : Label) → counts (s .head .rest) back end ≡ some l → clock s calls ≡ some (home s calls l)
+  -- and by the clock, where there is a way back
+  pub clocked : (b : Leg) → drive s (lastOf 0 calls) 0 ≡ some b → (l : Label) → counts (s .head .rest) (b .travel) end ≡ some l → clock s calls ≡ home s calls l
   unfolding clock
-  clocked l e = ap (λ (o : Option Label). o >>= λ m. some (home s calls m)) e
+  clocked b w l e = rw (w, e) refl
+
+  pub ticked : (t : Totals) → clock s calls ≡ some t
+      → (b : Leg) × (drive s (lastOf 0 calls) 0 ≡ some b) × (l : Label) × (counts (s .head .rest) (b .travel) end ≡ some l) × (home s calls l ≡ some t)
+  unfolding clock
+  ticked t q =
+      let x = bound (drive s (lastOf 0 calls) 0) _ t q in
+      let y = bound (counts (s .head .rest) (x .0 .travel) end) _ t (x .2) in
+      (x .0, x .1, y .0, y .1, y .2)
+
+  -- a run with a closed leg is none to the clock
+  pub clock-closed : distanceFrom s 0 calls ≡ none → clock s calls ≡ none
+  unfolding clock
+  clock-closed e = unbound (drive s (lastOf 0 calls) 0) _ (λ b. unbound (counts (s .head .rest) (b .travel) end) _ (home-closed s calls e))
+
+  -- with that way back it comes to this
+  pub home-by : (b : Leg) → drive s (lastOf 0 calls) 0 ≡ some b → (l : Label) (t : Totals) → home s calls l ≡ some t
+      → (d : ℕ) × (distanceFrom s 0 calls ≡ some d) × (homeBy s calls d (b .travel) l ≡ t)
+  home-by b w l t q =
+      let x = home-has s calls l t q in
+      (x .0, x .1, ap (λ (c : Leg). homeBy s calls (x .0) (c .travel) l) (same (sym w ∙ x .3)) ∙ x .4)
 
   -- ---- the clock's answer is that of its own place
 
   abbrev Own : Totals → Type 0
   Own t = (ride s (with (t .place)) ≡ some t) × (placed (s .head .rest) (t .place) (length calls) (t .duration) ≡ true)
 
-  own-label : (l : Label) → counts (s .head .rest) back end ≡ some l → Own (home s calls l)
-  unfolding placed
-  own-label l q = go (s .head .rest) refl
-    where
-      unplaced : l .place ≡ 0 → labelOf 0 ≡ some l → ride s (with (l .place)) ≡ some (home s calls l)
-      unplaced z e = rides (l .place) l (ap labelOf z ∙ e)
+  -- by a label, with so much time on the way back
+  abbrev OwnLabel : ℕ → Label → Type 0
+  OwnLabel back l = (labelOf (l .place) ≡ some l) × (placed (s .head .rest) (l .place) (length calls) (l .time + back) ≡ true)
 
-      go : (o : Option Break) → s .head .rest ≡ o → Own (home s calls l)
+  own-label : (back : ℕ) (l : Label) → counts (s .head .rest) back end ≡ some l → OwnLabel back l
+  unfolding placed
+  own-label back l q = go (s .head .rest) refl
+    where
+      unplaced : l .place ≡ 0 → labelOf 0 ≡ some l → labelOf (l .place) ≡ some l
+      unplaced z e = ap labelOf z ∙ e
+
+      go : (o : Option Break) → s .head .rest ≡ o → OwnLabel back l
       go none e =
           let f : end .before ≡ some l = subst (λ (o : Option Break). counts o back end ≡ some l) e q in
           let z = unbroken l (sym plain ∙ f) in
@@ -122,36 +145,39 @@ module _ (s : Sheet) (calls : List ℕ) where
           back-to : placed (some b) (l .place) (length calls) (l .time + back) ≡ true → placed (s .head .rest) (l .place) (length calls) (l .time + back) ≡ true
           back-to h = subst (λ (o : Option Break). placed o (l .place) (length calls) (l .time + back) ≡ true) (sym e) h
 
-          free : holds (end .before) (λ m. excused b (m .time + back)) ≡ true → Own (home s calls l)
+          free : holds (end .before) (λ m. excused b (m .time + back)) ≡ true → OwnLabel back l
           free t =
               let g : end .before ≡ some l = rw t at f in
               let z = unbroken l (sym plain ∙ g) in
               let h : excused b (l .time + back) ≡ true = subst (λ (o : Option Label). holds o (λ m. excused b (m .time + back)) ≡ true) g t in
               (unplaced z (sym plain ∙ g), back-to (subst (λ (p : ℕ). placed (some b) p (length calls) (l .time + back) ≡ true) (sym z) h))
 
-          taken : holds (end .before) (λ m. excused b (m .time + back)) ≡ false → Own (home s calls l)
+          taken : holds (end .before) (λ m. excused b (m .time + back)) ≡ false → OwnLabel back l
           taken t =
               let g : end .after ≡ some l = rw t at f in
               let o = kept s b e calls .own l g in
-              (rides (l .place) l (o .0), back-to (placed-call b (l .place) (length calls) (l .time + back) (o .1) (down (l .place) (length calls) (o .2))))
+              (o .0, back-to (placed-call b (l .place) (length calls) (l .time + back) (o .1) (down (l .place) (length calls) (o .2))))
             where
               down : (p n : ℕ) → p < 1 + n → p ≤ n
               down p n h = omega arith
 
   pub clock-own : (t : Totals) → clock s calls ≡ some t → Own t
-  unfolding clock
-  clock-own t q = let y = bound (counts (s .head .rest) back end) _ t q in subst Own (same (y .2)) (own-label (y .0) (y .1))
+  clock-own t q =
+      let (b, w, l, c, h) = ticked t q in
+      let (d, e, f) = home-by b w l t h in
+      let o = own-label (b .travel) l c in
+      subst Own f (rides (l .place) l (o .0) ∙ home-is s calls d b e w l, o .1)
 
   -- ---- no place that the break may have is home earlier
 
-  abbrev NoneEarlier : Label → Type 0
-  NoneEarlier l = (u : Label) × (counts (s .head .rest) back end ≡ some u) × (u .time ≤ l .time)
+  abbrev NoneEarlier : ℕ → Label → Type 0
+  NoneEarlier back l = (u : Label) × (counts (s .head .rest) back end ≡ some u) × (u .time ≤ l .time)
 
-  least-label : (p : ℕ) (l : Label) → labelOf p ≡ some l → placed (s .head .rest) p (length calls) (l .time + back) ≡ true → NoneEarlier l
+  least-label : (back p : ℕ) (l : Label) → labelOf p ≡ some l → placed (s .head .rest) p (length calls) (l .time + back) ≡ true → NoneEarlier back l
   unfolding placed
-  least-label p l q h = go (s .head .rest) refl
+  least-label back p l q h = go (s .head .rest) refl
     where
-      go : (o : Option Break) → s .head .rest ≡ o → NoneEarlier l
+      go : (o : Option Break) → s .head .rest ≡ o → NoneEarlier back l
       go none e =
           let z = eqb-true p 0 (subst (λ (o : Option Break). placed o p (length calls) (l .time + back) ≡ true) e h) in
           (l, ap (λ (o : Option Break). counts o back end) e ∙ plain ∙ ap labelOf (sym z) ∙ q, le-refl (l .time))
@@ -160,7 +186,7 @@ module _ (s : Sheet) (calls : List ℕ) where
           chosen : counts (s .head .rest) back end ≡ counts (some b) back end
           chosen = ap (λ (o : Option Break). counts o back end) e
 
-          at : (p : ℕ) → labelOf p ≡ some l → placed (some b) p (length calls) (l .time + back) ≡ true → NoneEarlier l
+          at : (p : ℕ) → labelOf p ≡ some l → placed (some b) p (length calls) (l .time + back) ≡ true → NoneEarlier back l
           at zero q h =
               let g : end .before ≡ some l = plain ∙ q in
               (l, chosen ∙ rw g (rw h refl), le-refl (l .time))
@@ -178,10 +204,11 @@ module _ (s : Sheet) (calls : List ℕ) where
   pub clock-least : (p : ℕ) (t : Totals) → ride s (with p) ≡ some t → placed (s .head .rest) p (length calls) (t .duration) ≡ true
       → (u : Totals) × (clock s calls ≡ some u) × (u .duration ≤ t .duration) × (u .distance ≡ t .distance)
   clock-least p t q h =
-      let y = ridden p t q in
-      let d = ap (λ (x : Totals). x .duration) (y .2) in
-      let z = least-label p (y .0) (y .1) (subst (λ (n : ℕ). placed (s .head .rest) p (length calls) n ≡ true) (sym d) h) in
-      (home s calls (z .0), clocked (z .0) (z .1), le3 (z .0 .time) (y .0 .time) back (t .duration) (z .2) d, ap (λ (x : Totals). x .distance) (y .2))
+      let (l, e, f) = ridden p t q in
+      let (d, r, b, w, g) = home-has s calls l t f in
+      let i = ap (λ (x : Totals). x .duration) g in
+      let (u, c, n) = least-label (b .travel) p l e (subst (λ (n : ℕ). placed (s .head .rest) p (length calls) n ≡ true) (sym i) h) in
+      (homeBy s calls d (b .travel) u, clocked b w u c ∙ home-is s calls d b r w u, le3 (u .time) (l .time) (b .travel) (t .duration) n i, ap (λ (x : Totals). x .distance) g)
     where
       le3 : (a b c d : ℕ) → a ≤ b → b + c ≡ d → a + c ≤ d
       le3 a b c d h e = omega arith
@@ -240,9 +267,12 @@ arc-clock s calls a q =
     let o = clock-own s calls t (y .1) in
     (t, y .1, record { some-calls = c .0; room = c .1; rode = o .0; kept-limits = b .1; break-placed = o .1 }, g .1)
 
-distance-of : (s : Sheet) (r : Run) (t : Totals) → ride s r ≡ some t → distanceFrom s 0 (r .calls) ≡ t .distance
-unfolding ride
-distance-of s r t q = let y = bound (serveAll s (r .place) 1 0 (some start) (r .calls)) _ t q in ap (λ (x : Totals). x .distance) (same (y .2))
+-- a run that is ridden has no closed leg, and its distance is that of its legs
+pub distance-of : (s : Sheet) (r : Run) (t : Totals) → ride s r ≡ some t → distanceFrom s 0 (r .calls) ≡ some (t .distance)
+distance-of s r t q =
+    let y = ridden s (r .calls) (r .place) t q in
+    let x = home-has s (r .calls) (y .0) t (y .2) in
+    x .1 ∙ ap (λ (u : Totals). some (u .distance)) (x .4)
 
 pub cost-of : (s : Sheet) (r : Run) (t : Totals) → ride s r ≡ some t → runCost s r ≡ price s (t .distance) (t .pay)
 unfolding runCost
@@ -276,12 +306,10 @@ enter-free (some w) (some p) h r e q = absurd (true≢false h)
 
 module _ (s : Sheet) (nopay : latenessPay s ≡ false) where
   serve-free : (here : Option Break) (k a c : ℕ) (l m : Label) → l .pay ≡ 0 → serve s here k a c l ≡ some m → m .pay ≡ 0
-  unfolding serveAt
   serve-free here k a c l m z q =
-      let x = bound (ready here (l .time + time s a c)) _ m q in
-      let y = bound (enter (customer s c .window) (customer s c .penalty) (x .0)) _ m (x .2) in
-      let f = enter-free (customer s c .window) (customer s c .penalty) (soft-no s nopay c) (x .0) (y .0) (y .1) in
-      sum0 (l .pay) (y .0 .pay) (m .pay) z f (ap (λ (n : Label). n .pay) (same (y .2)))
+      let x = serve-leg s here k a c l m q in
+      let (r, t, e, i, f) = served-at (customer s c) here k (x .0 .travel) l m (x .2) in
+      sum0 (l .pay) (e .pay) (m .pay) z (enter-free (customer s c .window) (customer s c .penalty) (soft-no s nopay c) r e i) (ap (λ (n : Label). n .pay) f)
     where
       sum0 : (a b c : ℕ) → a ≡ 0 → b ≡ 0 → a + b ≡ c → c ≡ 0
       sum0 a b c p q r = omega arith
@@ -294,10 +322,10 @@ module _ (s : Sheet) (nopay : latenessPay s ≡ false) where
       (λ n e. let y = bound m _ n e in serve-free (breakAt s p k) k a c (y .0) n (z (y .0) (y .1)) (y .2)) l q
 
   pub ride-free : (r : Run) (t : Totals) → ride s r ≡ some t → t .pay ≡ 0
-  unfolding ride
   ride-free r t q =
-      let y = bound (serveAll s (r .place) 1 0 (some start) (r .calls)) _ t q in
-      sym (ap (λ (x : Totals). x .pay) (same (y .2)))
+      let y = ridden s (r .calls) (r .place) t q in
+      let x = home-has s (r .calls) (y .0) t (y .2) in
+      sym (ap (λ (u : Totals). u .pay) (x .4))
       ∙ served-free (r .place) 1 0 (some start) (r .calls) (λ l e. sym (ap (λ (x : Label). x .pay) (same e))) (y .0) (y .1)
 
   -- whatever its break place, a legal run costs what the clock says
@@ -307,7 +335,7 @@ module _ (s : Sheet) (nopay : latenessPay s ≡ false) where
       let y = arc-clock s (r .calls) a q in
       let M = y .2 in
       cost-of s r t (L .rode)
-      ∙ even (s .head .fixed) _ _ _ _ (sym (distance-of s r t (L .rode)) ∙ distance-of s _ (y .0) (M .rode)) (ride-free r t (L .rode)) (ride-free _ (y .0) (M .rode))
+      ∙ even (s .head .fixed) _ _ _ _ (same (sym (distance-of s r t (L .rode)) ∙ distance-of s _ (y .0) (M .rode))) (ride-free r t (L .rode)) (ride-free _ (y .0) (M .rode))
       ∙ ap (λ (x : Arc). x .cost) (y .3)
     where
       even : (f a b p q : ℕ) → a ≡ b → p ≡ 0 → q ≡ 0 → f + a + p ≡ f + b + q

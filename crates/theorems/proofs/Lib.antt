@@ -1,4 +1,6 @@
 -- What is proved of the definitions, for every sheet. (Their computed cases are in crates/definitions; that what `encode` writes is read back, and only that is accepted, is in crates/round_trip.)
+-- Legs that can be driven.
+pub mod Roads
 -- The break: serving is monotone in time, and the clock is as good as any place.
 pub mod Serving
 pub mod Places
@@ -21,6 +23,8 @@ pub mod Agreement
 pub mod Bare
 -- Without wheelchair places.
 pub mod SeatsAlone
+-- Without a closed leg.
+pub mod OpenSplit
 -- Refusals in order, whatever stands in the list.
 pub mod InOrder
 -- What an accepted call is known to be; a tour with a customer twice; the reader's leftmost bad word, and the one that it names by 21; a number as text.

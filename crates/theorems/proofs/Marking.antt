@@ -6,7 +6,7 @@ use mathlib.Core.Logic.{_↔_}
 use mathlib.Core.Path.{_≡_, refl, sym, ap, subst, _∙_}
 use mathlib.Core.Bool.{Bool, true, false, not}
 use mathlib.Core.List.{List, [], _∷_}
-use mathlib.Core.Option.{Option, none, some}
+use mathlib.Core.Option.{Option, none, some, Option·map}
 use lib.ListN.{length}
 use lib.Dec.{ltb, eqb}
 use borrow.Author.Tests.{ltb-true, ltb-false, lt-ltb, le-ltb, eqb-true, eq-eqb}
@@ -15,20 +15,25 @@ use Rattle.basics.specs.Options.{_>>=_, holds, present, valueOr, orElse, given}
 use Rattle.basics.proofs.OptionLaws.{neither, passed, same, clash}
 use Rattle.basics.specs.Lists.{isEmpty, all}
 use Rattle.definitions.specs.Load.{Load, seated}
-use Rattle.definitions.specs.Sheet.{Break, Sheet, time, latenessPay}
+use Rattle.definitions.specs.Sheet.{Break, Sheet, Leg, drive, latenessPay}
 use Rattle.definitions.specs.Limits.{within}
-use Rattle.definitions.specs.Run.{ready, Label, start, serve, breakAt, serveAll, Totals, home, Run, ride, load, fits, placed, legal}
+use Rattle.definitions.specs.Run.{ready, Label, start, serve, breakAt, serveAll, firstClosed, Totals, Run, ride, load, fits, placed, legal}
 use Rattle.definitions.specs.Cutting.{joined, legalCutting, cuttingCost}
 use Rattle.definitions.specs.Drop.{splitTw}
-use Rattle.definitions.specs.Marker.{markAgainst, Verdict, otherCalls, overload, overloadOf, breakTooLate, windowMissed, breakMissing, tooFar, tooLong, best, dearer, cheaper, wheelchairOverload, differ, breakOr, callFault, walkFault, totalFault, runFault, firstFault, against, mark}
+use Rattle.definitions.specs.Marker.{markAgainst, Verdict, otherCalls, overload, overloadOf, breakTooLate, windowMissed, breakMissing, tooFar, tooLong, best, dearer, cheaper, wheelchairOverload, roadClosed, differ, breakOr, arrivalFault, callFault, walkFault, totalFault, runFault, firstFault, against, mark}
 use Rattle.definitions.specs.Marks.{Cuts, plannerCost, Compared, equal, above, below}
-use Rattle.theorems.proofs.Legality.{legal-has, has-legal, legal-arc, arc-clock}
+use Rattle.theorems.proofs.Roads.{by-leg, distance-home, distance-open, open-distance, homeBy, home-is}
+use Rattle.theorems.proofs.Legality.{rides, ridden, distance-of, legal-has, has-legal, legal-arc, arc-clock}
 use Rattle.theorems.proofs.Promised.{byClock, Promise, clock-runs, promised}
 
 -- what is not there after a step that cannot fail was not there before it
 pub nothing-mapped : {A B : Type 0} (o : Option A) (f : A → B) → (o >>= λ x. some (f x)) ≡ none → o ≡ none
 nothing-mapped none f h = refl
 nothing-mapped (some x) f h = clash (sym h)
+
+pub unmapped : {A B : Type 0} (o : Option A) (f : A → B) → Option·map f o ≡ none → o ≡ none
+unmapped none f h = refl
+unmapped (some x) f h = clash (sym h)
 
 -- ---- the walk
 
@@ -65,11 +70,11 @@ module _ (s : Sheet) (n place : ℕ) where
 pub unmarked-legal : (s : Sheet) (n : ℕ) (r : Run) → not (isEmpty (r .calls)) ≡ true → runFault s n r ≡ none → legal s r ≡ true
 unfolding runFault
 unmarked-legal s n r z h =
-    let a = neither (given (not (fits s (r .calls))) _) _ h in
+    let g = neither (Option·map (roadClosed n) (firstClosed s (r .calls))) _ h in
+    let a = neither (given (not (fits s (r .calls))) _) _ (g .1) in
     let b = neither (walkFault s n (r .place) 1 0 start (r .calls)) _ (a .1) in
     let m = walk-served s n (r .place) 1 0 start (r .calls) (b .0) in
-    let t = home s (r .calls) (m .0) in
-    let e : ride s r ≡ some t = rides s r (m .0) (m .1) in
+    let (t, e) = driven (unmapped (firstClosed s (r .calls)) (roadClosed n) (g .0)) (m .0) (m .1) in
     let f : totalFault s n r t ≡ none = subst (λ (o : Option Totals). (o >>= totalFault s n r) ≡ none) e (b .1) in
     let c = neither (given (not (placed (s .head .rest) (r .place) (length (r .calls)) (t .duration))) _) _ f in
     let d = neither (given (not (within (s .head .maxDistance) (t .distance))) _) _ (c .1) in
@@ -81,17 +86,22 @@ unmarked-legal s n r z h =
       break-placed = passed (placed (s .head .rest) (r .place) (length (r .calls)) (t .duration)) _ (c .0);
     })
   where
-    rides : (s : Sheet) (r : Run) (l : Label) → serveAll s (r .place) 1 0 (some start) (r .calls) ≡ some l → ride s r ≡ some (home s (r .calls) l)
-    rides s r l e = Rattle.theorems.proofs.Legality.rides s (r .calls) (r .place) l e
+    -- no leg is closed, and all calls are served
+    driven : firstClosed s (r .calls) ≡ none → (l : Label) → serveAll s (r .place) 1 0 (some start) (r .calls) ≡ some l → (t : Totals) × (ride s r ≡ some t)
+    driven o l e =
+        let d = open-distance s 1 0 (r .calls) o in
+        let b = distance-home s 0 (r .calls) (d .0) (d .1) in
+        (homeBy s (r .calls) (d .0) (b .0 .travel) l, rides s (r .calls) (r .place) l e ∙ home-is s (r .calls) (d .0) (b .0) (d .1) (b .1) l)
 
 pub legal-unmarked : (s : Sheet) (n : ℕ) (r : Run) → legal s r ≡ true → runFault s n r ≡ none
 unfolding runFault
 legal-unmarked s n r h =
     let (t, L) = legal-has s r h in
-    let m = Rattle.theorems.proofs.Legality.ridden s (r .calls) (r .place) t (L .rode) in
+    let m = ridden s (r .calls) (r .place) t (L .rode) in
+    let o = distance-open s 1 0 (r .calls) (t .distance) (distance-of s r t (L .rode)) in
     let w = served-walk s n (r .place) 1 0 start (r .calls) (m .0) (m .1) in
     let b = both (within (s .head .maxDistance) (t .distance)) _ (L .kept-limits) in
-    rw (L .room, w, L .rode) (rw (L .break-placed, b .0, b .1) refl)
+    rw (o, L .room, w, L .rode) (rw (L .break-placed, b .0, b .1) refl)
 
 pub unmarked-runs : (s : Sheet) (n : ℕ) (rs : List Run) → all (λ r. not (isEmpty (r .calls))) rs ≡ true → firstFault s n rs ≡ none → legalCutting s rs ≡ true
 unmarked-runs s n [] z h = refl
@@ -133,6 +143,7 @@ isPriced best = true
 isPriced (dearer k) = true
 isPriced (cheaper k) = true
 isPriced (wheelchairOverload n l c) = false
+isPriced (roadClosed n k) = false
 
 abbrev Fault : Option Verdict → Type 0
 Fault o = (v : Verdict) → o ≡ some v → isPriced v ≡ false
@@ -146,11 +157,17 @@ fault-or none b f g = g
 fault-or (some a) b f g = f
 
 call-fault : (s : Sheet) (n : ℕ) (here : Option Break) (k a c : ℕ) (l : Label) → isPriced (callFault s n here k a c l) ≡ false
-call-fault s n here k a c l = go (ready here (l .time + time s a c)) refl
+call-fault s n here k a c l = by-leg s a c (λ f. rw (f, isPriced) refl) (λ leg e. ap isPriced (reached leg e) ∙ arrival-fault (l .time + leg .travel))
   where
-    go : (o : Option ℕ) → ready here (l .time + time s a c) ≡ o → isPriced (callFault s n here k a c l) ≡ false
-    go none e = rw (e, isPriced) refl
-    go (some r) e = rw (e, isPriced) refl
+    reached : (leg : Leg) → drive s a c ≡ some leg → callFault s n here k a c l ≡ arrivalFault s n here k c (l .time + leg .travel)
+    reached leg e = rw (e, callFault) refl
+
+    arrival-fault : (t : ℕ) → isPriced (arrivalFault s n here k c t) ≡ false
+    arrival-fault t = go (ready here t) refl
+      where
+        go : (o : Option ℕ) → ready here t ≡ o → isPriced (arrivalFault s n here k c t) ≡ false
+        go none e = rw (e, isPriced) refl
+        go (some r) e = rw (e, isPriced) refl
 
 walk-fault : (s : Sheet) (n place k a : ℕ) (l : Label) (calls : List ℕ) → Fault (walkFault s n place k a l calls)
 unfolding walkFault
@@ -180,9 +197,14 @@ run-fault s n r =
     let x = overloadOf n (load s (r .calls)) (s .head .capacity) in
     let A = not (fits s (r .calls)) in
     let w = walkFault s n (r .place) 1 0 start (r .calls) in
-    fault-or (given A x) (orElse w (ride s r >>= totalFault s n r)) (fault-one x (load-fault n (load s (r .calls)) (s .head .capacity)) A)
-    (fault-or w (ride s r >>= totalFault s n r) (walk-fault s n (r .place) 1 0 start (r .calls)) (go (ride s r)))
+    fault-or (Option·map (roadClosed n) (firstClosed s (r .calls))) (orElse (given A x) (orElse w (ride s r >>= totalFault s n r))) (roads (firstClosed s (r .calls)))
+    (fault-or (given A x) (orElse w (ride s r >>= totalFault s n r)) (fault-one x (load-fault n (load s (r .calls)) (s .head .capacity)) A)
+    (fault-or w (ride s r >>= totalFault s n r) (walk-fault s n (r .place) 1 0 start (r .calls)) (go (ride s r))))
   where
+    roads : (o : Option ℕ) → Fault (Option·map (roadClosed n) o)
+    roads none = λ v e. clash e
+    roads (some k) = λ v e. subst (λ (x : Verdict). isPriced x ≡ false) (same e) refl
+
     go : (o : Option Totals) → Fault (o >>= totalFault s n r)
     go none = λ v e. clash e
     go (some t) = total-fault s n r t

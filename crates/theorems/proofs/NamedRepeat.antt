@@ -37,7 +37,8 @@ repeat-fits s i w e = go (given (faults s i w) 21 e)
     go (later (here m t)) = other 1 21 refl m
     go (later (later (here m t))) = t
     go (later (later (later (here m t)))) = other 2 21 refl m
-    go (later (later (later (later (here m t))))) = other 3 21 refl m
+    go (later (later (later (later (here m t))))) = other 22 21 refl m
+    go (later (later (later (later (later (here m t)))))) = other 3 21 refl m
 
 -- ---- the calls that the reader has in mind are the earlier E words
 

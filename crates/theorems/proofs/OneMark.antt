@@ -13,15 +13,16 @@ use Rattle.basics.specs.Options.{_>>=_, present, valueOr, orElse, given}
 use Rattle.basics.proofs.OptionLaws.{same, clash}
 use Rattle.basics.specs.Lists.{isEmpty}
 use Rattle.definitions.specs.Load.{seated, wheeled}
-use Rattle.definitions.specs.Sheet.{Window, Break, Customer, Sheet, customer, time}
+use Rattle.definitions.specs.Sheet.{Window, Break, Customer, Sheet, Leg, customer, drive}
 use Rattle.definitions.specs.Window.{enter, late, dueOf}
 use Rattle.definitions.specs.Limits.{within, excused}
-use Rattle.definitions.specs.Run.{breakStart, tooLate, ready, Label, start, serve, serveAt, Run, breakAt, serveAll, lastOf, Totals, ride, load, fits, placed, legal}
+use Rattle.definitions.specs.Run.{breakStart, tooLate, ready, Label, start, serve, serveAt, Run, breakAt, serveAll, lastOf, firstClosed, Totals, ride, load, fits, placed, legal}
 use Rattle.definitions.specs.Cutting.{joined, legalCutting, cuttingCost}
 use Rattle.definitions.specs.Drop.{splitTw}
-use Rattle.definitions.specs.Marker.{Verdict, otherCalls, overload, breakTooLate, windowMissed, breakMissing, tooFar, tooLong, best, dearer, cheaper, wheelchairOverload, differ, breakOr, callFault, walkFault, totalFault, runFault, firstFault, against, mark}
+use Rattle.definitions.specs.Marker.{Verdict, otherCalls, overload, breakTooLate, windowMissed, breakMissing, tooFar, tooLong, best, dearer, cheaper, wheelchairOverload, roadClosed, differ, breakOr, arrivalFault, callFault, walkFault, totalFault, runFault, firstFault, against, mark}
 use Rattle.definitions.specs.Marks as Marks
-use Rattle.definitions.specs.Marks.{Differs, Overloaded, WheelchairsOver, Reached, arrival, BreakLate, WindowLate, Home, BreakLeftOut, Far, Long, Fails, by-load, by-wheelchairs, by-break, by-window, by-missing, by-distance, by-duration, FirstFails, Cuts, plannerCost, Compared, equal, above, below, Says, other, fault, priced}
+use Rattle.definitions.specs.Marks.{Differs, Overloaded, WheelchairsOver, Reached, arrival, BreakLate, WindowLate, Home, BreakLeftOut, Far, Long, Open, Fails, by-road, by-load, by-wheelchairs, by-break, by-window, by-missing, by-distance, by-duration, FirstFails, Cuts, plannerCost, Compared, equal, above, below, Says, other, fault, priced}
+use Rattle.theorems.proofs.Roads.{is-closed}
 use Rattle.theorems.proofs.Marking.{served-none, legal-unmarked, same-differ, mark-other, mark-same, mark-legal}
 
 -- ---- other calls
@@ -98,19 +99,19 @@ module _ (s : Sheet) (n place : ℕ) where
 
 -- ---- a call that fails
 
-module _ (s : Sheet) (n k a c : ℕ) (l : Label) where
-  break-fails : (b : Break) (value limit : ℕ) → breakStart b (l .time + time s a c) ≡ value → b .latest ≡ limit → limit < value
+module _ (s : Sheet) (n k a c : ℕ) (l : Label) (leg : Leg) (way : drive s a c ≡ some leg) where
+  break-fails : (b : Break) (value limit : ℕ) → breakStart b (l .time + leg .travel) ≡ value → b .latest ≡ limit → limit < value
       → (serve s (some b) k a c l ≡ none) × (callFault s n (some b) k a c l ≡ breakTooLate n k c value limit)
   unfolding serveAt ready
-  break-fails b value limit e f o = (rw t refl, rw (t, callFault) (ap₂ (λ (x y : ℕ). breakTooLate n k c x y) e f))
+  break-fails b value limit e f o = (rw (way, t) refl, rw (way, t, callFault, arrivalFault) (ap₂ (λ (x y : ℕ). breakTooLate n k c x y) e f))
     where
-      t : ltb (b .latest) (breakStart b (l .time + time s a c)) ≡ true
+      t : ltb (b .latest) (breakStart b (l .time + leg .travel)) ≡ true
       t = rw (e, f) (lt-ltb limit value o)
 
-  window-fails : (here : Option Break) (w : Window) (value limit : ℕ) → ready here (l .time + time s a c) ≡ some value → customer s c .window ≡ some w → customer s c .penalty ≡ none
+  window-fails : (here : Option Break) (w : Window) (value limit : ℕ) → ready here (l .time + leg .travel) ≡ some value → customer s c .window ≡ some w → customer s c .penalty ≡ none
       → w .due ≡ limit → limit < value → (serve s here k a c l ≡ none) × (callFault s n here k a c l ≡ windowMissed n k c value limit)
   unfolding serveAt enter
-  window-fails here w value limit e g h f o = (rw (e, g, h, t) refl, rw (e, callFault) (rw g (ap (λ (y : ℕ). windowMissed n k c value y) f)))
+  window-fails here w value limit e g h f o = (rw (way, e, g, h, t) refl, rw (way, e, callFault, arrivalFault) (rw g (ap (λ (y : ℕ). windowMissed n k c value y) f)))
     where
       t : ltb (w .due) value ≡ true
       t = rw f (lt-ltb limit value o)
@@ -118,13 +119,17 @@ module _ (s : Sheet) (n k a c : ℕ) (l : Label) where
 -- ---- a run
 
 module _ (s : Sheet) (n : ℕ) (r : Run) where
-  -- the load fits: what the calls and the totals say
-  after-load : fits s (r .calls) ≡ true → (v : Verdict) → orElse (walkFault s n (r .place) 1 0 start (r .calls)) (ride s r >>= totalFault s n r) ≡ some v → runFault s n r ≡ some v
+  -- no leg is closed and the load fits: what the calls and the totals say
+  after-load : Open s (r .calls) → fits s (r .calls) ≡ true → (v : Verdict) → orElse (walkFault s n (r .place) 1 0 start (r .calls)) (ride s r >>= totalFault s n r) ≡ some v → runFault s n r ≡ some v
   unfolding runFault
-  after-load f v h = rw f h
+  after-load o f v h = rw (o, f) h
 
-  walked : (v : Verdict) → fits s (r .calls) ≡ true → walkFault s n (r .place) 1 0 start (r .calls) ≡ some v → runFault s n r ≡ some v
-  walked v f h = after-load f v (rw h refl)
+  walked : (v : Verdict) → Open s (r .calls) → fits s (r .calls) ≡ true → walkFault s n (r .place) 1 0 start (r .calls) ≡ some v → runFault s n r ≡ some v
+  walked v o f h = after-load o f v (rw h refl)
+
+  closed-run : (leg : ℕ) → firstClosed s (r .calls) ≡ some leg → runFault s n r ≡ some (roadClosed n leg)
+  unfolding runFault
+  closed-run leg e = rw e refl
 
   -- a ride that comes home walked without a fault
   home-walk : (t : Totals) → ride s r ≡ some t → walkFault s n (r .place) 1 0 start (r .calls) ≡ none
@@ -136,13 +141,13 @@ module _ (s : Sheet) (n : ℕ) (r : Run) where
       go (some l) q = served-walk s n (r .place) 1 0 start (r .calls) l q
 
   came-home : (t : Totals) → Home s r t → (v : Verdict) → totalFault s n r t ≡ some v → runFault s n r ≡ some v
-  came-home t h v f = after-load (h .room) v (rw (home-walk t (h .rode), h .rode) f)
+  came-home t h v f = after-load (h .roads) (h .room) v (rw (home-walk t (h .rode), h .rode) f)
 
   over-load : (value limit : ℕ) → Overloaded s r value limit → runFault s n r ≡ some (overload n value limit)
   unfolding runFault
   over-load value limit x =
       by-test (seated (load s (r .calls)) (s .head .capacity)) (λ t. absurd (too-much (leb-true (load s (r .calls) .seats) (s .head .capacity .seats) t)))
-      (λ f. rw f (ap₂ (λ (a b : ℕ). some (overload n a b)) (x .value-is) (x .limit-is)))
+      (λ f. rw (x .roads, f) (ap₂ (λ (a b : ℕ). some (overload n a b)) (x .value-is) (x .limit-is)))
     where
       too-much : load s (r .calls) .seats ≤ s .head .capacity .seats → ⊥
       too-much h = omega (arith, h, x .value-is, x .limit-is, x .over)
@@ -151,10 +156,14 @@ module _ (s : Sheet) (n : ℕ) (r : Run) where
   unfolding runFault
   over-wheelchairs value limit x =
       by-test (wheeled (load s (r .calls)) (s .head .capacity)) (λ t. absurd (too-much (leb-true (load s (r .calls) .wheelchairs) (s .head .capacity .wheelchairs) t)))
-      (λ f. rw (x .seats-fit, f) (ap₂ (λ (a b : ℕ). some (wheelchairOverload n a b)) (x .value-is) (x .limit-is)))
+      (λ f. rw (x .roads, x .seats-fit, f) (ap₂ (λ (a b : ℕ). some (wheelchairOverload n a b)) (x .value-is) (x .limit-is)))
     where
       too-much : load s (r .calls) .wheelchairs ≤ s .head .capacity .wheelchairs → ⊥
       too-much h = omega (arith, h, x .value-is, x .limit-is, x .over)
+
+  -- the leg to the call that is reached
+  way : {k c : ℕ} (x : Reached s r k c) → drive s (lastOf 0 (take (x .before) (r .calls))) c ≡ some (x .leg)
+  way x = subst (λ (d : ℕ). drive s (lastOf 0 (take (x .before) (r .calls))) d ≡ some (x .leg)) (x .call-is) (x .leg-is)
 
   -- the call that is reached fails, and says so
   reached-fails : (k c : ℕ) (v : Verdict) (x : Reached s r k c)
@@ -162,13 +171,14 @@ module _ (s : Sheet) (n : ℕ) (r : Run) where
       × (callFault s n (breakAt s (r .place) k) k (lastOf 0 (take (x .before) (r .calls))) c (x .label) ≡ v)
       → runFault s n r ≡ some v
   reached-fails k c v x h =
-      walked v (x .room)
+      walked v (x .roads) (x .room)
       (walk-at s n (r .place) 1 0 start (r .calls) (x .before) k (x .label) (omega (arith, x .number)) (x .inside) (x .served)
       (subst (λ (d : ℕ). serve s (breakAt s (r .place) k) k (lastOf 0 (take (x .before) (r .calls))) d (x .label) ≡ none) (sym (x .call-is)) (h .0))
       ∙ ap some (subst (λ (d : ℕ). callFault s n (breakAt s (r .place) k) k (lastOf 0 (take (x .before) (r .calls))) d (x .label) ≡ v) (sym (x .call-is)) (h .1)))
 
   pub fails-run : (v : Verdict) → Fails s n r v → runFault s n r ≡ some v
   unfolding placed
+  fails-run v (by-road {leg} x) = closed-run leg (is-closed s (r .calls) leg x)
   fails-run v (by-load {value} {limit} x) = over-load value limit x
   fails-run v (by-wheelchairs {value} {limit} x) = over-wheelchairs value limit x
   fails-run v (by-break {k} {c} {value} {limit} x) =
@@ -178,13 +188,13 @@ module _ (s : Sheet) (n : ℕ) (r : Run) where
       (serve s o k (lastOf 0 (take (x .reached .before) (r .calls))) c (x .reached .label) ≡ none)
       × (callFault s n o k (lastOf 0 (take (x .reached .before) (r .calls))) c (x .reached .label) ≡ breakTooLate n k c value limit))
       (sym at-it)
-      (break-fails s n k (lastOf 0 (take (x .reached .before) (r .calls))) c (x .reached .label) (x .break) value limit (x .value-is) (x .limit-is) (x .over)))
+      (break-fails s n k (lastOf 0 (take (x .reached .before) (r .calls))) c (x .reached .label) (x .reached .leg) (way (x .reached)) (x .break) value limit (x .value-is) (x .limit-is) (x .over)))
     where
       at-it : breakAt s (r .place) k ≡ some (x .break)
       at-it = rw (eq-eqb (r .place) k (x .here)) (x .rested)
   fails-run v (by-window {k} {c} {value} {limit} x) =
       reached-fails k c (windowMissed n k c value limit) (x .reached)
-      (window-fails s n k (lastOf 0 (take (x .reached .before) (r .calls))) c (x .reached .label) (breakAt s (r .place) k) (x .window) value limit
+      (window-fails s n k (lastOf 0 (take (x .reached .before) (r .calls))) c (x .reached .label) (x .reached .leg) (way (x .reached)) (breakAt s (r .place) k) (x .window) value limit
       (x .value-is) (x .shuts) (x .hard) (x .limit-is) (x .over))
   fails-run v (by-missing {value} {limit} x) = came-home (x .totals) (x .at-home) _ missing
     where

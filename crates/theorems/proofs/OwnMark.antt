@@ -173,6 +173,7 @@ module _ {F : Type 0} (value : F → Option ℕ) (l : Lent F) where
           once = A .once;
           runs = own-runs;
           unpaid = λ m. absurd (true≢false (sym m));
+          drivable = λ m. absurd (true≢false (sym m));
         })
 
     -- and marks it Best

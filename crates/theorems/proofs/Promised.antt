@@ -14,7 +14,7 @@ use Rattle.basics.specs.Options.{holds}
 use Rattle.basics.proofs.OptionLaws.{same}
 use Rattle.basics.specs.Lists.{all, sum, In, Rising, count}
 use Rattle.definitions.specs.Sheet.{Sheet, latenessPay}
-use Rattle.definitions.specs.Run.{Run, distanceFrom, Totals, legal, runCost}
+use Rattle.definitions.specs.Run.{Run, lengthOf, Totals, legal, runCost}
 use Rattle.definitions.specs.Clock.{clock, placeOr, Arc, arc}
 use Rattle.definitions.specs.Cutting.{callsIn, joined, runEnds, legalCutting, cuttingCost}
 use Rattle.definitions.specs.Drop.{callAt, callsAt, drops, Result, splitTw}
@@ -38,7 +38,7 @@ pub record Promise (s : Sheet) (tour : List ℕ) (x : Result) : Type 0 where
   pub held : List ℕ
   pub ends-are : runEnds runs ≡ x .ends
   pub places-are : map (λ r. r .place) runs ≡ x .places
-  pub distance-is : sum (λ r. distanceFrom s 0 (r .calls)) runs ≡ x .distance
+  pub distance-is : sum (λ r. lengthOf s (r .calls)) runs ≡ x .distance
   pub served-are : callsAt tour held ≡ x .served
   -- a legal cutting of the served calls, in tour order, and its run costs add up to the returned cost
   pub cuts : joined runs ≡ x .served

@@ -10,7 +10,7 @@ use Rattle.basics.proofs.TestLaws.{or-left, or-right}
 use Rattle.basics.specs.Tests.{either}
 use Rattle.basics.specs.Options.{present}
 use Rattle.basics.specs.Lists.{isEmpty, any}
-use Rattle.definitions.specs.Domain.{isPlaces, isCapacity, isDemand, isPenalty, isNumber, isCall, mostCalls}
+use Rattle.definitions.specs.Domain.{isPlaces, isCapacity, isDemand, isPenalty, isNumber, isLeg, isCall, mostCalls}
 use Rattle.definitions.specs.Load.{eachOf}
 use Rattle.definitions.specs.Sheet.{WindowOf, BreakOf, CustomerOf, SheetOf, records}
 use Rattle.definitions.specs.Room.{short}
@@ -142,8 +142,8 @@ module _ {F : Type 0} (value : F → Option ℕ) where
     pub rest : badBreak value (s .head .rest) ≡ false
     pub depot : badDepot value (records s) ≡ false
     pub customers : any (badCustomer value) (records s) ≡ false
-    pub distances : any (unfit value isNumber) (s .legs .distances) ≡ false
-    pub times : any (unfit value isNumber) (s .legs .times) ≡ false
+    pub distances : any (unfit value isLeg) (s .legs .distances) ≡ false
+    pub times : any (unfit value isLeg) (s .legs .times) ≡ false
 
   pub in-range : (s : SheetOf F) → badSheet value s ≡ false → InRange s
   unfolding badSheet
@@ -171,8 +171,8 @@ module _ {F : Type 0} (value : F → Option ℕ) where
           ∷ badBreak value (s .head .rest)
           ∷ badDepot value (records s)
           ∷ any (badCustomer value) (records s)
-          ∷ any (unfit value isNumber) (s .legs .distances)
-          ∷ any (unfit value isNumber) (s .legs .times)
+          ∷ any (unfit value isLeg) (s .legs .distances)
+          ∷ any (unfit value isLeg) (s .legs .times)
           ∷ []
 
       f : (k : ℕ) → getD tests k false ≡ false

@@ -8,7 +8,7 @@ use lib.Dec.{ltb}
 use borrow.Author.Tests.{ltb-false, le-ltb}
 use Rattle.basics.proofs.TestLaws.{by-test}
 use Rattle.basics.proofs.OptionLaws.{same, clash, bound}
-use Rattle.definitions.specs.Sheet.{Window, Break, Customer, Sheet, customer, time}
+use Rattle.definitions.specs.Sheet.{Window, Break, Customer, Sheet, Leg, customer, drive}
 use Rattle.definitions.specs.Window.{waiting, begins, Entry, enter}
 use Rattle.definitions.specs.Run.{serveAt, ready, Label, placeAfter, serve}
 
@@ -74,18 +74,40 @@ module _ (c : Customer) (here' here : Option Break) (R : Readier here' here) (k'
         omega (arith, z, v .2),
       )
 
+-- what a call that is served leaves: the label by its readiness and its entry
+abbrev pub after : Customer → Option Break → ℕ → Label → Entry → Label
+after c here k l e =
+    record { time = e .start + c .service; lateness = l .lateness + e .lateness; pay = l .pay + e .pay; place = placeAfter here k (l .place) }
+
+pub served-at : (c : Customer) (here : Option Break) (k travel : ℕ) (l m : Label) → serveAt c here k travel l ≡ some m
+    → (r : ℕ) × (ready here (l .time + travel) ≡ some r) × (e : Entry) × (enter (c .window) (c .penalty) r ≡ some e) × (after c here k l e ≡ m)
+unfolding serveAt
+served-at c here k travel l m q =
+    let x = bound (ready here (l .time + travel)) _ m q in
+    let y = bound (enter (c .window) (c .penalty) (x .0)) _ m (x .2) in
+    (x .0, x .1, y .0, y .1, same (y .2))
+
+-- a call that is served is reached along a leg that can be driven
+pub serve-leg : (s : Sheet) (here : Option Break) (k a c : ℕ) (l m : Label) → serve s here k a c l ≡ some m
+    → (leg : Leg) × (drive s a c ≡ some leg) × (serveAt (customer s c) here k (leg .travel) l ≡ some m)
+serve-leg s here k a c l m q = bound (drive s a c) _ m q
+
 -- a label that is no later is served no later
 pub serve-mono : (s : Sheet) (here : Option Break) (k' k a c : ℕ) (l' l : Label) → l' .time ≤ l .time → NoLater (serve s here k' a c l') (serve s here k a c l)
-serve-mono s here k' k a c l' l h = serve-readier (customer s c) here here (ready-mono here) k' k (time s a c) (time s a c) (le-refl (time s a c)) l' l h
+serve-mono s here k' k a c l' l h m q =
+    let x = serve-leg s here k a c l m q in
+    let y = serve-readier (customer s c) here here (ready-mono here) k' k (x .0 .travel) (x .0 .travel) (le-refl (x .0 .travel)) l' l h m (x .2) in
+    (y .0, rw (x .1) (y .1), y .2)
 
 -- and without the break at the call too
 pub serve-sooner : (s : Sheet) (b : Break) (k' k a c : ℕ) (l' l : Label) → l' .time ≤ l .time → NoLater (serve s none k' a c l') (serve s (some b) k a c l)
-serve-sooner s b k' k a c l' l h = serve-readier (customer s c) none (some b) (ready-sooner b) k' k (time s a c) (time s a c) (le-refl (time s a c)) l' l h
+serve-sooner s b k' k a c l' l h m q =
+    let x = serve-leg s (some b) k a c l m q in
+    let y = serve-readier (customer s c) none (some b) (ready-sooner b) k' k (x .0 .travel) (x .0 .travel) (le-refl (x .0 .travel)) l' l h m (x .2) in
+    (y .0, rw (x .1) (y .1), y .2)
 
 -- the break place after a call
 pub serve-place : (s : Sheet) (here : Option Break) (k a c : ℕ) (l m : Label) → serve s here k a c l ≡ some m → placeAfter here k (l .place) ≡ m .place
-unfolding serveAt
 serve-place s here k a c l m q =
-    let x = bound (ready here (l .time + time s a c)) _ m q in
-    let y = bound (enter (customer s c .window) (customer s c .penalty) (x .0)) _ m (x .2) in
-    ap (λ (n : Label). n .place) (same (y .2))
+    let x = serve-leg s here k a c l m q in
+    ap (λ (n : Label). n .place) (served-at (customer s c) here k (x .0 .travel) l m (x .2) .4)

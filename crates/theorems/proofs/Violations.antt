@@ -1,4 +1,4 @@
--- Violations: when the break is reported, when there is none at all, and how many there are at most. Assumes nothing.
+-- Violations: a closed leg alone; when the break is reported, when there is none at all, and how many there are at most. Assumes nothing.
 use Prim.Native.Nat.{ℕ, suc, _+_, _≤_}
 use native.Mathlib.Omega.{arith}
 use native.Mathlib.Nat.{le-refl}
@@ -15,17 +15,18 @@ use Rattle.basics.proofs.OptionLaws.{clash}
 use Rattle.basics.proofs.ListLaws.{any-append, empty-append}
 use Rattle.basics.specs.Lists.{isEmpty, any}
 use Rattle.definitions.specs.Load.{Load, noLoad, seated, wheeled}
-use Rattle.definitions.specs.Sheet.{Break, Sheet, time}
+use Rattle.definitions.specs.Sheet.{Break, Sheet, Leg, drive}
 use Rattle.definitions.specs.Window.{Entry}
 use Rattle.definitions.specs.Limits.{within}
-use Rattle.definitions.specs.Run.{serveAt, ready, Label, start, serve, breakAt, serveAll, Totals, home, load, fits, allowed}
+use Rattle.definitions.specs.Run.{serveAt, ready, Label, start, serve, breakAt, serveAll, lastOf, distanceFrom, firstClosed, Totals, home, load, fits, allowed}
 use Rattle.definitions.specs.Clock.{clock, counts, placeOr}
 use Rattle.definitions.specs.Evaluation.{routeEval, routeFeasible}
-use Rattle.definitions.specs.Visits.{Violation, windowShut, breakNotPlaceable, overCapacity, overDistance, overDuration, overWheelchairs, readyFor, entered, visited, windowsFrom, lastLabel, unless, overloads, buildRoute}
+use Rattle.definitions.specs.Visits.{Route, Violation, windowShut, breakNotPlaceable, overCapacity, overDistance, overDuration, overWheelchairs, closedLeg, readyFor, entered, visited, windowsFrom, lastLabel, unless, overloads, noTotals, openRoute, buildRoute}
 use Rattle.definitions.specs.Lent.{violationRoom}
-use Rattle.theorems.proofs.Legality.{plain, clocked, end, back, labelOf}
+use Rattle.theorems.proofs.Roads.{distance-on, distance-home, closed-distance, open-distance, home-is}
+use Rattle.theorems.proofs.Legality.{plain, clocked, clock-closed, end, labelOf}
 use Rattle.theorems.proofs.Marking.{nothing-mapped}
-use Rattle.theorems.proofs.Visiting.{visited-served, visits-clock}
+use Rattle.theorems.proofs.Visiting.{route-closed, route-open, arrives-by, visited-served, visits-clock}
 
 abbrev pub isWindow : Violation → Bool
 isWindow (windowShut c r d) = true
@@ -34,6 +35,7 @@ isWindow (overCapacity l c) = false
 isWindow (overDistance d l) = false
 isWindow (overDuration d l) = false
 isWindow (overWheelchairs l c) = false
+isWindow (closedLeg n) = false
 
 abbrev pub isBreak : Violation → Bool
 isBreak (windowShut c r d) = false
@@ -42,6 +44,7 @@ isBreak (overCapacity l c) = false
 isBreak (overDistance d l) = false
 isBreak (overDuration d l) = false
 isBreak (overWheelchairs l c) = false
+isBreak (closedLeg n) = false
 
 -- a violation of another kind, if it is there, changes nothing
 quiet : (p : Violation → Bool) (l : List Violation) (b : Bool) (v : Violation) → p v ≡ false → any p (l ++ unless b v) ≡ any p l
@@ -75,25 +78,31 @@ module _ (s : Sheet) (place : ℕ) where
       let ih = windows-room (suc k) c (visited s (breakAt s place k) k a c l) cs in
       by-test (present (entered s c (readyFor s (breakAt s place k) a c l))) (λ t. rw t (omega arith)) (λ f. rw f (omega arith))
 
-  -- a call that fails though the break is not there is reached after due
-  shut : (k a c : ℕ) (l : Label) → s .head .rest ≡ none → serve s (breakAt s place k) k a c l ≡ none → present (entered s c (readyFor s (breakAt s place k) a c l)) ≡ false
+  -- a call that fails though its leg is open and the break is not there is reached after due
+  shut : (k a c : ℕ) (leg : Leg) → drive s a c ≡ some leg → (l : Label) → s .head .rest ≡ none → serve s (breakAt s place k) k a c l ≡ none
+      → present (entered s c (readyFor s (breakAt s place k) a c l)) ≡ false
   unfolding serveAt ready
-  shut k a c l e q =
+  shut k a c leg w l e q =
       subst (λ (o : Option Break). serve s o k a c l ≡ none → present (entered s c (readyFor s o a c l)) ≡ false) (sym nowhere)
-      (λ r. ap (λ (o : Option Entry). present o) (nothing-mapped (entered s c (l .time + time s a c)) _ r)) q
+      (λ r. ap (λ (t : ℕ). present (entered s c t)) (arrives-by s l a c leg w)
+      ∙ ap (λ (o : Option Entry). present o) (nothing-mapped (entered s c (l .time + leg .travel)) _ (rw (w, serveAt) at r))) q
     where
       nowhere : breakAt s place k ≡ none
       nowhere = rw e (by-test (eqb place k) (λ t. rw t refl) (λ f. rw f refl))
 
   -- without a break on the sheet only a window can fail, and then it is among the violations
-  missed : s .head .rest ≡ none → (k a : ℕ) (l : Label) (calls : List ℕ) → serveAll s place k a (some l) calls ≡ none → isEmpty (windowsFrom s place k a l calls) ≡ false
+  missed : s .head .rest ≡ none → (k a : ℕ) (l : Label) (calls : List ℕ) (d : ℕ) → distanceFrom s a calls ≡ some d
+      → serveAll s place k a (some l) calls ≡ none → isEmpty (windowsFrom s place k a l calls) ≡ false
   unfolding serveAll windowsFrom
-  missed e k a l [] q = clash (sym q)
-  missed e k a l (c ∷ cs) q = go (serve s (breakAt s place k) k a c l) refl (λ m r. missed e (suc k) c m cs r)
+  missed e k a l [] d h q = clash (sym q)
+  missed e k a l (c ∷ cs) d h q = go (serve s (breakAt s place k) k a c l) refl (λ m r. missed e (suc k) c m cs (on .2) (on .3) r)
     where
+      on : (l : Leg) × (drive s a c ≡ some l) × (e : ℕ) × (distanceFrom s c cs ≡ some e) × (l .length + e ≡ d)
+      on = distance-on s a c cs d h
+
       go : (o : Option Label) → serve s (breakAt s place k) k a c l ≡ o → ((m : Label) → serveAll s place (suc k) c (some m) cs ≡ none → isEmpty (windowsFrom s place (suc k) c m cs) ≡ false)
           → isEmpty (windowsFrom s place k a l (c ∷ cs)) ≡ false
-      go none f ih = rw (shut k a c l e f) refl
+      go none f ih = rw (shut k a c (on .0) (on .1) l e f) refl
       go (some m) f ih =
           let v = visited-served s (breakAt s place k) k a c l m f in
           rw (v .1) (ap (λ (x : Label). isEmpty (windowsFrom s place (suc k) c x cs)) (v .0) ∙ ih m (ap (λ (o : Option Label). serveAll s place (suc k) c o cs) (sym f) ∙ q))
@@ -162,18 +171,27 @@ module _ (s : Sheet) (calls : List ℕ) where
   reportedBy o = present (s .head .rest) && not (present o) && isEmpty (missedBy o)
 
   abbrev totalsBy : Option Totals → Totals
-  totalsBy o = home s calls (lastLabel s (placeOr o) 1 0 start calls)
+  totalsBy o = valueOr noTotals (home s calls (lastLabel s (placeOr o) 1 0 start calls))
 
   abbrev violationsBy : Option Totals → List Violation
   violationsBy o = ordered (missedBy o) (reportedBy o) (totalsBy o)
 
-  violations-are : buildRoute s calls .violations ≡ violationsBy (clock s calls)
-  unfolding buildRoute
-  violations-are = refl
+  -- a closed leg is the only violation of its run
+  pub closed-alone : (leg : ℕ) → firstClosed s calls ≡ some leg → buildRoute s calls .violations ≡ closedLeg leg ∷ []
+  closed-alone leg e = ap (λ (r : Route). r .violations) (route-closed s calls leg e)
 
-  -- the break is reported exactly when the sheet has one, the clock has no answer, and no window violation is reported
-  pub break-reported : any isBreak (buildRoute s calls .violations) ≡ (present (s .head .rest) && not (present (clock s calls)) && not (any isWindow (buildRoute s calls .violations)))
-  break-reported = rw violations-are (go (clock s calls))
+  totals-are : firstClosed s calls ≡ none → totalsBy (clock s calls) ≡ buildRoute s calls .totals
+  unfolding openRoute
+  totals-are o = sym (ap (λ (r : Route). r .totals) (route-open s calls o))
+
+  violations-are : firstClosed s calls ≡ none → buildRoute s calls .violations ≡ violationsBy (clock s calls)
+  unfolding openRoute
+  violations-are o = ap (λ (r : Route). r .violations) (route-open s calls o)
+
+  -- of a run without a closed leg the break is reported exactly when the sheet has one, the clock has no answer, and no window violation is reported
+  pub break-reported : firstClosed s calls ≡ none
+      → any isBreak (buildRoute s calls .violations) ≡ (present (s .head .rest) && not (present (clock s calls)) && not (any isWindow (buildRoute s calls .violations)))
+  break-reported roads = rw (violations-are roads) (go (clock s calls))
     where
       go : (o : Option Totals) → any isBreak (violationsBy o) ≡ (present (s .head .rest) && not (present o) && not (any isWindow (violationsBy o)))
       go o =
@@ -185,32 +203,42 @@ module _ (s : Sheet) (calls : List ℕ) where
 
   -- there is no violation exactly when the run fits and `route_eval` has an answer
   pub no-violation : isEmpty (buildRoute s calls .violations) ≡ (fits s calls && routeFeasible s calls)
-  unfolding routeFeasible routeEval buildRoute
-  no-violation = rw violations-are (go (clock s calls) refl)
+  unfolding routeFeasible routeEval
+  no-violation = by (firstClosed s calls) refl
     where
       answered : (t : Totals) → clock s calls ≡ some t → routeFeasible s calls ≡ allowed s t
       answered t e = rw e (by-test (allowed s t) (λ t. rw t refl) (λ f. rw f refl))
 
       -- without a break on the sheet a window is missed, and with one the break is reported
-      nowhere : clock s calls ≡ none → (r : Option Break) → s .head .rest ≡ r → isEmpty (missedBy none) ≡ true → isEmpty (violationsBy none) ≡ false
-      nowhere e (some b) r w = empty-ordered (missedBy none) (reportedBy none) (totalsBy none) ∙ rw (w, ap (λ (o : Option Break). present o) r) refl
-      nowhere e none r w = not-both (isEmpty (missedBy none)) w (missed s 0 r 1 0 start calls (none-left (labelOf s calls 0) refl))
+      nowhere : (d : ℕ) → distanceFrom s 0 calls ≡ some d → clock s calls ≡ none → (r : Option Break) → s .head .rest ≡ r → isEmpty (missedBy none) ≡ true → isEmpty (violationsBy none) ≡ false
+      nowhere d h e (some b) r w = empty-ordered (missedBy none) (reportedBy none) (totalsBy none) ∙ rw (w, ap (λ (o : Option Break). present o) r) refl
+      nowhere d h e none r w = not-both (isEmpty (missedBy none)) w (missed s 0 r 1 0 start calls d h (none-left (labelOf s calls 0) refl))
         where
+          back : (b : Leg) × (drive s (lastOf 0 calls) 0 ≡ some b)
+          back = distance-home s 0 calls d h
+
           none-left : (o : Option Label) → labelOf s calls 0 ≡ o → o ≡ none
           none-left none q = refl
-          none-left (some l) q = clash (sym e ∙ clocked s calls l (ap (λ (o : Option Break). counts o (back s calls) (end s calls)) r ∙ plain s calls ∙ q))
+          none-left (some l) q =
+              clash (sym e
+              ∙ clocked s calls (back .0) (back .1) l (ap (λ (o : Option Break). counts o (back .0 .travel) (end s calls)) r ∙ plain s calls ∙ q) ∙ home-is s calls d (back .0) h (back .1) l)
 
-      go : (o : Option Totals) → clock s calls ≡ o → isEmpty (violationsBy o) ≡ (fits s calls && routeFeasible s calls)
-      go none e =
-          by-test (isEmpty (missedBy none)) (λ w. nowhere e (s .head .rest) refl w)
+      go : firstClosed s calls ≡ none → (o : Option Totals) → clock s calls ≡ o → isEmpty (violationsBy o) ≡ (fits s calls && routeFeasible s calls)
+      go roads none e =
+          let d = open-distance s 1 0 calls roads in
+          by-test (isEmpty (missedBy none)) (λ w. nowhere (d .0) (d .1) e (s .head .rest) refl w)
           (λ w. empty-ordered (missedBy none) (reportedBy none) (totalsBy none) ∙ rw w refl)
           ∙ rw e (sym (and-false (fits s calls)))
-      go (some t) e =
+      go roads (some t) e =
           let v = visits-clock s calls t e in
           ap (λ (w : List Violation). isEmpty (ordered w (present (s .head .rest) && false && isEmpty w) (totalsBy (some t)))) (v .1)
-          ∙ ap (λ (u : Totals). isEmpty (ordered [] (present (s .head .rest) && false && true) u)) (sym (ap totalsBy e) ∙ v .0)
+          ∙ ap (λ (u : Totals). isEmpty (ordered [] (present (s .head .rest) && false && true) u)) (sym (ap totalsBy e) ∙ totals-are roads ∙ v .0)
           ∙ empty-ordered [] (present (s .head .rest) && false && true) t
           ∙ rw (and-false (present (s .head .rest))) (and-assoc (fits s calls) _ _ ∙ ap (λ (b : Bool). fits s calls && b) (sym (answered t e)))
+
+      by : (o : Option ℕ) → firstClosed s calls ≡ o → isEmpty (buildRoute s calls .violations) ≡ (fits s calls && routeFeasible s calls)
+      by (some leg) e = rw (closed-alone leg e, clock-closed s calls (closed-distance s 1 0 calls leg e)) (sym (and-false (fits s calls)))
+      by none e = rw (violations-are e) (go e (clock s calls) refl)
 
   -- how many there are at most: the windows missed, the break or none, the load or none, two limits
   room-ordered : (w : List Violation) (q : Bool) (t : Totals)
@@ -221,19 +249,26 @@ module _ (s : Sheet) (calls : List ℕ) where
       simp length-append (omega arith)
 
   -- where the windows missed are n and one more at most, so are they with the break
-  room-within : (n k : ℕ) → length (missedBy (clock s calls)) ≤ suc n → length (overloads (load s calls) (s .head .capacity)) ≤ k
+  room-within : firstClosed s calls ≡ none → (n k : ℕ) → length (missedBy (clock s calls)) ≤ suc n → length (overloads (load s calls) (s .head .capacity)) ≤ k
       → length (buildRoute s calls .violations) ≤ suc n + k + 2
-  room-within n k w f =
+  room-within roads n k w f =
       let o = clock s calls in
       let r = room-ordered (missedBy o) (reportedBy o) (totalsBy o) in
       let b = break-room (missedBy o) (present (s .head .rest) && not (present o)) n w in
-      rw violations-are (omega arith)
+      rw (violations-are roads) (omega arith)
 
--- the room that the violations need: three more than the calls
-pub violations-room : (s : Sheet) (calls : List ℕ) → length (buildRoute s calls .violations) ≤ violationRoom (length calls)
+open-room : (s : Sheet) (calls : List ℕ) → firstClosed s calls ≡ none → length (buildRoute s calls .violations) ≤ violationRoom (length calls)
 unfolding windowsFrom
-violations-room s [] = let r = room-within s [] 0 0 (omega arith) (none-overloads (s .head .capacity)) in omega arith
-violations-room s (c ∷ cs) =
+open-room s [] o = let r = room-within s [] o 0 0 (omega arith) (none-overloads (s .head .capacity)) in omega arith
+open-room s (c ∷ cs) o =
     let w = windows-room s (placeOr (clock s (c ∷ cs))) 1 0 start (c ∷ cs) in
-    let r = room-within s (c ∷ cs) (length cs) measures w (few-overloads (load s (c ∷ cs)) (s .head .capacity)) in
+    let r = room-within s (c ∷ cs) o (length cs) measures w (few-overloads (load s (c ∷ cs)) (s .head .capacity)) in
     omega arith
+
+-- the room that the violations need: four more than the calls
+pub violations-room : (s : Sheet) (calls : List ℕ) → length (buildRoute s calls .violations) ≤ violationRoom (length calls)
+violations-room s calls = go (firstClosed s calls) refl
+  where
+    go : (o : Option ℕ) → firstClosed s calls ≡ o → length (buildRoute s calls .violations) ≤ violationRoom (length calls)
+    go none e = open-room s calls e
+    go (some leg) e = rw (closed-alone s calls leg e) (omega arith)

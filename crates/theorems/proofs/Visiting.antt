@@ -1,35 +1,53 @@
--- Visits: where the clock has an answer they come to the same totals, and no window is missed; where it has none they are those of the sheet without its break. Assumes nothing.
+-- Visits: of a run with a closed leg there are none; where the clock has an answer they come to the same totals, and no window is missed; where it has
+-- none they are those of the sheet without its break. Assumes nothing.
 use Prim.Native.Nat.{ℕ, suc, _+_}
 use mathlib.Core.Path.{_≡_, refl, sym, ap, _∙_}
-use mathlib.Core.Bool.{true}
+use mathlib.Core.Bool.{true, cond}
 use mathlib.Core.List.{List, [], _∷_}
 use mathlib.Core.Option.{Option, none, some}
 use lib.Dec.{eqb·zero-suc}
 use borrow.Author.Tests.{eqb-true}
-use Rattle.basics.specs.Options.{present, valueOr}
-use Rattle.basics.proofs.OptionLaws.{same, clash, bound}
+use Rattle.basics.specs.Options.{_>>=_, present, valueOr}
+use Rattle.basics.proofs.OptionLaws.{same, clash}
 use Rattle.definitions.specs.Load.{Load, noLoad, plus}
-use Rattle.definitions.specs.Sheet.{Break, Sheet, customer, distance, time}
-use Rattle.definitions.specs.Window.{Entry, begins, enter}
-use Rattle.definitions.specs.Run.{serveAt, ready, Label, start, placeAfter, serve, breakAt, serveAll, distanceFrom, Totals, home, placed}
+use Rattle.definitions.specs.Sheet.{Break, Sheet, Leg, customer, drive, time}
+use Rattle.definitions.specs.Window.{Entry, begins}
+use Rattle.definitions.specs.Run.{ready, Label, start, placeAfter, serve, breakAt, serveAll, lastOf, distanceFrom, closedFrom, firstClosed, Totals, home, placed}
 use Rattle.definitions.specs.Clock.{clock, startOf, placeOr}
-use Rattle.definitions.specs.Visits.{readyFor, entered, visited, visitsFrom, windowsFrom, lastLabel, buildRoute}
-use Rattle.theorems.proofs.Legality.{clock-own, ridden}
+use Rattle.definitions.specs.Visits.{Route, arrivesAt, readyFor, entered, visited, visitsFrom, windowsFrom, lastLabel, noTotals, closedRoute, openRoute, buildRoute}
+use Rattle.theorems.proofs.Roads.{drive-has, distance-open}
+use Rattle.theorems.proofs.Serving.{served-at, serve-leg}
+use Rattle.theorems.proofs.Legality.{clock-own, ridden, distance-of}
 use Rattle.theorems.proofs.Marking.{served-none}
+
+-- ---- with a closed leg, and without one
+
+module _ (s : Sheet) (calls : List ℕ) where
+  pub route-closed : (leg : ℕ) → firstClosed s calls ≡ some leg → buildRoute s calls ≡ closedRoute leg
+  unfolding buildRoute
+  route-closed leg e = rw (e, buildRoute) refl
+
+  pub route-open : firstClosed s calls ≡ none → buildRoute s calls ≡ openRoute s calls
+  unfolding buildRoute
+  route-open e = rw (e, buildRoute) refl
 
 -- ---- where the clock has an answer
 
 module _ (s : Sheet) where
+  -- along a leg that can be driven
+  pub arrives-by : (l : Label) (a c : ℕ) (leg : Leg) → drive s a c ≡ some leg → arrivesAt s a c l ≡ l .time + leg .travel
+  arrives-by l a c leg e = ap (λ (o : Option ℕ). l .time + valueOr 0 o) (drive-has s a c leg e .1)
+
   -- a call that is served is visited so
   pub visited-served : (here : Option Break) (k a c : ℕ) (l m : Label) → serve s here k a c l ≡ some m
       → (visited s here k a c l ≡ m) × (present (entered s c (readyFor s here a c l)) ≡ true)
-  unfolding serveAt visited
+  unfolding visited
   visited-served here k a c l m q =
-      let x = bound (ready here (l .time + time s a c)) _ m q in
-      let y = bound (enter (customer s c .window) (customer s c .penalty) (x .0)) _ m (x .2) in
-      let r : readyFor s here a c l ≡ x .0 = ap (λ (o : Option ℕ). valueOr (l .time + time s a c) o) (x .1) in
-      let e : entered s c (readyFor s here a c l) ≡ some (y .0) = ap (λ (n : ℕ). entered s c n) r ∙ y .1 in
-      (ap (λ (o : Option Entry). by o) e ∙ same (y .2), ap (λ (o : Option Entry). present o) e)
+      let g = serve-leg s here k a c l m q in
+      let (n, x, e, y, z) = served-at (customer s c) here k (g .0 .travel) l m (g .2) in
+      let r : readyFor s here a c l ≡ n = ap (λ (t : ℕ). valueOr t (ready here t)) (arrives-by l a c (g .0) (g .1)) ∙ ap (λ (o : Option ℕ). valueOr (l .time + g .0 .travel) o) x in
+      let f : entered s c (readyFor s here a c l) ≡ some e = ap (λ (n : ℕ). entered s c n) r ∙ y in
+      (ap (λ (o : Option Entry). by o) f ∙ z, ap (λ (o : Option Entry). present o) f)
     where
       by : Option Entry → Label
       by o =
@@ -54,14 +72,24 @@ module _ (s : Sheet) where
               rw (v .1) (ap (λ (x : Label). windowsFrom s place (suc k) c x cs) (v .0) ∙ r .1),
             )
 
+  -- a run that the clock has an answer for has no closed leg
+  pub clock-open : (calls : List ℕ) (t : Totals) → clock s calls ≡ some t → firstClosed s calls ≡ none
+  clock-open calls t e = distance-open s 1 0 calls (t .distance) (distance-of s (record { calls = calls; place = t .place }) t (clock-own s calls t e .0))
+
   -- the totals are the clock's, and no window is missed
   pub visits-clock : (calls : List ℕ) (t : Totals) → clock s calls ≡ some t → (buildRoute s calls .totals ≡ t) × (windowsFrom s (t .place) 1 0 start calls ≡ [])
-  unfolding buildRoute
+  unfolding openRoute
   visits-clock calls t e =
       let o = clock-own s calls t e in
       let l = ridden s calls (t .place) t (o .0) in
       let v = last-served (t .place) 1 0 start calls (l .0) (l .1) in
-      (ap (λ (x : Option Totals). home s calls (lastLabel s (placeOr x) 1 0 start calls)) e ∙ ap (λ (x : Label). home s calls x) (v .0) ∙ l .2, v .1)
+      let roads = route-open s calls (clock-open calls t e) in (
+        ap (λ (x : Route). x .totals) roads
+            ∙ ap (λ (x : Option Totals). valueOr noTotals (home s calls (lastLabel s (placeOr x) 1 0 start calls))) e
+            ∙ ap (λ (x : Label). valueOr noTotals (home s calls x)) (v .0)
+            ∙ ap (λ (x : Option Totals). valueOr noTotals x) (l .2),
+        v .1,
+      )
 
 -- ---- where it has none
 
@@ -86,8 +114,20 @@ module _ (s : Sheet) where
   unrested-last k a l (c ∷ cs) = rw (eqb·zero-suc k) (unrested-last (suc k) c (visited s none (suc k) a c l) cs)
 
   unrested-distance : (a : ℕ) (calls : List ℕ) → distanceFrom s a calls ≡ distanceFrom (unrested s) a calls
+  unfolding drive
   unrested-distance a [] = refl
-  unrested-distance a (c ∷ cs) = ap (λ (n : ℕ). distance s a c + n) (unrested-distance c cs)
+  unrested-distance a (c ∷ cs) = ap (λ (o : Option ℕ). drive s a c >>= λ l. o >>= λ d. some (l .length + d)) (unrested-distance c cs)
+
+  unrested-home : (calls : List ℕ) (l : Label) → home s calls l ≡ home (unrested s) calls l
+  unfolding drive home
+  unrested-home calls l =
+      ap (λ (o : Option ℕ). o >>= λ d. drive s (lastOf 0 calls) 0 >>= λ b. some (record { distance = d; duration = l .time + b .travel; lateness = l .lateness; pay = l .pay; place = l .place }))
+      (unrested-distance 0 calls)
+
+  unrested-closed : (k a : ℕ) (calls : List ℕ) → closedFrom s k a calls ≡ closedFrom (unrested s) k a calls
+  unfolding drive closedFrom
+  unrested-closed k a [] = refl
+  unrested-closed k a (c ∷ cs) = ap (λ (o : Option ℕ). cond (present (drive s a c)) o (some k)) (unrested-closed (suc k) c cs)
 
   unrested-place : (calls : List ℕ) → placeOr (clock (unrested s) calls) ≡ 0
   unfolding placed
@@ -98,16 +138,27 @@ module _ (s : Sheet) where
       go (some t) e = eqb-true (t .place) 0 (clock-own (unrested s) calls t e .1)
 
   -- an unplaceable break is left out: the visits are those of the run with place 0
-  pub left-out : (calls : List ℕ) → clock s calls ≡ none
-      → (buildRoute s calls .visits ≡ visitsFrom s 0 1 0 start noLoad calls) × (buildRoute s calls .totals ≡ home s calls (lastLabel s 0 1 0 start calls)) × (buildRoute s calls .start ≡ none)
-  unfolding buildRoute startOf
-  left-out calls e = rw e (refl, refl, refl)
+  pub left-out : (calls : List ℕ) → firstClosed s calls ≡ none → clock s calls ≡ none
+      → (buildRoute s calls .visits ≡ visitsFrom s 0 1 0 start noLoad calls)
+      × (buildRoute s calls .totals ≡ valueOr noTotals (home s calls (lastLabel s 0 1 0 start calls)))
+      × (buildRoute s calls .start ≡ none)
+  unfolding openRoute startOf
+  left-out calls o e = rw (route-open s calls o) (rw e (refl, refl, refl))
 
   -- and so those of the sheet without its break
-  pub visits-unclocked : (calls : List ℕ) → clock s calls ≡ none
-      → (buildRoute s calls .visits ≡ buildRoute (unrested s) calls .visits) × (buildRoute s calls .totals ≡ buildRoute (unrested s) calls .totals)
-      × (buildRoute s calls .start ≡ buildRoute (unrested s) calls .start)
-  unfolding buildRoute startOf
-  visits-unclocked calls e =
-      rw (e, unrested-place calls)
-      (unrested-visits 0 0 start noLoad calls, rw (unrested-distance 0 calls, unrested-last 0 0 start calls) refl, refl)
+  abbrev Alike : Route → Route → Type 0
+  Alike x y = (x .visits ≡ y .visits) × (x .totals ≡ y .totals) × (x .start ≡ y .start)
+
+  pub visits-unclocked : (calls : List ℕ) → clock s calls ≡ none → Alike (buildRoute s calls) (buildRoute (unrested s) calls)
+  unfolding openRoute startOf
+  visits-unclocked calls e = go (firstClosed s calls) refl
+    where
+      go : (o : Option ℕ) → firstClosed s calls ≡ o → Alike (buildRoute s calls) (buildRoute (unrested s) calls)
+      go (some leg) c = rw (route-closed s calls leg c, route-closed (unrested s) calls leg (sym (unrested-closed 1 0 calls) ∙ c)) (refl, refl, refl)
+      go none c =
+          rw (route-open s calls c, route-open (unrested s) calls (sym (unrested-closed 1 0 calls) ∙ c))
+          (rw (e, unrested-place calls) (
+            unrested-visits 0 0 start noLoad calls,
+            ap (valueOr noTotals) (ap (home s calls) (unrested-last 0 0 start calls) ∙ unrested-home calls (lastLabel (unrested s) 0 1 0 start calls)),
+            refl,
+          ))

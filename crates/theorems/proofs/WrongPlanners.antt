@@ -22,7 +22,7 @@ use Rattle.definitions.specs.Elimination as Elimination
 use Rattle.definitions.specs.Elimination.{candidates, firstBelow, placedAll, emptied, firstEmptied, search, searches, eliminated}
 use Rattle.definitions.proofs.Bench.{opened, base, carrying, until, tour, run}
 use Rattle.definitions.proofs.FurtherSheets.{byDistance}
-use Rattle.theorems.proofs.Agreement.{settles-one}
+use Rattle.theorems.proofs.Dropping.{settles-one}
 use Rattle.theorems.proofs.Sentences.{split-tw-kept}
 use Rattle.theorems.proofs.OneMark.{says-mark}
 

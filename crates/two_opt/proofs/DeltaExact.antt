@@ -1,10 +1,11 @@
--- On a sheet within the limits, held in floats, the change that a reversal makes is the whole-number difference of the two distances. Assumes nothing.
+-- On a sheet within the limits that closes no leg, held in floats, the change that a reversal makes is the whole-number difference of the two distances. Assumes nothing.
 use Prim.Native.Nat.{ℕ, zero, suc, zero-le, _+_, _-_, _*_, _<_, _≤_}
 use native.Mathlib.Nat.{zero-add, add-zero, add-assoc}
 use native.Mathlib.Omega.{arith}
 use mathlib.Core.Path.{_≡_, refl, sym, ap, ap₂, subst, _∙_}
 use mathlib.Core.Bool.{Bool, true, false}
 use mathlib.Core.List.{List, [], _∷_, _++_, reverse}
+use mathlib.Core.Option.{some}
 use lib.ListN.{length, getD, take, drop, length-take, length-drop, take-append-drop}
 use lib.Seq.{drop-cons, getD-drop, drop-drop}
 use lib.Dec.{ltb}
@@ -14,12 +15,14 @@ use lib.Ieee.{Float, binary64}
 use Rattle.basics.proofs.TestLaws.{by-test}
 use Rattle.basics.specs.Lists.{All}
 use Rattle.definitions.specs.Domain.{mostCalls, mostNumber}
-use Rattle.definitions.specs.Sheet.{Sheet, distance}
-use Rattle.definitions.specs.Improver.{Given, givenOf, distanceOf}
+use Rattle.definitions.specs.Sheet.{Sheet}
+use Rattle.definitions.specs.Improver.{Given, openLeg, givenOf, distanceOf}
+use Rattle.definitions.specs.Refusals.{anyClosed}
 use Rattle.definitions.specs.TwoOpt.{turned}
 use Rattle.theorems.proofs.LegLaws.{final, first, gone, back, reversal-gain}
 use Rattle.bounds.specs.Sized.{Small, Sized, Place}
-use Rattle.bounds.proofs.Inside.{depot-inside, call-inside, distance-small}
+use Rattle.bounds.proofs.Inside.{depot-inside, call-inside}
+use Rattle.bounds.proofs.BoundLaws.{open-small}
 use Rattle.basics.proofs.ListLaws.{all-take, all-drop}
 use Rattle.whole.specs.Whole.{fl, limit}
 use Rattle.whole.proofs.WholeLaws.{fl-add}
@@ -28,9 +31,10 @@ use Rattle.whole.proofs.DifferenceLaws.{diff-same, diff-fl, fl-diff, diff-add, 
 use Rattle.whole.specs.Gain.{gainFloorF}
 use Rattle.whole.proofs.GainLaws.{reversal-test}
 use Rattle.evaluation.specs.Records.{Tables}
-use Rattle.evaluation.specs.Tables.{placeBefore, distanceF}
+use Rattle.evaluation.specs.Tables.{placeBefore}
 use Rattle.evaluation.specs.Image.{Image}
-use Rattle.evaluation.proofs.ClockExact.{distance-exact}
+use Rattle.improve_base.specs.Leg.{distanceF}
+use Rattle.improve_base.proofs.LegExact.{distance-exact}
 use Rattle.two_opt.specs.Delta.{placeBehind, turnedLegsF, reversalDeltaF, endsF, deltaF}
 
 -- ---- a run in three parts: what is before a stretch, the stretch, and what is behind it
@@ -98,7 +102,7 @@ same-order new old turn there d e h =
     by-test (ltb e d) (λ t. let k = ltb-true e d t in rw t (lt-ltb (new + turn) (old + there) (omega arith)))
     (λ f. let k = ltb-false e d f in rw f (le-ltb (new + turn) (old + there) (omega arith)))
 
-module _ (s : Sheet) (S : Sized s) (t : Tables) (I : Image s t) where
+module _ (s : Sheet) (S : Sized s) (O : anyClosed some (s .legs) ≡ false) (t : Tables) (I : Image s t) where
   abbrev G : Given
   G = givenOf s
 
@@ -109,30 +113,30 @@ module _ (s : Sheet) (S : Sized s) (t : Tables) (I : Image s t) where
 
   gone-most : (x : ℕ) (calls : List ℕ) → gone G x calls ≤ length calls * mostNumber
   gone-most x [] = zero-le
-  gone-most x (c ∷ cs) = omega (arith, gone-most c cs, distance-small s S x c)
+  gone-most x (c ∷ cs) = omega (arith, gone-most c cs, open-small s S x c)
 
   back-most : (x : ℕ) (calls : List ℕ) → back G x calls ≤ length calls * mostNumber
   back-most x [] = zero-le
-  back-most x (c ∷ cs) = omega (arith, back-most c cs, distance-small s S c x)
+  back-most x (c ∷ cs) = omega (arith, back-most c cs, open-small s S c x)
 
   turned-legs-exact : (a b x : ℕ) (calls : List ℕ) → Place s x → All (Place s) calls → a + back G x calls ≤ limit → b + gone G x calls ≤ limit
       → turnedLegsF leg (diff a b) x calls ≡ diff (a + back G x calls) (b + gone G x calls)
   unfolding turnedLegsF
   turned-legs-exact a b x [] p i h k = ap₂ diff (sym (add-zero a)) (sym (add-zero b))
   turned-legs-exact a b x (c ∷ cs) p i h k =
-      let there = distance s x c in
-      let turn = distance s c x in
+      let there = openLeg s x c in
+      let turn = openLeg s c x in
       rw (
-        distance-exact s S t I c x (i .0) p,
-        distance-exact s S t I x c p (i .0),
-        fl-diff turn there (omega (arith, distance-small s S c x)) (omega (arith, distance-small s S x c)),
-        diff-add a b turn there (omega arith) (omega arith) (omega (arith, distance-small s S c x)) (omega (arith, distance-small s S x c)),
+        distance-exact s S O t I c x (i .0) p,
+        distance-exact s S O t I x c p (i .0),
+        fl-diff turn there (omega (arith, open-small s S c x)) (omega (arith, open-small s S x c)),
+        diff-add a b turn there (omega arith) (omega arith) (omega (arith, open-small s S c x)) (omega (arith, open-small s S x c)),
       )
       (turned-legs-exact (a + turn) (b + there) c cs (i .0) (i .1) (omega arith) (omega arith)
       ∙ ap₂ diff (add-assoc a turn (back G c cs)) (add-assoc b there (gone G c cs)))
 
   -- where legs are as long both ways, those of the stretch are as long the other way round
-  back-same : (P : ℕ → Type 0) → ((a b : ℕ) → P a → P b → distance s a b ≡ distance s b a) → (x : ℕ) (calls : List ℕ) → P x → All P calls → back G x calls ≡ gone G x calls
+  back-same : (P : ℕ → Type 0) → ((a b : ℕ) → P a → P b → openLeg s a b ≡ openLeg s b a) → (x : ℕ) (calls : List ℕ) → P x → All P calls → back G x calls ≡ gone G x calls
   back-same P same x [] p i = refl
   back-same P same x (c ∷ cs) p i = ap₂ _+_ (same c x (i .0) p) (back-same P same c cs (i .0) (i .1))
 
@@ -153,10 +157,10 @@ module _ (s : Sheet) (S : Sized s) (t : Tables) (I : Image s t) where
 
     -- the legs on both sides of the stretch, as they are and after the reversal
     abbrev old : ℕ
-    old = distance s p x + distance s y q
+    old = openLeg s p x + openLeg s y q
 
     abbrev new : ℕ
-    new = distance s p y + distance s x q
+    new = openLeg s p y + openLeg s x q
 
     x-inside : Place s x
     x-inside = call-inside s S run i inside
@@ -181,15 +185,15 @@ module _ (s : Sheet) (S : Sized s) (t : Tables) (I : Image s t) where
     inner-short : length (inner i j run) ≤ mostCalls
     inner-short = omega (arith, length-take (j - i) (drop (suc i) run), length-drop (suc i) run)
 
-    ends-exact : (a b : ℕ) → Place s a → Place s b → endsF leg p a b q ≡ fl (distance s p a + distance s b q)
+    ends-exact : (a b : ℕ) → Place s a → Place s b → endsF leg p a b q ≡ fl (openLeg s p a + openLeg s b q)
     ends-exact a b u v =
-        rw (distance-exact s S t I p a p-inside u, distance-exact s S t I b q v q-inside)
-        (fl-add (distance s p a) (distance s b q) (omega (arith, distance-small s S p a)) (omega (arith, distance-small s S b q)))
+        rw (distance-exact s S O t I p a p-inside u, distance-exact s S O t I b q v q-inside)
+        (fl-add (openLeg s p a) (openLeg s b q) (omega (arith, open-small s S p a)) (omega (arith, open-small s S b q)))
 
     sides-exact : Ieee.sub binary64 (endsF leg p y x q) (endsF leg p x y q) ≡ diff new old
     sides-exact =
         rw (ends-exact y x y-inside x-inside, ends-exact x y x-inside y-inside)
-        (fl-diff new old (omega (arith, distance-small s S p y, distance-small s S x q)) (omega (arith, distance-small s S p x, distance-small s S y q)))
+        (fl-diff new old (omega (arith, open-small s S p y, open-small s S x q)) (omega (arith, open-small s S p x, open-small s S y q)))
 
     -- the stretch's own legs, there and back
     abbrev there : ℕ
@@ -206,7 +210,7 @@ module _ (s : Sheet) (S : Sized s) (t : Tables) (I : Image s t) where
         ∙ turned-legs-exact 0 0 x (inner i j run) x-inside inner-inside (omega (arith, back-most x (inner i j run), inner-short)) (omega (arith, gone-most x (inner i j run), inner-short))
         ∙ ap₂ diff (zero-add turn) (zero-add there))
 
-    module _ (P : ℕ → Type 0) (among : All P run) (symmetric : Bool) (same : symmetric ≡ true → (a b : ℕ) → P a → P b → distance s a b ≡ distance s b a) where
+    module _ (P : ℕ → Type 0) (among : All P run) (symmetric : Bool) (same : symmetric ≡ true → (a b : ℕ) → P a → P b → openLeg s a b ≡ openLeg s b a) where
       turn-same : symmetric ≡ true → turn ≡ there
       turn-same e =
           let A = subst (All P) (stretch-is run i j h l) (all-take P (suc j - i) (drop i run) (all-drop P i run among)) in
@@ -217,10 +221,10 @@ module _ (s : Sheet) (S : Sized s) (t : Tables) (I : Image s t) where
       delta-exact =
           by-test symmetric
           (λ e. rw (e, sides-exact)
-          (diff-add-fl new old 0 (omega (arith, distance-small s S p y, distance-small s S x q)) (omega (arith, distance-small s S p x, distance-small s S y q)) zero-le
+          (diff-add-fl new old 0 (omega (arith, open-small s S p y, open-small s S x q)) (omega (arith, open-small s S p x, open-small s S y q)) zero-le
           ∙ diff-same (new + 0) old (new + turn) (old + there) (omega (arith, turn-same e))))
           (λ e. rw (e, sides-exact, legs-exact)
-          (diff-add new old turn there (omega (arith, distance-small s S p y, distance-small s S x q)) (omega (arith, distance-small s S p x, distance-small s S y q))
+          (diff-add new old turn there (omega (arith, open-small s S p y, open-small s S x q)) (omega (arith, open-small s S p x, open-small s S y q))
           (omega (arith, back-most x (inner i j run), inner-short)) (omega (arith, gone-most x (inner i j run), inner-short))))
 
       -- it is below the least gain exactly when the distance falls
@@ -228,8 +232,8 @@ module _ (s : Sheet) (S : Sized s) (t : Tables) (I : Image s t) where
       gain-exact most m =
           rw delta-exact
           (reversal-test most (new + turn) (old + there) m
-          (omega (arith, distance-small s S p y, distance-small s S x q, back-most x (inner i j run), inner-short))
-          (omega (arith, distance-small s S p x, distance-small s S y q, gone-most x (inner i j run), inner-short))
+          (omega (arith, open-small s S p y, open-small s S x q, back-most x (inner i j run), inner-short))
+          (omega (arith, open-small s S p x, open-small s S y q, gone-most x (inner i j run), inner-short))
           ∙ same-order new old turn there (distanceOf G run) (distanceOf G (turned i j run)) (turned-gain run i j h l G))
 
       -- added to the distance of the run it gives that of the run that it makes
@@ -240,7 +244,7 @@ module _ (s : Sheet) (S : Sized s) (t : Tables) (I : Image s t) where
           rw delta-exact
           (ap (λ (z : Float). Ieee.add binary64 z (diff a b)) (sym (diff-fl (distanceOf G run)))
           ∙ diff-add (distanceOf G run) 0 a b d zero-le
-          (omega (arith, distance-small s S p y, distance-small s S x q, back-most x (inner i j run), inner-short))
-          (omega (arith, distance-small s S p x, distance-small s S y q, gone-most x (inner i j run), inner-short))
+          (omega (arith, open-small s S p y, open-small s S x q, back-most x (inner i j run), inner-short))
+          (omega (arith, open-small s S p x, open-small s S y q, gone-most x (inner i j run), inner-short))
           ∙ diff-same (distanceOf G run + a) (0 + b) (distanceOf G (turned i j run)) 0 (omega (arith, turned-gain run i j h l G))
           ∙ diff-fl (distanceOf G (turned i j run)))

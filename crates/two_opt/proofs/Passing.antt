@@ -11,7 +11,7 @@ use Rattle.basics.proofs.TestLaws.{by-test}
 use Rattle.basics.specs.Lists.{count}
 use Rattle.definitions.specs.TwoOpt.{turned}
 use Rattle.evaluation.specs.Records.{Tables}
-use Rattle.evaluation.specs.Tables.{distanceF}
+use Rattle.improve_base.specs.Leg.{distanceF}
 use Rattle.evaluation.specs.Route.{feasibleF}
 use Rattle.improve_base.specs.Search.{SearchF}
 use Rattle.two_opt.specs.Rules.{RulesF, rulesF}

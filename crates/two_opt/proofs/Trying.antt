@@ -13,7 +13,7 @@ use Rattle.basics.proofs.TestLaws.{by-test}
 use Rattle.definitions.specs.TwoOpt.{turned}
 use Rattle.models.specs.Limits.{withinF}
 use Rattle.evaluation.specs.Records.{Tables}
-use Rattle.evaluation.specs.Tables.{distanceF}
+use Rattle.improve_base.specs.Leg.{distanceF}
 use Rattle.two_opt.specs.Rules.{RulesF}
 use Rattle.improve_base.specs.Prefix.{PrefixF, feasibleFromF, Leads}
 use Rattle.improve_base.proofs.Leading.{asked}

@@ -1,4 +1,4 @@
--- On a sheet within the limits, held in floats, two_opt_improve gives what crates/definitions says. Assumes nothing.
+-- On a sheet within the limits that closes no leg, held in floats, two_opt_improve gives what crates/definitions says. Assumes nothing.
 use Prim.Native.Nat.{ℕ, zero, suc, zero-le, _+_, _-_, _<_, _≤_}
 use native.Mathlib.Omega.{arith}
 use native.Mathlib.Nat.{zero-add}
@@ -6,6 +6,7 @@ use mathlib.Core.Path.{_≡_, refl, sym, ap, subst, _∙_}
 use mathlib.Core.Logic.{_⊎_, inl, inr}
 use mathlib.Core.Bool.{true, false, cond}
 use mathlib.Core.List.{List, [], _∷_}
+use mathlib.Core.Option.{some}
 use lib.ListN.{length}
 use lib.Dec.{ltb, eqb}
 use lib.Ieee as Ieee
@@ -15,29 +16,29 @@ use Rattle.basics.proofs.TestLaws.{by-test, not-true}
 use Rattle.basics.specs.Lists.{sum, All, Same, count}
 use Rattle.basics.proofs.ListLaws.{all-imp}
 use Rattle.definitions.specs.Domain.{mostCalls}
-use Rattle.definitions.specs.Sheet.{Sheet, distance}
-use Rattle.definitions.specs.Limits.{within}
+use Rattle.definitions.specs.Sheet.{Sheet}
 use Rattle.definitions.specs.Run.{distanceFrom}
-use Rattle.definitions.specs.Improver.{Given, givenOf, distanceOf, allowed}
+use Rattle.definitions.specs.Improver.{Given, openLeg, givenOf, distanceOf, allowed}
 use Rattle.definitions.specs.TwoOpt.{turned, tried, triedAll, passFrom, pass, improved}
-use Rattle.definitions.specs.Refusals.{Within, WithinCalls}
+use Rattle.definitions.specs.Refusals.{anyClosed, Within, WithinCalls}
 use Rattle.definitions.specs.Answers.{twoOpt}
+use Rattle.theorems.proofs.Roads.{run-open}
 use Rattle.theorems.proofs.Improving.{allowed-is}
 use Rattle.theorems.proofs.TwoOptLaws.{turned-same, pass-stays, improved-pass, improved-done, improved-same}
 use Rattle.bounds.specs.Sized.{Sized, Place}
-use Rattle.bounds.proofs.Inside.{sized, few-calls, calls-inside, same-inside, distance-small}
-use Rattle.bounds.proofs.BoundLaws.{distance-most}
+use Rattle.bounds.proofs.Inside.{sized, few-calls, calls-inside, same-inside}
+use Rattle.bounds.proofs.BoundLaws.{legs-most, open-small}
 use Rattle.whole.specs.Whole.{fl}
 use Rattle.whole.specs.Gain.{gainFloorF}
 use Rattle.evaluation.specs.Records.{Tables}
-use Rattle.evaluation.specs.Tables.{distanceF}
+use Rattle.improve_base.specs.Leg.{distanceF}
 use Rattle.evaluation.specs.Image.{Image}
-use Rattle.evaluation.proofs.ClockExact.{distance-exact}
 use Rattle.evaluation.proofs.RouteExact.{sized-feasible-exact}
 use Rattle.evaluation.proofs.ChecksExact.{checks-exact}
 use Rattle.improve_base.specs.Gain.{scaleF}
 use Rattle.improve_base.specs.Search.{searchF, told}
 use Rattle.improve_base.specs.Route.{routeDistanceF}
+use Rattle.improve_base.proofs.LegExact.{distances-small, distance-exact}
 use Rattle.improve_base.proofs.GainExact.{Held, scale-held, called, symmetric-same}
 use Rattle.improve_base.proofs.RouteExact.{route-distance-exact}
 use Rattle.two_opt.specs.Rules.{RulesF, rulesF}
@@ -85,7 +86,10 @@ among-all (c ∷ cs) = (by-test (eqb c c) (λ t. rw t) (λ f. absurd (eqb-false 
     later : (d : ℕ) → called cs d ≡ true → called (c ∷ cs) d ≡ true
     later d m = by-test (eqb c d) (λ t. rw t) (λ f. rw f m)
 
-module _ (s : Sheet) (S : Sized s) (t : Tables) (I : Image s t) (route : List ℕ) (inside : All (Place s) route) where
+module _ (s : Sheet) (W : Within s) (O : anyClosed some (s .legs) ≡ false) (t : Tables) (I : Image s t) (route : List ℕ) (inside : All (Place s) route) where
+  abbrev S : Sized s
+  S = sized s W
+
   abbrev G : Given
   G = givenOf s
 
@@ -102,20 +106,20 @@ module _ (s : Sheet) (S : Sized s) (t : Tables) (I : Image s t) (route : List �
 
   -- ---- one reversal
 
-  same-back : rules .symmetric ≡ true → (a b : ℕ) → Among a → Among b → distance s a b ≡ distance s b a
+  same-back : rules .symmetric ≡ true → (a b : ℕ) → Among a → Among b → openLeg s a b ≡ openLeg s b a
   unfolding rulesF
-  same-back e = symmetric-same (distanceF t) (Place s) (distance s) (λ c d. omega (arith, distance-small s S c d)) (distance-exact s S t I) route inside e
+  same-back e = symmetric-same (distanceF t) (Place s) (openLeg s) (λ c d. omega (arith, open-small s S c d)) (distance-exact s S O t I) route inside e
 
   -- the scale is a distance that a sheet may have
   scale-whole : Held (scaleF (t .distances))
-  scale-whole = subst (λ (l : List Float). Held (scaleF l)) (sym (I .distances-are)) (scale-held (s .legs .distances) (S .distances-small))
+  scale-whole = subst (λ (l : List Float). Held (scaleF l)) (sym (I .distances-are)) (scale-held (s .legs .distances) (distances-small s S O))
 
   gains-exact : (run : List ℕ) → Fit run → (i j : ℕ) → i < j → j < length run → gainsF (distanceF t) rules i j run ≡ ltb (distanceOf G (turned i j run)) (distanceOf G run)
   unfolding rulesF
   gains-exact run f i j h l =
       let most = scale-whole in
       ap (λ (x : Float). Ieee.lt (deltaF (distanceF t) (rules .symmetric) i j run) (Ieee.neg (gainFloorF x))) (most .is)
-      ∙ gain-exact s S t I run (f .0) (f .1) i j h l Among (f .2) (rules .symmetric) same-back (most .number) (most .small)
+      ∙ gain-exact s S O t I run (f .0) (f .1) i j h l Among (f .2) (rules .symmetric) same-back (most .number) (most .small)
 
   allowed-exact : (run : List ℕ) → Fit run → allowedF t (rules) run ≡ allowed G run
   unfolding rulesF searchF
@@ -128,12 +132,12 @@ module _ (s : Sheet) (S : Sized s) (t : Tables) (I : Image s t) (route : List �
 
   distance-bound : (run : List ℕ) → length run ≤ mostCalls → distanceOf G run ≤ mostPasses
   distance-bound [] few = zero-le
-  distance-bound (c ∷ cs) few = omega (arith, distance-most s S 0 (c ∷ cs))
+  distance-bound (c ∷ cs) few = omega (arith, legs-most (openLeg s) (open-small s S) 0 (c ∷ cs))
 
   -- a run with calls, leg by leg from the depot
-  from-depot : (run : List ℕ) → 0 < length run → distanceFrom s 0 run ≡ distanceOf G run
+  from-depot : (run : List ℕ) → 0 < length run → distanceFrom s 0 run ≡ some (distanceOf G run)
   from-depot [] h = absurd (omega arith)
-  from-depot (c ∷ cs) h = refl
+  from-depot (c ∷ cs) h = run-open s W O 0 (c ∷ cs)
 
   -- a reversal that makes the run too long makes one that is not allowed
   far-refused : (run : List ℕ) → Fit run → (i j : ℕ) → i < j → j < length run → tooFarF (distanceF t) (rules) i j run ≡ true → allowed G (turned i j run) ≡ false
@@ -142,10 +146,10 @@ module _ (s : Sheet) (S : Sized s) (t : Tables) (I : Image s t) (route : List �
       let new = turned i j run in
       let d = distance-bound run (f .0) in
       let b = distance-bound new (turned-fits run f i j h l .0) in
-      let sum = ap (λ (x : Float). Ieee.add binary64 x (deltaF (distanceF t) (rules .symmetric) i j run)) (route-distance-exact s S t I run (f .0) (f .1))
-      ∙ far-exact s S t I run (f .0) (f .1) i j h l Among (f .2) (rules .symmetric) same-back (omega (arith, d)) in
+      let sum = ap (λ (x : Float). Ieee.add binary64 x (deltaF (distanceF t) (rules .symmetric) i j run)) (route-distance-exact s S O t I run (f .0) (f .1))
+      ∙ far-exact s S O t I run (f .0) (f .1) i j h l Among (f .2) (rules .symmetric) same-back (omega (arith, d)) in
       let out = sym (guard-exact s S (distanceF t) run (deltaF (distanceF t) (rules .symmetric) i j run) (distanceOf G new) (omega (arith, b)) sum) ∙ not-true _ far in
-      allowed-is s new ∙ far-infeasible s new (ap (within (s .head .maxDistance)) (from-depot new (omega (arith, length-turned i j run h l))) ∙ out)
+      allowed-is s W O new ∙ far-infeasible s new (distanceOf G new) (from-depot new (omega (arith, length-turned i j run h l))) out
 
   -- ---- the search from the run `old`: no reversal is taken yet and it is as it was, or one is and it is shorter
 
@@ -256,7 +260,7 @@ module _ (s : Sheet) (S : Sized s) (t : Tables) (I : Image s t) (route : List �
   improved-distance-exact : length route ≤ mostCalls → improvedDistanceF t (told s t) route ≡ fl (distanceOf G (improved G route))
   improved-distance-exact few =
       let same = same-inside s route (improved G route) (λ g. sym (improved-same G route g)) inside in
-      ap (routeDistanceF (distanceF t)) (improved-exact few) ∙ route-distance-exact s S t I (improved G route) (improved-short few) same
+      ap (routeDistanceF (distanceF t)) (improved-exact few) ∙ route-distance-exact s S O t I (improved G route) (improved-short few) same
 
 -- ---- by the limits of the Domain
 
@@ -265,8 +269,8 @@ pub record AsDefined (s : Sheet) (t : Tables) (run : List ℕ) : Type 0 where
   pub calls-are : improvedF t (told s t) run ≡ twoOpt s run .calls
   pub distance-is : improvedDistanceF t (told s t) run ≡ fl (twoOpt s run .distance)
 
-pub two-opt-exact : (s : Sheet) → Within s → (t : Tables) → Image s t → (run : List ℕ) → WithinCalls s run → AsDefined s t run
-two-opt-exact s W t I run C =
+pub two-opt-exact : (s : Sheet) → Within s → anyClosed some (s .legs) ≡ false → (t : Tables) → Image s t → (run : List ℕ) → WithinCalls s run → AsDefined s t run
+two-opt-exact s W O t I run C =
     let inside = calls-inside s run C in
     let few = few-calls s run C in
-    record { calls-are = improved-exact s (sized s W) t I run inside few; distance-is = improved-distance-exact s (sized s W) t I run inside few }
+    record { calls-are = improved-exact s W O t I run inside few; distance-is = improved-distance-exact s W O t I run inside few }

@@ -11,8 +11,8 @@ use Rattle.definitions.specs.TwoOpt.{turned}
 use Rattle.whole.specs.Whole.{fl}
 use Rattle.models.specs.Limits.{withinF}
 use Rattle.evaluation.specs.Records.{Tables, LimitsF}
-use Rattle.evaluation.specs.Tables.{distanceF}
 use Rattle.evaluation.specs.Route.{feasibleF}
+use Rattle.improve_base.specs.Leg.{distanceF}
 use Rattle.improve_base.specs.Search.{SearchF}
 use Rattle.improve_base.specs.Route.{routeDistanceF}
 use Rattle.two_opt.specs.Rules.{RulesF, rulesF}

@@ -1,6 +1,7 @@
 // What the reversals of one run are told of it and of the sheet, reckoned once.
 ghost use mathlib.Core.Path.{_≡_};
-ghost use Rattle.distance.specs.Lookup.{lookupF};
+ghost use Rattle.distance.specs.Lookup.{numberF};
+ghost use Rattle.improve_base.specs.Leg.{AllOpen};
 ghost use Rattle.improve_base.specs.Search.{searchOf};
 ghost use Rattle.two_opt.specs.Rules.{rulesOf, rulesF};
 use improve_base::gain::gain_floor;
@@ -21,8 +22,9 @@ pub struct Rules {
 
 // What the reversals of this run are told. A reversal keeps the calls, so no other place is asked about.
 pub fn rules_of(search: Search, route: &[usize], distances: &[f64], size: usize) -> Rules
+    requires { ⌜ AllOpen (now distances) ⌝ }
     ensures { λ r.
-        let leg = lookupF (now (distances .entry)) size in
+        let leg = numberF (now (distances .entry)) size in
         ⌜ rulesOf r ≡ rulesF leg (now (distances .entry)) (searchOf search) (now (route .entry)) ⌝ }
 {
     let both_ways = symmetric(route, distances, size);

@@ -1,5 +1,5 @@
 // The reversal of stretches of a run (local_search/two_opt.rs): while one lowers the distance and makes a run that is
-// allowed, it is taken. Only sheets without lateness pay come here.
+// allowed, it is taken. Only sheets without lateness pay and without closed legs come here.
 ghost use mathlib.Core.Path.{_≡_};
 ghost use Prim.Native.Nat.{suc, _+_, _-_, _<_, _≤_};
 ghost use mathlib.Core.Bool.{true, cond, not, _&&_};
@@ -8,9 +8,10 @@ ghost use Rattle.definitions.specs.Room.{written};
 ghost use lib.Ieee as Ieee;
 ghost use Rattle.models.specs.Limits.{withinF};
 ghost use Rattle.models.specs.Records.{limitOf};
-ghost use Rattle.distance.specs.Lookup.{lookupF};
+ghost use Rattle.distance.specs.Lookup.{numberF};
 ghost use Rattle.evaluation.specs.Records.{limitsOf, lent};
 ghost use Rattle.cut_stops.specs.Stops.{numbers, Long, listed};
+ghost use Rattle.improve_base.specs.Leg.{AllOpen};
 ghost use Rattle.improve_base.specs.Search.{searchOf};
 ghost use Rattle.improve_base.specs.Prefix.{prefixOf, failedF, indexF, feasibleFromF, Leads};
 ghost use Rattle.two_opt.specs.Delta.{intoF, reversalDeltaF, deltaF};
@@ -22,9 +23,9 @@ use crate::rules::rules_of;
 use cut_stops::stops::ALL_CODES;
 use cut_stops::stops::ALL_FIGURES;
 use cut_table::held::write_front;
-use distance::matrix::get;
 use evaluation::route::call_at;
 use evaluation::route::place_before;
+use improve_base::leg::open_leg;
 use improve_base::prefix::Prefix;
 use improve_base::prefix::feasible_from;
 use improve_base::prefix::go_on;
@@ -40,7 +41,8 @@ use models::limits::RouteLimits;
 // What turning the segment changes in the length of its own legs: nothing where the distances are symmetric, else each
 // leg back less the leg there.
 pub fn reversal_delta(segment: &[usize], distances: &[f64], size: usize, symmetric: bool) -> f64
-    ensures { λ r. ⌜ r ≡ reversalDeltaF (lookupF (now (distances .entry)) size) symmetric (now (segment .entry)) ⌝ }
+    requires { ⌜ AllOpen (now distances) ⌝ }
+    ensures { λ r. ⌜ r ≡ reversalDeltaF (numberF (now (distances .entry)) size) symmetric (now (segment .entry)) ⌝ }
 {
     if symmetric {
         return 0.0;
@@ -50,8 +52,8 @@ pub fn reversal_delta(segment: &[usize], distances: &[f64], size: usize, symmetr
     let mut k = 1;
     while k < segment.len() {
         let next = segment[k];
-        let back = get(distances, size, next, prev);
-        sum = sum + (back - get(distances, size, prev, next));
+        let back = open_leg(distances, size, next, prev);
+        sum = sum + (back - open_leg(distances, size, prev, next));
         prev = next;
         k += 1;
     }
@@ -68,8 +70,9 @@ pub fn turned_between(
     end: usize,
 ) -> f64
     requires { ⌜ (i < end) × (end ≤ length (now route)) ⌝ }
+    requires { ⌜ AllOpen (now distances) ⌝ }
     ensures { λ r.
-        let leg = lookupF (now (distances .entry)) size in
+        let leg = numberF (now (distances .entry)) size in
         ⌜ r ≡ reversalDeltaF leg symmetric (take (end - i) (drop i (now (route .entry)))) ⌝ }
 {
     reversal_delta(&route[i..end], distances, size, symmetric)
@@ -86,10 +89,11 @@ pub fn turned_on(
     j: usize,
 ) -> f64
     requires { ⌜ (i < j) × (j < length (now route)) ⌝ }
-    requires { let leg = lookupF (now distances) size in
+    requires { let leg = numberF (now distances) size in
         ⌜ turned ≡ reversalDeltaF leg symmetric (take (j - i) (drop i (now route))) ⌝ }
+    requires { ⌜ AllOpen (now distances) ⌝ }
     ensures { λ r.
-        let leg = lookupF (now (distances .entry)) size in
+        let leg = numberF (now (distances .entry)) size in
         ⌜ r ≡ reversalDeltaF leg symmetric (take (suc j - i) (drop i (now (route .entry)))) ⌝ }
 {
     if symmetric {
@@ -97,18 +101,19 @@ pub fn turned_on(
     }
     let prev = route[j - 1];
     let next = route[j];
-    let back = get(distances, size, next, prev);
-    turned + (back - get(distances, size, prev, next))
+    let back = open_leg(distances, size, next, prev);
+    turned + (back - open_leg(distances, size, prev, next))
 }
 
 // The leg into call number i, from 0.
 pub fn leg_into(route: &[usize], distances: &[f64], size: usize, i: usize) -> f64
     requires { ⌜ i < length (now route) ⌝ }
-    ensures { λ r. ⌜ r ≡ intoF (lookupF (now (distances .entry)) size) i (now (route .entry)) ⌝ }
+    requires { ⌜ AllOpen (now distances) ⌝ }
+    ensures { λ r. ⌜ r ≡ intoF (numberF (now (distances .entry)) size) i (now (route .entry)) ⌝ }
 {
     let first = route[i];
     let prev_i = place_before(route, i);
-    get(distances, size, prev_i, first)
+    open_leg(distances, size, prev_i, first)
 }
 
 // What turning the calls from i up to and with j changes in the distance; `into` is the leg into call i, and `turned`
@@ -124,19 +129,20 @@ pub fn two_opt_delta(
     j: usize,
 ) -> f64
     requires { ⌜ (i < j) × (j < length (now route)) ⌝ }
-    requires { ⌜ into ≡ intoF (lookupF (now distances) size) i (now route) ⌝ }
-    requires { let leg = lookupF (now distances) size in
+    requires { ⌜ into ≡ intoF (numberF (now distances) size) i (now route) ⌝ }
+    requires { let leg = numberF (now distances) size in
         ⌜ turned ≡ reversalDeltaF leg symmetric (take (suc j - i) (drop i (now route))) ⌝ }
-    ensures { λ r. ⌜ r ≡ deltaF (lookupF (now (distances .entry)) size) symmetric i j (now (route .entry)) ⌝ }
+    requires { ⌜ AllOpen (now distances) ⌝ }
+    ensures { λ r. ⌜ r ≡ deltaF (numberF (now (distances .entry)) size) symmetric i j (now (route .entry)) ⌝ }
 {
     let first = route[i];
     let last = route[j];
     let prev_i = place_before(route, i);
     let end = j + 1;
     let next_j = call_at(route, end);
-    let old_cost = into + get(distances, size, last, next_j);
-    let new_in = get(distances, size, prev_i, last);
-    let new_cost = new_in + get(distances, size, first, next_j);
+    let old_cost = into + open_leg(distances, size, last, next_j);
+    let new_in = open_leg(distances, size, prev_i, last);
+    let new_cost = new_in + open_leg(distances, size, first, next_j);
     new_cost - old_cost + turned
 }
 
@@ -149,7 +155,8 @@ pub fn gains(rules: Rules, delta: f64) -> bool
 
 // The distance of a run, where it is limited.
 pub fn limited_distance(limits: RouteLimits, route: &[usize], distances: &[f64], size: usize) -> f64
-    ensures { λ r. ⌜ r ≡ farF (limitsOf limits) (lookupF (now (distances .entry)) size) (now (route .entry)) ⌝ }
+    requires { ⌜ AllOpen (now distances) ⌝ }
+    ensures { λ r. ⌜ r ≡ farF (limitsOf limits) (numberF (now (distances .entry)) size) (now (route .entry)) ⌝ }
 {
     let max = limits.max_distance;
     match max {
@@ -185,6 +192,7 @@ pub fn is_allowed(
 ) -> bool
     requires { ⌜ Long (numbers (now codes) (now figures)) ⌝ }
     requires { ⌜ indexF (prefixOf prefix) + length (now calls) < 0xFFFF_FFFF_FFFF_FFFF ⌝ }
+    requires { ⌜ AllOpen (now distances) × AllOpen (now times) ⌝ }
     ensures { λ r.
         let lists = numbers (now (codes .entry)) (now (figures .entry)) in
         let tables = listed lists (now (distances .entry)) (now (times .entry)) size in
@@ -226,16 +234,17 @@ pub fn reverse_if_allowed(
     requires { ⌜ Long (numbers (now codes) (now figures)) × (i < j) × (j < length (now current)) ⌝ }
     requires { let tables = listed (numbers (now codes) (now figures)) (now distances) (now times) size in
         ⌜ Leads tables (limitsOf (rules .limits)) (take i (now current)) (prefixOf prefix) ⌝ }
-    requires { let leg = lookupF (now distances) size in
+    requires { let leg = numberF (now distances) size in
         ⌜ (delta ≡ deltaF leg (rules .symmetric) i j (now current))
         × (tried .far ≡ farF (limitsOf (rules .limits)) leg (now current)) ⌝ }
+    requires { ⌜ AllOpen (now distances) × AllOpen (now times) ⌝ }
     ensures { λ r.
         let lists = numbers (now (codes .entry)) (now (figures .entry)) in
         let tables = listed lists (now (distances .entry)) (now (times .entry)) size in
         let old = state (now (current .entry)) (tried .improved) in
         ⌜ state (now (current .exit)) (r .improved) ≡ reversedF tables (rulesOf rules) i j old ⌝ }
     ensures { λ r.
-        let leg = lookupF (now (distances .entry)) size in
+        let leg = numberF (now (distances .entry)) size in
         ⌜ r .far ≡ farF (limitsOf (rules .limits)) leg (now (current .exit)) ⌝ }
 {
     let limits = rules.limits;
@@ -291,7 +300,8 @@ pub fn try_all(
     requires { ⌜ Long (numbers (now codes) (now figures)) × (i < length (now current)) ⌝ }
     requires { let tables = listed (numbers (now codes) (now figures)) (now distances) (now times) size in
         ⌜ Leads tables (limitsOf (rules .limits)) (take i (now current)) (prefixOf prefix) ⌝ }
-    requires { ⌜ tried .far ≡ farF (limitsOf (rules .limits)) (lookupF (now distances) size) (now current) ⌝ }
+    requires { ⌜ tried .far ≡ farF (limitsOf (rules .limits)) (numberF (now distances) size) (now current) ⌝ }
+    requires { ⌜ AllOpen (now distances) × AllOpen (now times) ⌝ }
     ensures { λ r.
         let lists = numbers (now (codes .entry)) (now (figures .entry)) in
         let tables = listed lists (now (distances .entry)) (now (times .entry)) size in
@@ -299,7 +309,7 @@ pub fn try_all(
         let all = triedAllF tables (rulesOf rules) (length (now (current .entry))) i old in
         ⌜ state (now (current .exit)) (r .improved) ≡ all ⌝ }
     ensures { λ r.
-        let leg = lookupF (now (distances .entry)) size in
+        let leg = numberF (now (distances .entry)) size in
         ⌜ r .far ≡ farF (limitsOf (rules .limits)) leg (now (current .exit)) ⌝ }
     ensures { λ _. ⌜ take i (now (current .exit)) ≡ take i (now (current .entry)) ⌝ }
 {
@@ -358,6 +368,7 @@ pub fn pass(
     rules: Rules,
 ) -> bool
     requires { ⌜ Long (numbers (now codes) (now figures)) ⌝ }
+    requires { ⌜ AllOpen (now distances) × AllOpen (now times) ⌝ }
     ensures { λ r.
         let lists = numbers (now (codes .entry)) (now (figures .entry)) in
         let tables = listed lists (now (distances .entry)) (now (times .entry)) size in
@@ -407,6 +418,7 @@ pub fn passes(
     rules: Rules,
 )
     requires { ⌜ Long (numbers (now codes) (now figures)) ⌝ }
+    requires { ⌜ AllOpen (now distances) × AllOpen (now times) ⌝ }
     ensures { λ _.
         let lists = numbers (now (codes .entry)) (now (figures .entry)) in
         let tables = listed lists (now (distances .entry)) (now (times .entry)) size in
@@ -430,6 +442,7 @@ pub fn improve_in_place(
     size: usize,
     search: Search,
 )
+    requires { ⌜ AllOpen (now distances) × AllOpen (now times) ⌝ }
     ensures { λ _.
         let tables = lent customers (now (distances .entry)) (now (times .entry)) size in
         ⌜ now (current .exit) ≡ improvedF tables (searchOf search) (now (current .entry)) ⌝ }
@@ -461,6 +474,7 @@ pub fn improve(
     current: &mut [usize],
 ) -> f64
     requires { ⌜ length (now current) ≡ length (now route) ⌝ }
+    requires { ⌜ AllOpen (now distances) × AllOpen (now times) ⌝ }
     ensures { λ r.
         let tables = lent customers (now (distances .entry)) (now (times .entry)) size in
         ⌜ r ≡ improvedDistanceF tables (searchOf search) (now (route .entry)) ⌝ }
@@ -487,6 +501,7 @@ pub fn two_opt_improve(
     current: &mut [usize],
 ) -> f64
     requires { ⌜ length (now route) ≤ length (now current) ⌝ }
+    requires { ⌜ AllOpen (now distances) × AllOpen (now times) ⌝ }
     ensures { λ r.
         let tables = lent customers (now (distances .entry)) (now (times .entry)) size in
         ⌜ r ≡ improvedDistanceF tables (searchOf search) (now (route .entry)) ⌝ }

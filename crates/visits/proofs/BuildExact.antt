@@ -1,51 +1,48 @@
 -- On a sheet within the limits, held in floats, `build_route` answers as in crates/definitions. Assumes nothing.
-use Prim.Native.Nat.{ℕ, suc, _≤_}
+use Prim.Native.Nat.{ℕ, suc, _+_, _≤_}
 use native.Mathlib.Omega.{arith}
-use native.Mathlib.Nat.{zero-add}
 use mathlib.Core.Path.{_≡_, refl, sym, ap, ap₂, _∙_}
 use mathlib.Core.Bool.{Bool, true, false, not, _&&_, Bool·not-not}
 use mathlib.Core.List.{List, [], _∷_, _++_, map, map-append}
 use mathlib.Core.Option.{Option, none, some, Option·map}
 use lib.Dec.{ltb}
 use lib.ListN.{length}
-use lib.Ieee as Ieee
-use lib.Ieee.{binary64}
 use Rattle.basics.specs.Options.{Holds, present, valueOr}
 use Rattle.basics.specs.Lists.{All, isEmpty}
 use Rattle.definitions.specs.Domain.{mostCalls}
 use Rattle.definitions.specs.Load.{Load, noLoad, seated, wheeled}
-use Rattle.definitions.specs.Sheet.{Break, Sheet, time}
+use Rattle.definitions.specs.Sheet.{Break, Sheet, Leg, drive}
 use Rattle.definitions.specs.Limits.{within}
 use Rattle.definitions.specs.Run as Whole
-use Rattle.definitions.specs.Run.{start, placeAfter, lastOf, distanceFrom, Totals, home, load}
+use Rattle.definitions.specs.Run.{start, placeAfter, lastOf, distanceFrom, firstClosed, Totals, home, load}
 use Rattle.definitions.specs.Clock.{clock, placeOr, startOf}
-use Rattle.definitions.specs.Visits.{Violation, breakNotPlaceable, overCapacity, overDistance, overDuration, overWheelchairs, visited, windowsFrom, lastLabel, unless, overloads, buildRoute}
+use Rattle.definitions.specs.Visits.{Violation, breakNotPlaceable, overCapacity, overDistance, overDuration, overWheelchairs, Route, visited, windowsFrom, lastLabel, unless, overloads, noTotals, openRoute, buildRoute}
 use Rattle.definitions.specs.Refusals.{Within, WithinCalls}
 use Rattle.definitions.proofs.LoadLaws.{none-plus}
-use Rattle.theorems.proofs.Visiting.{visits-clock}
+use Rattle.theorems.proofs.Roads.{open-distance, distance-home, homeBy, home-is}
+use Rattle.theorems.proofs.Visiting.{route-closed, route-open, visits-clock}
 use Rattle.bounds.specs.Sized.{Small, Sized, Place}
-use Rattle.bounds.proofs.Inside.{sized, few-calls, calls-inside, depot-inside, last-inside, time-small}
+use Rattle.bounds.proofs.Inside.{sized, few-calls, calls-inside, depot-inside, last-inside, leg-small}
 use Rattle.bounds.specs.Bounds.{Early}
 use Rattle.bounds.proofs.BoundLaws.{start-early, distance-most, last-most, start-most}
 use Rattle.whole.specs.Whole.{fl, limit}
-use Rattle.whole.proofs.WholeLaws.{fl-add, fl-lt}
+use Rattle.whole.proofs.WholeLaws.{fl-lt, fl-sum}
 use Rattle.whole.proofs.Numbers.{not-ltb}
 use Rattle.models.specs.Image.{flBreak}
 use Rattle.models.proofs.Exact.{limit-exact}
+use Rattle.distance.proofs.Exact.{flLeg}
 use Rattle.clock.specs.Image.{flTotals}
 use Rattle.evaluation.specs.Records.{Tables}
-use Rattle.evaluation.specs.Tables.{timeF, legsF}
-use Rattle.evaluation.specs.Schedule.{distanceFromF}
 use Rattle.evaluation.specs.Image.{flLimits, Image}
-use Rattle.evaluation.proofs.ClockExact.{distance-from-exact, time-exact, schedule-exact}
-use Rattle.evaluation.proofs.RouteExact.{start-exact}
+use Rattle.evaluation.proofs.ClockExact.{schedule-exact}
+use Rattle.evaluation.proofs.RouteExact.{first-closed-exact, start-exact}
 use Rattle.visits.specs.declared.visit.Violation as Held
-use Rattle.visits.specs.Visiting.{placedF, placeOf, durationF, missingF, restAtF, startTrip, tripF}
+use Rattle.visits.specs.Visiting.{placedF, placeOf, durationF, missingF, restAtF, startTrip, openF, tripF}
 use Rattle.visits.specs.Violations.{overF, when, overloadsF, checkedF}
-use Rattle.visits.specs.Building.{builtF, buildRouteF}
+use Rattle.visits.specs.Building.{builtF, openRouteF, routeF, buildRouteF}
 use Rattle.visits.specs.Image.{flViolation, flRoute}
 use Rattle.visits.proofs.Resting.{lengthOf, nowhere, no-place, agrees}
-use Rattle.visits.proofs.VisitsExact.{flTrip, flRest, Onward, visits-exact, windows-exact, trip-exact}
+use Rattle.visits.proofs.VisitsExact.{flTrip, flRest, Onward, open-exact, visits-exact, windows-exact, trip-exact}
 
 -- ---- the violations
 
@@ -134,39 +131,12 @@ module _ (s : Sheet) (S : Sized s) (t : Tables) (I : Image s t) (calls : List �
   last-unplaced k a l [] = refl
   last-unplaced k a l (c ∷ cs) = last-unplaced (suc k) c _ cs ∙ ap (λ (x : Option Break). placeAfter x (suc k) (l .place)) (nowhere s (suc k) (omega arith))
 
-  last-place : lastLabel s place 1 0 start calls .place ≡ place
-  unfolding buildRoute
-  last-place = go (clock s calls) refl
-    where
-      go : (o : Option Totals) → clock s calls ≡ o → lastLabel s place 1 0 start calls .place ≡ place
-      go none q = rw q (last-unplaced 0 0 start calls)
-      go (some u) q = ap (λ (x : Totals). x .place) (visits-clock s calls u q .0) ∙ sym (ap placeOr q)
-
   -- the last label of the visits
   abbrev last : Whole.Label
   last = lastLabel s place 1 0 start calls
 
-  abbrev totals : Totals
-  totals = home s calls last
-
-  distance-fits : totals .distance ≤ limit
-  distance-fits = omega (arith, distance-most s S 0 calls)
-
-  distance-exact : distanceFromF t (fl 0) 0 calls ≡ fl (totals .distance)
-  distance-exact = distance-from-exact s S t I 0 0 calls (depot-inside s S) i (omega (arith, distance-most s S 0 calls)) ∙ ap fl (zero-add (distanceFrom s 0 calls))
-
   last-early : Early (length calls) last
   last-early = last-most s S place calls few
-
-  duration-fits : totals .duration ≤ limit
-  duration-fits = omega (arith, last-early, time-small s S (lastOf 0 calls) 0)
-
-  duration-exact : Ieee.add binary64 (fl (last .time)) (timeF t (lastOf 0 calls) 0) ≡ fl (totals .duration)
-  duration-exact =
-      rw (time-exact s S t I (lastOf 0 calls) 0 (last-inside s 0 calls (depot-inside s S) i) (depot-inside s S))
-      (fl-add (last .time) (time s (lastOf 0 calls) 0) (omega (arith, last-early)) (omega (arith, time-small s S (lastOf 0 calls) 0)))
-
-  -- ---- the route
 
   began-fits : Holds (λ (n : ℕ). n ≤ limit) began
   began-fits = go began refl
@@ -175,27 +145,74 @@ module _ (s : Sheet) (S : Sized s) (t : Tables) (I : Image s t) (calls : List �
       go none q = tt
       go (some n) q = omega (arith, start-most s S calls place few n q)
 
-  set-out : Onward s place began 0 1 0 start calls
-  set-out = record { few = omega arith; from-inside = depot-inside s S; calls-inside = i; early = start-early; agreed = agrees s calls }
+  -- ---- a run without a closed leg, so long and with the way home `w`
 
-  trip-home : tripF t (flRest s place began missing) 1 startTrip calls ≡ flTrip (legsF t (fl 0) 0 calls) last (load s calls) (lastOf 0 calls)
-  trip-home =
-      trip-exact s S t I place began missing began-fits 0 1 0 (fl 0) start noLoad calls set-out
-      ∙ ap (λ (n : Load). flTrip (legsF t (fl 0) 0 calls) last n (lastOf 0 calls)) (none-plus (load s calls))
+  module _ (roads : firstClosed s calls ≡ none) (d : ℕ) (far : distanceFrom s 0 calls ≡ some d) (w : Leg) (back : drive s (lastOf 0 calls) 0 ≡ some w) where
+    abbrev totals : Totals
+    totals = homeBy s calls d (w .travel) last
+
+    came-home : home s calls last ≡ some totals
+    came-home = home-is s calls d w far back last
+
+    last-place : last .place ≡ place
+    unfolding openRoute
+    last-place = go (clock s calls) refl
+      where
+        go : (o : Option Totals) → clock s calls ≡ o → last .place ≡ place
+        go none q = rw q (last-unplaced 0 0 start calls)
+        go (some u) q =
+            ap (λ (x : Option Totals). valueOr noTotals x .place) (sym came-home)
+            ∙ ap (λ (x : Route). x .totals .place) (sym (route-open s calls roads))
+            ∙ ap (λ (x : Totals). x .place) (visits-clock s calls u q .0)
+            ∙ sym (ap placeOr q)
+
+    distance-fits : d ≤ limit
+    distance-fits = omega (arith, distance-most s S 0 calls d far)
+
+    duration-fits : totals .duration ≤ limit
+    duration-fits = omega (arith, last-early, leg-small s S (lastOf 0 calls) 0 w back .1)
+
+    set-out : Onward s place began 0 1 0 start calls
+    set-out = record { few = omega arith; from-inside = depot-inside s S; calls-inside = i; early = start-early; agreed = agrees s calls; roads = roads }
+
+    -- the trip, with so far gone before the way home
+    trip-home : (gone : ℕ) × (gone + w .length ≡ d) × (tripF t (flRest s place began missing) 1 startTrip calls ≡ flTrip (fl gone) last (load s calls) (lastOf 0 calls))
+    trip-home =
+        let (gone, all, trip) = trip-exact s S t I place began missing began-fits 0 1 0 0 start noLoad calls d far w back (omega (arith, distance-fits)) set-out in
+        (gone, omega (arith, all), trip ∙ ap (λ (n : Load). flTrip (fl gone) last n (lastOf 0 calls)) (none-plus (load s calls)))
+
+    way-home : openF t (lastOf 0 calls) 0 ≡ flLeg w
+    way-home = open-exact s S t I place began missing began-fits (lastOf 0 calls) 0 (last-inside s 0 calls (depot-inside s S) i) (depot-inside s S) w back
+
+    open-route-exact : openRouteF t (s .head .capacity) (flLimits s) calls ≡ flRoute (openRoute s calls)
+    unfolding openRouteF openRoute
+    open-route-exact =
+        let (gone, all, trip) = trip-home in
+        ap (builtF t (s .head .capacity) (flLimits s) calls) rest-exact
+        ∙ rw (
+          visits-exact s S t I place began missing began-fits 0 1 0 (fl 0) start noLoad calls set-out,
+          windows-exact s S t I place began missing began-fits 0 1 0 (fl 0) start noLoad calls set-out,
+          trip,
+          way-home,
+          fl-sum gone (w .length) (omega (arith, all, distance-fits)) ∙ ap fl all,
+          fl-sum (last .time) (w .travel) duration-fits,
+          checked-exact s S (windowsFrom s place 1 0 start calls) missing (load s calls) d (totals .duration) distance-fits duration-fits,
+          came-home,
+          last-place,
+        )
+
+  -- ---- the route
 
   pub build-exact : buildRouteF t (s .head .capacity) (flLimits s) calls ≡ flRoute (buildRoute s calls)
-  unfolding buildRouteF buildRoute
-  build-exact =
-      ap (builtF t (s .head .capacity) (flLimits s) calls) rest-exact
-      ∙ rw (
-        visits-exact s S t I place began missing began-fits 0 1 0 (fl 0) start noLoad calls set-out,
-        windows-exact s S t I place began missing began-fits 0 1 0 (fl 0) start noLoad calls set-out,
-        trip-home,
-        distance-exact,
-        duration-exact,
-        checked-exact s S (windowsFrom s place 1 0 start calls) missing (load s calls) (totals .distance) (totals .duration) distance-fits duration-fits,
-        last-place,
-      )
+  unfolding buildRouteF
+  build-exact = ap (routeF t (s .head .capacity) (flLimits s) calls) (first-closed-exact s S t I calls i) ∙ go (firstClosed s calls) refl
+    where
+      go : (o : Option ℕ) → firstClosed s calls ≡ o → routeF t (s .head .capacity) (flLimits s) calls o ≡ flRoute (buildRoute s calls)
+      go (some leg) e = ap flRoute (sym (route-closed s calls leg e))
+      go none e =
+          let (d, far) = open-distance s 1 0 calls e in
+          let (w, back) = distance-home s 0 calls d far in
+          open-route-exact e d far w back ∙ ap flRoute (sym (route-open s calls e))
 
 -- ---- by the limits of the Domain
 

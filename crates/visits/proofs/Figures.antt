@@ -2,7 +2,7 @@
 use mathlib.Core.Path.{_≡_, refl}
 use mathlib.Core.List.{map}
 use Rattle.whole.specs.Whole.{fl}
-use Rattle.definitions.specs.Visits.{Violation, windowShut, breakNotPlaceable, overCapacity, overDistance, overDuration, overWheelchairs, violationNumber, violationValues}
+use Rattle.definitions.specs.Visits.{Violation, windowShut, breakNotPlaceable, overCapacity, overDistance, overDuration, overWheelchairs, closedLeg, violationNumber, violationValues}
 use Rattle.visits.specs.Image.{flViolation}
 use Rattle.visits.specs.Figures.{numberIn, valuesIn}
 
@@ -13,6 +13,7 @@ same-number (overCapacity load capacity) = refl
 same-number (overDistance distance max) = refl
 same-number (overDuration duration max) = refl
 same-number (overWheelchairs load capacity) = refl
+same-number (closedLeg leg) = refl
 
 pub same-values : (v : Violation) → valuesIn (flViolation v .kind) ≡ map fl (violationValues v)
 same-values (windowShut customer readiness due) = refl
@@ -21,3 +22,4 @@ same-values (overCapacity load capacity) = refl
 same-values (overDistance distance max) = refl
 same-values (overDuration duration max) = refl
 same-values (overWheelchairs load capacity) = refl
+same-values (closedLeg leg) = refl

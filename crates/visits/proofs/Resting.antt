@@ -10,14 +10,15 @@ use lib.ListN.{getD, take}
 use borrow.Author.Tests.{eq-eqb, ne-eqb, eqb-true}
 use Rattle.basics.proofs.TestLaws.{by-test}
 use Rattle.basics.specs.Options.{_>>=_, valueOr}
-use Rattle.basics.proofs.OptionLaws.{same, clash, bound}
-use Rattle.definitions.specs.Sheet.{Break, Sheet, time}
-use Rattle.definitions.specs.Run.{breakStart, tooLate, ready, Label, start, serveAt, serve, breakAt, serveAll, lastOf, Totals, placed}
+use Rattle.basics.proofs.OptionLaws.{clash}
+use Rattle.definitions.specs.Sheet.{Break, Sheet, Leg, customer, drive}
+use Rattle.definitions.specs.Run.{breakStart, tooLate, ready, Label, start, serve, breakAt, serveAll, lastOf, Totals, placed}
 use Rattle.definitions.specs.Clock.{clock, placeOr, startOf}
-use Rattle.definitions.specs.Visits.{readyFor, visited}
+use Rattle.definitions.specs.Visits.{arrivesAt, readyFor, visited}
+use Rattle.theorems.proofs.Serving.{serve-leg, served-at}
 use Rattle.theorems.proofs.Legality.{clock-own, ridden}
 use Rattle.theorems.proofs.Marking.{served-none}
-use Rattle.theorems.proofs.Visiting.{visited-served}
+use Rattle.theorems.proofs.Visiting.{arrives-by, visited-served}
 
 -- how long the break is, and 0 where there is none
 abbrev pub lengthOf : Option Break → ℕ
@@ -32,7 +33,7 @@ readyAt s place o k arrival = valueOr arrival (o >>= λ from. cond (eqb place k)
 abbrev pub Agrees : Sheet → ℕ → Option ℕ → ℕ → ℕ → Label → List ℕ → Type 0
 Agrees s place o k a l [] = Unit {0}
 Agrees s place o k a l (c ∷ cs) =
-    (readyAt s place o k (l .time + time s a c) ≡ readyFor s (breakAt s place k) a c l) × Agrees s place o (suc k) c (visited s (breakAt s place k) k a c l) cs
+    (readyAt s place o k (arrivesAt s a c l) ≡ readyFor s (breakAt s place k) a c l) × Agrees s place o (suc k) c (visited s (breakAt s place k) k a c l) cs
 
 -- place 0 is no call's
 pub nowhere : (s : Sheet) (k : ℕ) → 0 < k → breakAt s 0 k ≡ none
@@ -77,15 +78,26 @@ module _ (s : Sheet) (place : ℕ) (o : Option ℕ) where
   module _ (b : Break) (rest-is : s .head .rest ≡ some b) where
     -- the start of a break m calls on from here, where the calls before it are served
     abbrev startAfter : ℕ → ℕ → ℕ → Option Label → List ℕ → Option ℕ
-    startAfter m k a x calls = serveAll s 0 k a x (take m calls) >>= λ n. some (breakStart b (n .time + time s (lastOf a (take m calls)) (getD calls m 0)))
+    startAfter m k a x calls =
+        serveAll s 0 k a x (take m calls)
+        >>= λ n. drive s (lastOf a (take m calls)) (getD calls m 0)
+        >>= λ g. some (breakStart b (n .time + g .travel))
 
-    -- at the call itself
-    ready-broken : (k a c : ℕ) (l n : Label) → eqb place k ≡ true → serve s (breakAt s place k) k a c l ≡ some n → o ≡ some (breakStart b (l .time + time s a c))
-        → readyAt s place o k (l .time + time s a c) ≡ readyFor s (breakAt s place k) a c l
-    unfolding serveAt
+    broken : (k : ℕ) → eqb place k ≡ true → breakAt s place k ≡ some b
+    broken k e = rw (e, rest-is)
+
+    -- at the call itself, along a leg that can be driven
+    ready-after : (k a c : ℕ) (l : Label) (g : Leg) (r : ℕ) → eqb place k ≡ true → drive s a c ≡ some g → ready (some b) (l .time + g .travel) ≡ some r
+        → o ≡ some (breakStart b (l .time + g .travel)) → readyAt s place o k (arrivesAt s a c l) ≡ readyFor s (breakAt s place k) a c l
+    ready-after k a c l g r e way q f = rw (arrives-by s l a c g way, f, e, rest-is) (in-time b (l .time + g .travel) r q)
+
+    ready-broken : (k a c : ℕ) (l n : Label) → eqb place k ≡ true → serve s (breakAt s place k) k a c l ≡ some n → o ≡ (drive s a c >>= λ g. some (breakStart b (l .time + g .travel)))
+        → readyAt s place o k (arrivesAt s a c l) ≡ readyFor s (breakAt s place k) a c l
     ready-broken k a c l n e q f =
-        let r = bound (ready (some b) (l .time + time s a c)) _ n (rw (e, rest-is) at q) in
-        rw (f, e, rest-is) (in-time b (l .time + time s a c) (r .0) (r .1))
+        let (g, way, served) = serve-leg s (breakAt s place k) k a c l n q in
+        let r = served-at (customer s c) (breakAt s place k) k (g .travel) l n served in
+        let here : ready (some b) (l .time + g .travel) ≡ some (r .0) = sym (ap (λ (x : Option Break). ready x (l .time + g .travel)) (broken k e)) ∙ r .1 in
+        ready-after k a c l g (r .0) e way here (f ∙ ap (λ (x : Option Leg). x >>= λ h. some (breakStart b (l .time + h .travel))) way)
 
     agrees-from : (m k a : ℕ) (l : Label) (calls : List ℕ) (last : Label) → 0 < k → place ≡ k + m → serveAll s place k a (some l) calls ≡ some last → o ≡ startAfter m k a (some l) calls
         → Agrees s place o k a l calls
@@ -100,7 +112,7 @@ module _ (s : Sheet) (place : ℕ) (o : Option ℕ) where
         let served : serve s none k a c l ≡ some (n .0) = subst (λ (x : Option Break). serve s x k a c l ≡ some (n .0)) (unplaced k apart) (n .1) in
         let first : serve s (breakAt s 0 k) k a c l ≡ some (n .0) = subst (λ (x : Option Break). serve s x k a c l ≡ some (n .0)) (sym (nowhere s k h)) served in
         let v = visited-served s (breakAt s place k) k a c l (n .0) (n .1) in (
-          ready-plain k (l .time + time s a c) apart,
+          ready-plain k (arrivesAt s a c l) apart,
           subst (λ (x : Label). Agrees s place o (suc k) c x cs) (sym (v .0))
               (agrees-from m (suc k) c (n .0) cs last (omega arith) (omega arith) (rw (n .1) at q) (f ∙ ap (λ (x : Option Label). startAfter m (suc k) c x cs) first)),
         )

@@ -11,31 +11,35 @@ use lib.ListN.{length}
 use lib.Ieee as Ieee
 use lib.Ieee.{Float, binary64}
 use Rattle.basics.proofs.TestLaws.{by-test}
-use Rattle.basics.specs.Options.{_>>=_, Holds, present, valueOr}
+use Rattle.basics.specs.Options.{Holds, present, valueOr}
+use Rattle.basics.proofs.OptionLaws.{same, clash}
 use Rattle.basics.specs.Lists.{All}
 use Rattle.definitions.specs.Domain.{mostCalls}
 use Rattle.definitions.specs.Load.{Load, plus}
-use Rattle.definitions.specs.Sheet.{Window, Break, Customer, Sheet, customer, distance, time}
+use Rattle.definitions.specs.Sheet.{Window, Break, Customer, Sheet, Leg, customer, drive}
 use Rattle.definitions.specs.Window.{dueOf, begins, Entry, enter}
 use Rattle.definitions.specs.Run as Whole
-use Rattle.definitions.specs.Run.{breakAt, lastOf, load}
-use Rattle.definitions.specs.Visits.{windowShut, readyFor, entered, visited, visitsFrom, windowsFrom, lastLabel}
+use Rattle.definitions.specs.Run.{breakAt, lastOf, distanceFrom, closedFrom, load}
+use Rattle.definitions.specs.Visits.{windowShut, arrivesAt, readyFor, entered, visited, visitsFrom, windowsFrom, lastLabel}
 use Rattle.definitions.proofs.LoadLaws.{plus-none, plus-assoc}
 use Rattle.bounds.specs.Sized.{Small, SmallWindow, SmallBreak, SmallCustomer, Sized, Place}
-use Rattle.bounds.proofs.Inside.{time-small, customer-small, break-small}
+use Rattle.theorems.proofs.Roads.{by-leg, distance-on}
+use Rattle.theorems.proofs.Visiting.{arrives-by}
+use Rattle.bounds.proofs.Inside.{leg-small, customer-small, break-small}
 use Rattle.bounds.specs.Bounds.{Early, readyBy}
 use Rattle.bounds.proofs.BoundLaws.{begins-most, enter-most, readiness-most, visited-early}
 use Rattle.whole.specs.Whole.{fl, limit}
-use Rattle.whole.proofs.WholeLaws.{fl-add}
+use Rattle.whole.proofs.WholeLaws.{fl-add, fl-sum}
 use Rattle.models.specs.Image.{flWindow, flCustomer}
 use Rattle.models.proofs.Exact.{waiting-exact, due-exact}
+use Rattle.distance.specs.declared.leg.Leg as Held
+use Rattle.distance.proofs.Exact.{flLeg}
 use Rattle.clock.specs.Image.{flLabel}
 use Rattle.clock.proofs.ServingExact.{enter-exact}
 use Rattle.evaluation.specs.Records.{Tables}
-use Rattle.evaluation.specs.Tables.{distanceF, legsF}
 use Rattle.evaluation.specs.Image.{Image}
-use Rattle.evaluation.proofs.ClockExact.{record-exact, time-exact}
-use Rattle.visits.specs.Visiting.{RestF, TripF, readyAtF, beginF, servedBy, servedF, visitF, visitAtF, visitsF, windowsF, tripF}
+use Rattle.evaluation.proofs.ClockExact.{record-exact, leg-exact}
+use Rattle.visits.specs.Visiting.{RestF, TripF, readyAtF, beginF, servedBy, servedF, visitF, openF, visitAtF, visitsF, windowsF, tripF}
 use Rattle.visits.specs.Image.{flVisit, flViolation}
 use Rattle.visits.proofs.Resting.{lengthOf, readyAt, Agrees}
 
@@ -99,6 +103,11 @@ module _ (k : ℕ) (few : k < mostCalls) where
 
 -- ---- the walk
 
+-- where no leg is closed, the first can be driven and none of the others is closed
+road-on : (s : Sheet) (j a c : ℕ) (cs : List ℕ) → closedFrom s j a (c ∷ cs) ≡ none → (g : Leg) × (drive s a c ≡ some g) × (closedFrom s (suc j) c cs ≡ none)
+unfolding closedFrom
+road-on s j a c cs q = by-leg s a c (λ f. clash (sym (rw f at q))) (λ g e. (g, e, rw e at q))
+
 -- the calls from number j on, k others visited, from place a with the label l
 pub record Onward (s : Sheet) (place : ℕ) (o : Option ℕ) (k j a : ℕ) (l : Whole.Label) (calls : List ℕ) : Type 0 where
   pub few : k + length calls ≤ mostCalls
@@ -106,10 +115,15 @@ pub record Onward (s : Sheet) (place : ℕ) (o : Option ℕ) (k j a : ℕ) (l : 
   pub calls-inside : All (Place s) calls
   pub early : Early k l
   pub agreed : Agrees s place o j a l calls
+  pub roads : closedFrom s j a calls ≡ none
 
 module _ (s : Sheet) (S : Sized s) (t : Tables) (I : Image s t) (place : ℕ) (o : Option ℕ) (missing : Bool) (O : Holds (λ (n : ℕ). n ≤ limit) o) where
   abbrev R : RestF
   R = flRest s place o missing
+
+  -- a leg that can be driven, in floats
+  pub open-exact : (a c : ℕ) → Place s a → Place s c → (g : Leg) → drive s a c ≡ some g → openF t a c ≡ flLeg g
+  open-exact a c p q g e = ap (λ (x : Option Held.Leg). valueOr (record { distance = fl 0; time = fl 0 }) x) (leg-exact s S t I a c p q ∙ ap (Option·map flLeg) e)
 
   module _ (k j a : ℕ) (l : Whole.Label) (c : ℕ) (cs : List ℕ) (H : Onward s place o k j a l (c ∷ cs)) where
     -- call number j
@@ -127,13 +141,21 @@ module _ (s : Sheet) (S : Sized s) (t : Tables) (I : Image s t) (place : ℕ) (o
           calls-inside = H .calls-inside .1;
           early = visited-early s S k (omega arith) (breakAt s place j) (break-small s S place j) j a c l (H .early);
           agreed = H .agreed .1;
+          roads = road-on s j a c cs (H .roads) .2;
         }
+
+    arrival-exact : Ieee.add binary64 (fl (l .time)) (openF t a c .time) ≡ fl (arrivesAt s a c l)
+    arrival-exact =
+        let (g, e, rest) = road-on s j a c cs (H .roads) in
+        let E = H .early in
+        rw (open-exact a c (H .from-inside) (H .calls-inside .0) g e, arrives-by s l a c g e)
+        (fl-add (l .time) (g .travel) (omega arith) (omega (arith, leg-small s S a c g e .1)))
 
     visit-exact : (far : Float) (carried : Load)
         → visitAtF t R j (flTrip far l carried a) c
         ≡ record {
-          trip = flTrip (Ieee.add binary64 far (distanceF t a c)) next (plus carried (customer s c .demand)) c;
-          visit = flVisit (record { customer = c; arrival = l .time + time s a c; departure = next .time; load = plus carried (customer s c .demand) });
+          trip = flTrip (Ieee.add binary64 far (openF t a c .distance)) next (plus carried (customer s c .demand)) c;
+          visit = flVisit (record { customer = c; arrival = arrivesAt s a c l; departure = next .time; load = plus carried (customer s c .demand) });
           violation = flViolation (windowShut c readiness (dueOf (customer s c .window)));
           shut = not (present (entered s c readiness));
         }
@@ -143,9 +165,8 @@ module _ (s : Sheet) (S : Sized s) (t : Tables) (I : Image s t) (place : ℕ) (o
         let E = H .early in
         rw (
           record-exact s S t I c (H .calls-inside .0),
-          time-exact s S t I a c (H .from-inside) (H .calls-inside .0),
-          fl-add (l .time) (time s a c) (omega arith) (omega (arith, time-small s S a c)),
-          ready-exact s S place o missing O j (l .time + time s a c),
+          arrival-exact,
+          ready-exact s S place o missing O j (arrivesAt s a c l),
           H .agreed .0,
         )
         (let most = readiness-most s S k few (breakAt s place j) (break-small s S place j) j a c l E in
@@ -156,7 +177,7 @@ module _ (s : Sheet) (S : Sized s) (t : Tables) (I : Image s t) (place : ℕ) (o
   unfolding visitsF visitsFrom
   visits-exact k j a far l carried [] H = refl
   visits-exact k j a far l carried (c ∷ cs) H =
-      let farther = Ieee.add binary64 far (distanceF t a c) in
+      let farther = Ieee.add binary64 far (openF t a c .distance) in
       let rest = visits-exact (suc k) (suc j) c farther (next k j a l c cs H) (plus carried (customer s c .demand)) cs (onward k j a l c cs H) in
       rw (visit-exact k j a l c cs H far carried, rest)
 
@@ -165,15 +186,23 @@ module _ (s : Sheet) (S : Sized s) (t : Tables) (I : Image s t) (place : ℕ) (o
   unfolding windowsF windowsFrom
   windows-exact k j a far l carried [] H = refl
   windows-exact k j a far l carried (c ∷ cs) H =
-      let farther = Ieee.add binary64 far (distanceF t a c) in
+      let farther = Ieee.add binary64 far (openF t a c .distance) in
       let rest = windows-exact (suc k) (suc j) c farther (next k j a l c cs H) (plus carried (customer s c .demand)) cs (onward k j a l c cs H) in
       rw (visit-exact k j a l c cs H far carried, rest)
       (by-test (present (entered s c (readiness k j a l c cs H))) (λ y. rw y) (λ n. rw n))
 
-  pub trip-exact : (k j a : ℕ) (far : Float) (l : Whole.Label) (carried : Load) (calls : List ℕ) → Onward s place o k j a l calls
-      → tripF t R j (flTrip far l carried a) calls ≡ flTrip (legsF t far a calls) (lastLabel s place j a l calls) (plus carried (load s calls)) (lastOf a calls)
-  unfolding tripF lastLabel legsF
-  trip-exact k j a far l carried [] H = ap (λ (n : Load). flTrip far l n a) (sym (plus-none carried))
-  trip-exact k j a far l carried (c ∷ cs) H =
-      rw (visit-exact k j a l c cs H far carried, ← plus-assoc carried (customer s c .demand) (load s cs))
-      (trip-exact (suc k) (suc j) c (Ieee.add binary64 far (distanceF t a c)) (next k j a l c cs H) (plus carried (customer s c .demand)) cs (onward k j a l c cs H))
+  -- with so far gone before them, and the way home `w`
+  pub trip-exact : (k j a far : ℕ) (l : Whole.Label) (carried : Load) (calls : List ℕ) (d : ℕ) → distanceFrom s a calls ≡ some d → (w : Leg) → drive s (lastOf a calls) 0 ≡ some w
+      → far + d ≤ limit → Onward s place o k j a l calls
+      → (gone : ℕ) × (gone + w .length ≡ far + d) × (tripF t R j (flTrip (fl far) l carried a) calls ≡ flTrip (fl gone) (lastLabel s place j a l calls) (plus carried (load s calls)) (lastOf a calls))
+  unfolding tripF lastLabel
+  trip-exact k j a far l carried [] d r w b h H = (far, ap (λ (n : ℕ). far + n) (same (rw b at r)), ap (λ (n : Load). flTrip (fl far) l n a) (sym (plus-none carried)))
+  trip-exact k j a far l carried (c ∷ cs) d r w b h H =
+      let (g, e, d', rest, sum) = distance-on s a c cs d r in
+      let (gone, all, trip) =
+      trip-exact (suc k) (suc j) c (far + g .length) (next k j a l c cs H) (plus carried (customer s c .demand)) cs d' rest w b (omega arith) (onward k j a l c cs H) in
+      let driven = open-exact a c (H .from-inside) (H .calls-inside .0) g e in (
+        gone,
+        omega (arith, all, sum),
+        rw (visit-exact k j a l c cs H (fl far) carried, driven, fl-sum far (g .length) (omega arith), ← plus-assoc carried (customer s c .demand) (load s cs)) trip,
+      )

@@ -3,20 +3,25 @@ use Prim.Native.Nat.{ℕ, suc, _+_, _≤_, _<_}
 use native.Mathlib.Omega.{arith}
 use native.Mathlib.Nat.{add-zero, le-refl}
 use native.Mathlib.Numerals.{add-one}
-use mathlib.Core.Path.{_≡_, refl, _∙_}
+use mathlib.Core.Path.{_≡_, refl, sym, ap, subst, _∙_}
 use mathlib.Core.Bool.{Bool, true, false, cond}
 use mathlib.Core.List.{List, [], _∷_, _++_, append-assoc, append-nil}
+use mathlib.Core.Option.{Option, none, some}
 use lib.ListN.{length, getD, take, drop, set, length-set, drop-of-length-le}
 use lib.Seq.{drop-cons, take-set-le, take-suc-set}
 use lib.Ieee as Ieee
 use lib.Ieee.{Float, binary64}
+use Rattle.basics.specs.Options.{present}
 use Rattle.basics.proofs.TestLaws.{by-test}
+use Rattle.basics.proofs.OptionLaws.{clash}
 use Rattle.definitions.specs.Load.{Load, plus}
 use Rattle.definitions.specs.Sheet.{CustomerOf}
+use Rattle.distance.specs.declared.leg.Leg.{Leg}
 use Rattle.models.specs.Load.{UpTo, Countable, none-up-to, up-to-more}
 use Rattle.models.specs.Window.{dueF}
 use Rattle.evaluation.specs.Records.{Tables}
-use Rattle.evaluation.specs.Tables.{recordF, distanceF, timeF}
+use Rattle.evaluation.specs.Tables.{recordF, legF}
+use Rattle.evaluation.specs.Way.{closedF}
 use Rattle.visits.specs.declared.visit.Visit.{Visit}
 use Rattle.visits.specs.declared.visit.ViolationType.the-variants.{TimeWindowViolated}
 use Rattle.visits.specs.declared.visit.Violation.{Violation}
@@ -54,6 +59,11 @@ module _ (x : TripF) (r : RestF) (k cid : ℕ) (c : CustomerOf Float) (distance 
 
 -- ---- the walk
 
+-- where no leg is closed, the first is open and none of the others is closed
+none-closed : (b : Bool) (o : Option ℕ) (k : ℕ) → cond b o (some k) ≡ none → (b ≡ true) × (o ≡ none)
+none-closed true o k e = (refl, e)
+none-closed false o k e = clash (sym e)
+
 -- before call number i + 1
 pub record Underway (t : Tables) (r : RestF) (calls : List ℕ) (visits : List Visit) (list : List Violation) (count : ℕ) (x : TripF) (i : ℕ) : Type 0 where
   pub short : length calls ≤ 128
@@ -61,6 +71,7 @@ pub record Underway (t : Tables) (r : RestF) (calls : List ℕ) (visits : List V
   pub visits-go : take i visits ++ visitsF t r (suc i) x (drop i calls) ≡ visitsF t r 1 startTrip calls
   pub windows-go : take count list ++ windowsF t r (suc i) x (drop i calls) ≡ windowsF t r 1 startTrip calls
   pub trip-goes : tripF t r (suc i) x (drop i calls) ≡ tripF t r 1 startTrip calls
+  pub roads : closedF (legF t) (suc i) (x .prev) (drop i calls) ≡ none
   pub few : count ≤ i
   pub load-most : UpTo i (x .load)
   pub visits-long : length visits ≡ 128
@@ -68,8 +79,8 @@ pub record Underway (t : Tables) (r : RestF) (calls : List ℕ) (visits : List V
 
 module _ (t : Tables) (r : RestF) (calls : List ℕ) where
   pub set-out : (visits : List Visit) (list : List Violation) (x : TripF)
-      → length calls ≤ 128 → length visits ≡ 128 → length list ≡ mostViolations → x ≡ startTrip → Underway t r calls visits list 0 x 0
-  set-out visits list x s v l e =
+      → length calls ≤ 128 → closedF (legF t) 1 0 calls ≡ none → length visits ≡ 128 → length list ≡ mostViolations → x ≡ startTrip → Underway t r calls visits list 0 x 0
+  set-out visits list x s o v l e =
       rw e
       (record {
         short = s;
@@ -77,6 +88,7 @@ module _ (t : Tables) (r : RestF) (calls : List ℕ) where
         visits-go = refl;
         windows-go = refl;
         trip-goes = refl;
+        roads = o;
         few = omega arith;
         load-most = none-up-to;
         visits-long = v;
@@ -88,12 +100,24 @@ module _ (t : Tables) (r : RestF) (calls : List ℕ) where
     pub countable : Countable (x .load)
     countable = up-to-more i 1000 (x .load) (omega arith) (U .load-most)
 
+    -- the leg to the next call is open, and so are those behind it
+    next-open : i < length calls → (present (legF t (x .prev) (getD calls i 0)) ≡ true) × (closedF (legF t) (suc (suc i)) (getD calls i 0) (drop (suc i) calls) ≡ none)
+    unfolding closedF
+    next-open h = none-closed (present (legF t (x .prev) (getD calls i 0))) _ (suc i) (rw (drop-cons calls i 0 h) at (U .roads))
+
+    pub call-open : i < length calls → present (legF t (x .prev) (getD calls i 0)) ≡ true
+    call-open h = next-open h .0
+
     -- the call, with what is looked up for it
-    module _ (s : VisitedF) (c : CustomerOf Float) (leg travel : Float) (h : i < length calls)
-        (ec : c ≡ recordF t (getD calls i 0)) (el : leg ≡ distanceF t (x .prev) (getD calls i 0)) (et : travel ≡ timeF t (x .prev) (getD calls i 0))
-        (es : s ≡ visitF x r (i + 1) (getD calls i 0) c leg travel) where
+    module _ (s : VisitedF) (c : CustomerOf Float) (g : Leg) (h : i < length calls) (ec : c ≡ recordF t (getD calls i 0)) (eg : some g ≡ legF t (x .prev) (getD calls i 0))
+        (es : s ≡ visitF x r (i + 1) (getD calls i 0) c (g .distance) (g .time)) where
       visited-is : s ≡ visitAtF t r (suc i) x (getD calls i 0)
-      visited-is = es ∙ rw (ec, el, et, add-one)
+      visited-is = es ∙ rw (ec, ← eg, add-one)
+
+      -- the call is the last place
+      last-is : getD calls i 0 ≡ s .trip .prev
+      unfolding visitF
+      last-is = ap (λ (v : VisitedF). v .trip .prev) (sym es)
 
       visits-left : visitsF t r (suc i) x (drop i calls) ≡ s .visit ∷ visitsF t r (suc (suc i)) (s .trip) (drop (suc i) calls)
       unfolding visitsF
@@ -118,6 +142,7 @@ module _ (t : Tables) (r : RestF) (calls : List ℕ) where
             visits-go = rw (add-one, take-suc-set visits i (s .visit), append-assoc, ← visits-left) (U .visits-go);
             windows-go = rw (add-one, written-some list count n (s .violation) (s .shut) free en, append-assoc, ← windows-left) (U .windows-go);
             trip-goes = rw (add-one, ← trip-left) (U .trip-goes);
+            roads = rw (add-one) (subst (λ (a : ℕ). closedF (legF t) (suc (suc i)) a (drop (suc i) calls) ≡ none) last-is (next-open h .1));
             few = by-test (s .shut) (λ y. let z = rw y at en in omega arith) (λ y. let z = rw y at en in omega arith);
             load-most = more;
             visits-long = simp length-set (U .visits-long);
@@ -125,13 +150,16 @@ module _ (t : Tables) (r : RestF) (calls : List ℕ) where
           }
 
     pub arrive : length calls ≤ i → (w : VisitedRun) → w .visits ≡ visits → w .windows .list ≡ list → w .windows .count ≡ count → tripOf (w .trip) ≡ x → Walks t r calls w
-    unfolding visitsF windowsF tripF
+    unfolding visitsF windowsF tripF closedF
     arrive h w ev el ec ex =
         let all : i ≡ length calls = omega arith in
         record {
           visits-are = rw (ev, ← all, ← U .visits-go, drop-of-length-le calls h, append-nil);
           windows-are = rw (el, ec, ← U .windows-go, drop-of-length-le calls h, append-nil);
           trip-is = rw (ex, ← U .trip-goes, drop-of-length-le calls h);
+          home-open =
+              ap (λ (y : TripF). present (legF t (y .prev) 0)) ex
+              ∙ none-closed (present (legF t (x .prev) 0)) none (suc i) (rw (drop-of-length-le calls h) at (U .roads)) .0;
           few = omega arith;
           long = rw el (U .list-long);
         }

@@ -2,12 +2,12 @@
 use mathlib.Core.List.{map}
 use mathlib.Core.Option.{Option·map}
 use Rattle.definitions.specs.Visits as Whole
-use Rattle.definitions.specs.Visits.{Route, windowShut, breakNotPlaceable, overCapacity, overDistance, overDuration, overWheelchairs}
+use Rattle.definitions.specs.Visits.{Route, windowShut, breakNotPlaceable, overCapacity, overDistance, overDuration, overWheelchairs, closedLeg}
 use Rattle.whole.specs.Whole.{fl}
 use Rattle.clock.specs.Image.{flTotals}
 use Rattle.visits.specs.declared.visit.Visit.{Visit}
 use Rattle.visits.specs.declared.visit.ViolationType.{ViolationType}
-use Rattle.visits.specs.declared.visit.ViolationType.the-variants.{TimeWindowViolated, BreakNotPlaceable, CapacityExceeded, MaxDistanceExceeded, MaxDurationExceeded, WheelchairsExceeded}
+use Rattle.visits.specs.declared.visit.ViolationType.the-variants.{TimeWindowViolated, BreakNotPlaceable, CapacityExceeded, MaxDistanceExceeded, MaxDurationExceeded, WheelchairsExceeded, ClosedLeg}
 use Rattle.visits.specs.declared.visit.Violation.{Violation}
 use Rattle.visits.specs.Visiting.{loadIn}
 use Rattle.visits.specs.Building.{RouteF}
@@ -28,6 +28,7 @@ flKind (overCapacity load capacity) = CapacityExceeded load capacity
 flKind (overDistance distance limit) = MaxDistanceExceeded (fl distance) (fl limit)
 flKind (overDuration duration limit) = MaxDurationExceeded (fl duration) (fl limit)
 flKind (overWheelchairs load capacity) = WheelchairsExceeded load capacity
+flKind (closedLeg leg) = ClosedLeg leg
 
 abbrev pub flViolation : Whole.Violation → Violation
 flViolation v = record { kind = flKind v }

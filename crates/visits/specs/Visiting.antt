@@ -1,7 +1,7 @@
 -- Visiting the calls of a run on floats, step by step as the code has it. Definitions only.
-use Prim.Native.Nat.{ℕ, suc, _+_, _≤_}
+use Prim.Native.Nat.{ℕ, suc, _≤_}
 use mathlib.Core.Path.{_≡_}
-use mathlib.Core.Bool.{Bool, cond, not, _&&_}
+use mathlib.Core.Bool.{Bool, true, cond, not, _&&_}
 use mathlib.Core.List.{List, [], _∷_}
 use mathlib.Core.Option.{Option, none, some}
 use lib.Dec.{eqb}
@@ -14,6 +14,7 @@ use Rattle.definitions.specs.Lent.{violationRoom}
 use Rattle.definitions.specs.Load.{Load, noLoad, plus}
 use Rattle.definitions.specs.Sheet.{WindowOf, BreakOf, CustomerOf}
 use Rattle.whole.specs.Whole.{fl}
+use Rattle.distance.specs.declared.leg.Leg.{Leg}
 use Rattle.models.specs.declared.load.Load as Code
 use Rattle.models.specs.Load.{loadOf}
 use Rattle.models.specs.Window.{waitingF, dueF}
@@ -21,7 +22,7 @@ use Rattle.clock.specs.declared.schedule.Label.{Label}
 use Rattle.clock.specs.declared.schedule.Scheduled.{Scheduled}
 use Rattle.clock.specs.Serving.{startLabel, atTime, enterF, leaveF}
 use Rattle.evaluation.specs.Records.{Tables, startOf}
-use Rattle.evaluation.specs.Tables.{recordF, distanceF, timeF}
+use Rattle.evaluation.specs.Tables.{recordF, legF}
 use Rattle.evaluation.specs.Schedule.{scheduleF}
 use Rattle.evaluation.specs.Route.{startF}
 use Rattle.visits.specs.declared.visit.Visit.{Visit}
@@ -143,11 +144,15 @@ visitF x r k cid c distance travel =
     let readiness = readyAtF r k arrival in
     visitBy x cid c distance arrival readiness (servedF c readiness (x .label)) (plus (x .load) (c .demand))
 
--- ---- the walk
+-- ---- the walk, along a run without a closed leg
+
+-- the leg from a to b; on such a run there is one, so the zeros are never read
+abbrev pub openF : Tables → ℕ → ℕ → Leg
+openF t a b = valueOr (record { distance = fl 0; time = fl 0 }) (legF t a b)
 
 -- call number k, looked up in the tables
 abbrev pub visitAtF : Tables → RestF → ℕ → TripF → ℕ → VisitedF
-visitAtF t r k x c = visitF x r k c (recordF t c) (distanceF t (x .prev) c) (timeF t (x .prev) c)
+visitAtF t r k x c = visitF x r k c (recordF t c) (openF t (x .prev) c .distance) (openF t (x .prev) c .time)
 
 -- the calls from number k on
 module _ (t : Tables) (r : RestF) where
@@ -178,6 +183,7 @@ pub record Walks (t : Tables) (r : RestF) (calls : List ℕ) (w : VisitedRun) : 
   pub visits-are : take (length calls) (w .visits) ≡ visitsF t r 1 startTrip calls
   pub windows-are : listed (w .windows) ≡ windowsF t r 1 startTrip calls
   pub trip-is : tripOf (w .trip) ≡ tripF t r 1 startTrip calls
+  pub home-open : present (legF t (w .trip .prev) 0) ≡ true
   pub few : w .windows .count ≤ length calls
   pub long : length (w .windows .list) ≡ mostViolations
 

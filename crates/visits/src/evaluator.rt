@@ -1,23 +1,27 @@
 // The visits of a run with their times and loads, its totals, and what it violates (evaluation/evaluator.rs).
 ghost use mathlib.Core.Path.{_≡_};
 ghost use mathlib.Core.Bool.{cond};
+ghost use mathlib.Core.Option.{none};
 ghost use Prim.Native.Nat.{_+_, _≤_};
 ghost use lib.ListN.{length, replicate};
+ghost use Rattle.distance.specs.Lookup.{driveF};
 ghost use Rattle.models.specs.Load.{spaceOf};
 ghost use Rattle.evaluation.specs.Records.{lent, limitsOf};
+ghost use Rattle.evaluation.specs.Way.{closedF};
 ghost use Rattle.visits.specs.Visiting.{restAtOf, Walks, mostViolations, blankVisit, blankViolation};
-ghost use Rattle.visits.specs.Building.{Builds};
+ghost use Rattle.visits.specs.Building.{closedRouteF, builtOf, Builds};
 use crate::rest::RestAt;
 use crate::rest::rest_at;
 use crate::trip::Trip;
+use crate::trip::open_leg;
 use crate::violation::Violations;
 use crate::visit::MOST_VIOLATIONS;
 use crate::visit::Violation;
 use crate::visit::ViolationType;
 use crate::visit::Visit;
-use distance::leg::leg_between;
 use evaluation::route::Start;
 use evaluation::schedule::record_index;
+use evaluation::way::first_closed;
 use models::customer::Customer;
 use models::limits::RouteLimits;
 use models::load::Load;
@@ -75,7 +79,8 @@ pub fn counted(count: usize, test: bool) -> usize
     if test { count + 1 } else { count }
 }
 
-// Every call visited in turn. The violation of its window is written at each, and counted where the window is shut.
+// Every call of a run without a closed leg visited in turn. The violation of its window is written at each, and counted
+// where the window is shut.
 pub fn walk(
     route: &[usize],
     customers: [Customer; 64],
@@ -85,6 +90,7 @@ pub fn walk(
     rest: RestAt,
 ) -> VisitedRun
     requires { ⌜ length (now route) ≤ 128 ⌝ }
+    requires { ⌜ closedF (driveF (now distances) (now times) size) 1 0 (now route) ≡ none ⌝ }
     ensures { λ r.
         let tables = lent customers (now (distances .entry)) (now (times .entry)) size in
         ⌜ Walks tables (restAtOf rest) (now (route .entry)) r ⌝ }
@@ -97,7 +103,7 @@ pub fn walk(
     while i < route.len() {
         let cid = route[i];
         let prev = trip.prev;
-        let leg = leg_between(distances, times, size, prev, cid);
+        let leg = open_leg(distances, times, size, prev, cid);
         let index = record_index(cid);
         let call = trip.visit(rest, i + 1, cid, customers[index], leg);
         let visit = call.visit;
@@ -115,8 +121,30 @@ pub fn walk(
     }
 }
 
-// The run with its visits, totals and violations.
-pub fn build_route(
+// A run with a closed leg: nothing is visited, and its first closed leg is the one violation.
+pub fn closed_route(leg: usize) -> Built
+    ensures { λ r. ⌜ (builtOf r ≡ closedRouteF leg) × (r .count ≡ 0) × (r .found ≡ 1) ⌝ }
+{
+    let violation = Violation {
+        kind: ViolationType::ClosedLeg { leg },
+    };
+    Built {
+        visits: blank_visits(),
+        count: 0,
+        violations: [violation; MOST_VIOLATIONS],
+        found: 1,
+        distance: 0.0,
+        duration: 0.0,
+        lateness: 0.0,
+        lateness_cost: 0.0,
+        load: Load::none(),
+        place: 0,
+        start: Start::Unbroken,
+    }
+}
+
+// A run without one, with its visits, totals and violations.
+fn open_route(
     route: &[usize],
     customers: [Customer; 64],
     distances: &[f64],
@@ -126,6 +154,7 @@ pub fn build_route(
     limits: RouteLimits,
 ) -> Built
     requires { ⌜ length (now route) ≤ 128 ⌝ }
+    requires { ⌜ closedF (driveF (now distances) (now times) size) 1 0 (now route) ≡ none ⌝ }
     ensures { λ r.
         let tables = lent customers (now (distances .entry)) (now (times .entry)) size in
         ⌜ Builds tables (spaceOf capacity) (limitsOf limits) (now (route .entry)) r ⌝ }
@@ -136,7 +165,7 @@ pub fn build_route(
     let trip = calls.trip;
     let label = trip.label;
     let prev = trip.prev;
-    let back = leg_between(distances, times, size, prev, 0);
+    let back = open_leg(distances, times, size, prev, 0);
     let distance = trip.distance + back.distance;
     let duration = label.time + back.time;
     let windows = calls.windows;
@@ -158,4 +187,26 @@ pub fn build_route(
         place: at.place,
         start,
     }
+}
+
+// The run with its visits, totals and violations. Whether a leg is closed is asked before anything is written.
+pub fn build_route(
+    route: &[usize],
+    customers: [Customer; 64],
+    distances: &[f64],
+    times: &[f64],
+    size: usize,
+    capacity: Space,
+    limits: RouteLimits,
+) -> Built
+    requires { ⌜ length (now route) ≤ 128 ⌝ }
+    ensures { λ r.
+        let tables = lent customers (now (distances .entry)) (now (times .entry)) size in
+        ⌜ Builds tables (spaceOf capacity) (limitsOf limits) (now (route .entry)) r ⌝ }
+{
+    let leg = first_closed(route, distances, times, size);
+    if leg > 0 {
+        return closed_route(leg);
+    }
+    open_route(route, customers, distances, times, size, capacity, limits)
 }

@@ -1,6 +1,10 @@
 // One call of a run visited, also where it is reached too late.
 ghost use mathlib.Core.Path.{_≡_};
+ghost use mathlib.Core.Bool.{true};
+ghost use mathlib.Core.Option.{some};
 ghost use Prim.Native.Nat.{ℕ, _+_};
+ghost use Rattle.basics.specs.Options.{present};
+ghost use Rattle.distance.specs.Lookup.{driveF};
 ghost use Rattle.models.specs.Load.{loadOf, UpTo, Countable};
 ghost use Rattle.models.specs.Records.{openingOf, customerOf};
 ghost use Rattle.visits.specs.Visiting.{restAtOf, tripOf, visitedOf, beginF, servedF, startTrip, visitF};
@@ -11,7 +15,9 @@ use crate::visit::Visit;
 use clock::schedule::Label;
 use clock::schedule::Reached;
 use clock::schedule::enter;
+use distance::leg::Drive;
 use distance::leg::Leg;
+use distance::leg::leg_between;
 use models::customer::Customer;
 use models::customer::Opening;
 use models::customer::due_or_zero;
@@ -37,6 +43,20 @@ pub struct VisitedCall {
     pub visit: Visit,
     pub violation: Violation,
     pub shut: bool,
+}
+
+// A leg of a run that has no closed one, so the second case is never met.
+pub fn open_leg(distances: &[f64], times: &[f64], size: usize, from: usize, to: usize) -> Leg
+    requires { ⌜ present (driveF (now distances) (now times) size from to) ≡ true ⌝ }
+    ensures { λ r. ⌜ some r ≡ driveF (now (distances .entry)) (now (times .entry)) size from to ⌝ }
+{
+    match leg_between(distances, times, size, from, to) {
+        Drive::Open(leg) => leg,
+        Drive::Closed => Leg {
+            distance: 0.0,
+            time: 0.0,
+        },
+    }
 }
 
 // When service starts, from readiness on.

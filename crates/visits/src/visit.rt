@@ -38,6 +38,10 @@ pub enum ViolationType {
         load: u64,
         capacity: u32,
     },
+    // The first leg of the run without a road; leg 1 leaves the depot.
+    ClosedLeg {
+        leg: usize,
+    },
 }
 
 pub struct Violation {

@@ -13,6 +13,9 @@ pub const TOUR: usize = 63;
 /// The most calls, and the most runs, that a function is given.
 pub const CALLS: usize = 128;
 
+/// The value of the C and D words of a leg that can't be driven.
+pub const NO_ROAD: u32 = 0x0FFF_FFFF;
+
 /// Why nothing was answered, by the number that `lizsomdur.h` lists.
 #[derive(Clone, Copy, Debug, PartialEq, Eq)]
 pub struct Refusal {

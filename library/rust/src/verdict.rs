@@ -57,6 +57,11 @@ pub enum Verdict {
         load: u64,
         capacity: u64,
     },
+    /// The run's first leg without a road, by its number in the run: 1 leaves the depot.
+    RoadClosed {
+        run: u64,
+        leg: u64,
+    },
 }
 
 impl Verdict {
@@ -107,7 +112,8 @@ impl Verdict {
                 load: b,
                 capacity: c,
             },
-            _ => unreachable!("the library has eleven verdicts"),
+            12 => Verdict::RoadClosed { run: a, leg: b },
+            _ => unreachable!("the library has twelve verdicts"),
         }
     }
 }

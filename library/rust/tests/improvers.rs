@@ -1,7 +1,7 @@
 //! Reversed runs and runs left by elimination, beside the original Rust planner's.
 mod common;
 use common::{kind, records, words};
-use lizsomdur::{eliminate, reverse, Refusal};
+use lizsomdur::{eliminate, reverse, Refusal, NO_ROAD};
 
 /// Numbers behind how many they are, a byte each, and what follows.
 fn counted(bytes: &[u8]) -> (Vec<usize>, &[u8]) {
@@ -38,20 +38,35 @@ fn pays(sheet: &[u8]) -> bool {
         .any(|pair| kind(pair[0]) == 0xA && kind(pair[1]) == 0xB)
 }
 
+/// Whether a leg is closed, by the distances.
+fn closed(sheet: &[u8]) -> bool {
+    words(sheet).contains(&(0xC000_0000 | NO_ROAD))
+}
+
+/// The number by which the improvers refuse the sheet.
+fn refusal(sheet: &[u8]) -> Option<u32> {
+    if pays(sheet) {
+        Some(4)
+    } else {
+        closed(sheet).then_some(23)
+    }
+}
+
 #[test]
 fn improved_runs_are_the_recorded_ones() {
     let records = records(b'r');
     assert!(records.len() >= 300);
-    let mut improved = 0;
+    let (mut improved, mut barred) = (0, 0);
     for (number, (bytes, answer)) in records.iter().enumerate() {
         let (sheet, runs) = question(bytes);
-        if pays(sheet) {
+        if let Some(by) = refusal(sheet) {
             let refused = Refusal {
-                number: 4,
+                number: by,
                 word: None,
             };
             assert_eq!(reverse(sheet, &[]), Err(refused), "question {number}");
             assert_eq!(eliminate(sheet, &runs), Err(refused), "question {number}");
+            barred += usize::from(by == 23);
             continue;
         }
         let reversed: Vec<Vec<usize>> = runs
@@ -66,5 +81,5 @@ fn improved_runs_are_the_recorded_ones() {
         assert_eq!(left, lines(answer, "left"), "question {number}");
         improved += 1;
     }
-    assert!(improved > 200);
+    assert!(improved > 200 && barred > 40);
 }

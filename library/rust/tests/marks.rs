@@ -1,7 +1,7 @@
 //! The marks of the worked sheets, beside those that the program crates/test_marks says, and recorded marks, beside those of the oracle's own marker.
 mod common;
 use common::recorded_marks::{recorded_marks, wrong_marks, Recorded};
-use common::worked::marked;
+use common::worked::{marked, of_closed};
 use common::{kept, runs};
 use lizsomdur::{mark, Refusal, Run, Verdict};
 
@@ -35,6 +35,7 @@ fn said(verdict: Verdict) -> String {
             load,
             capacity,
         } => fault("wheelchair overload", run, None, load, "over", capacity),
+        RoadClosed { run, leg } => format!("road closed in run {run}, leg {leg}"),
         BreakTooLate {
             run,
             place,
@@ -97,8 +98,16 @@ fn marks_are_those_of_the_proved_program() {
     assert_eq!(said, proved);
 }
 
+#[test]
+fn a_closed_leg_is_the_only_fault_of_its_run() {
+    for (cut, expected) in of_closed() {
+        let verdict = mark(&cut.sheet, &runs(&cut.runs)).expect("accepted runs");
+        assert_eq!(said(verdict), expected, "{}", cut.name);
+    }
+}
+
 /// In the order of their numbers.
-const NAMES: [&str; 11] = [
+const NAMES: [&str; 12] = [
     "OtherCalls",
     "Overload",
     "BreakTooLate",
@@ -110,6 +119,7 @@ const NAMES: [&str; 11] = [
     "Dearer",
     "Cheaper",
     "WheelchairOverload",
+    "RoadClosed",
 ];
 
 /// The number and the values of a verdict, by its name and the numbers that are shown with it.

@@ -2,7 +2,7 @@
 mod common;
 use common::faulty::faulty;
 use common::sheets::Sheet;
-use common::worked::{base, with_break, with_window};
+use common::worked::{base, with_break, with_closed, with_window};
 use common::{runs, sample};
 use lizsomdur::{eliminate, mark, plan, reverse, Refusal};
 
@@ -35,16 +35,16 @@ fn bad_runs_are_refused_without_a_word() {
     assert_eq!(eliminate(&sheet, &vec![vec![]; 128]), Ok(vec![]));
 }
 
-/// Whether the improvers refuse the sheet for lateness pay.
-fn pays(sheet: &Sheet) -> bool {
+/// The number by which both improvers refuse the sheet, or 0.
+fn refused_by(sheet: &Sheet) -> u32 {
     let sheet = sheet.with(&[]);
     let answers = (reverse(&sheet, &[1, 2]), eliminate(&sheet, &[vec![1, 2]]));
     match answers {
         (Err(r), Err(e)) => {
-            assert_eq!((r.number, e.number), (4, 4));
-            true
+            assert_eq!(r, e);
+            r.number
         }
-        (Ok(_), Ok(_)) => false,
+        (Ok(_), Ok(_)) => 0,
         other => panic!("{other:?}"),
     }
 }
@@ -56,7 +56,22 @@ fn lateness_pay_is_refused_by_the_improvers() {
     without_window.customers[0].penalty = Some(5);
     let mut apart = with_window(base(), [0, 9], None);
     apart.customers[1].penalty = Some(5);
-    assert!(!pays(&base()) && !pays(&without_window) && !pays(&apart));
-    assert!(pays(&with_window(base(), [0, 9], Some(0))));
-    assert!(pays(&with_window(with_break(0, 30), [0, 9], Some(5))));
+    for sheet in [base(), without_window, apart] {
+        assert_eq!(refused_by(&sheet), 0);
+    }
+    for sheet in [base(), with_break(0, 30)] {
+        assert_eq!(refused_by(&with_window(sheet, [0, 9], Some(0))), 4);
+    }
+}
+
+/// Used or not, the diagonal too. Such a sheet can be planned, and a cutting of it marked.
+#[test]
+fn closed_legs_are_refused_by_the_improvers() {
+    for leg in [(0, 1), (1, 2), (2, 1), (0, 0), (2, 2)] {
+        let sheet = with_closed(base(), &[leg]);
+        assert_eq!(refused_by(&sheet), 23);
+        assert_eq!(refused_by(&with_window(sheet.clone(), [0, 9], Some(0))), 4);
+        let planned = plan(&sheet.with(&[1, 2])).expect("a plan");
+        assert!(mark(&sheet.with(&[1, 2]), &planned.runs).is_ok());
+    }
 }

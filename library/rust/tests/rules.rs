@@ -1,8 +1,11 @@
-//! What lizsomdur.h says of tables, bounds, lateness, breaks and drops, on sheets of two customers.
+//! What lizsomdur.h says of tables, closed legs, bounds, lateness, breaks and drops, on sheets of two customers.
 mod common;
 use common::listing::listing;
 use common::sheets::Sheet;
-use common::worked::{base, with_break, with_distance_limit, with_wheelchairs, with_window};
+use common::worked::{
+    base, with_break, with_capacity, with_closed, with_distance_limit, with_wheelchairs,
+    with_window,
+};
 use lizsomdur::{eliminate, plan, reverse};
 
 /// Asserts that the sheet with these calls is planned so.
@@ -33,6 +36,50 @@ fn the_diagonal_is_a_leg_between_two_calls_at_one_customer() {
         ..base()
     };
     assert_eq!(reverse(&near.with(&[]), &[1, 1]), Ok((vec![1, 1], 23)));
+}
+
+/// The ford lies on the way from customer 1 to customer 2, and not on the way back.
+#[test]
+fn a_closed_leg_is_not_driven() {
+    let two = "run 1\nrun 2\ntotal 44 cost 44 served 2 dropped 0\n";
+    let ford = &[(1, 2)];
+    planned(with_closed(base(), ford), &[1, 2], two);
+    let back = "run 2 1\ntotal 27 cost 27 served 2 dropped 0\n";
+    planned(with_closed(base(), ford), &[2, 1], back);
+    let late_for_free = with_window(base(), [0, 9], Some(0));
+    planned(with_closed(late_for_free, ford), &[1, 2], two);
+    let timed = Sheet {
+        times: vec![1; 9],
+        ..base()
+    };
+    planned(with_closed(timed, ford), &[1, 2], two);
+    let rested = "run 1\nrun 2 rest 1 20\ntotal 44 cost 44 served 2 dropped 0\n";
+    planned(with_closed(with_break(20, 30), ford), &[1, 2], rested);
+}
+
+/// Without a way home a call is dropped, even where another call follows; without a way there it is served behind another, if the bus holds both.
+#[test]
+fn a_call_without_a_road_is_dropped() {
+    let home = with_closed(base(), &[(1, 0)]);
+    let second = "run 2\ndrop 1\ntotal 24 cost 24 served 1 dropped 1\n";
+    planned(home, &[1, 2], second);
+    let there = &[(0, 2)];
+    let one = "run 1 2\ntotal 27 cost 27 served 2 dropped 0\n";
+    planned(with_closed(base(), there), &[1, 2], one);
+    let first = "run 1\ndrop 2\ntotal 20 cost 20 served 1 dropped 1\n";
+    planned(with_closed(with_capacity(3), there), &[1, 2], first);
+}
+
+/// The longest leg is driven where it has to be, and the diagonal is not used here.
+#[test]
+fn other_legs_are_driven() {
+    let mut long = base();
+    long.distances[6] = 10_000_000;
+    let one = "run 1 2\ntotal 10000015 cost 10000015 served 2 dropped 0\n";
+    planned(long, &[1, 2], one);
+    let diagonal = with_closed(base(), &[(0, 0), (1, 1), (2, 2)]);
+    let one = "run 1 2\ntotal 27 cost 27 served 2 dropped 0\n";
+    planned(diagonal, &[1, 2], one);
 }
 
 #[test]

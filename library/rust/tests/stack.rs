@@ -1,7 +1,7 @@
 //! All functions on the largest sheets, with as much stack as lizsomdur.h says is enough.
 mod common;
 use common::sheets::{Customer, Sheet};
-use lizsomdur::{eliminate, mark, plan, reverse, Verdict, CALLS};
+use lizsomdur::{eliminate, mark, plan, reverse, Verdict, CALLS, NO_ROAD};
 use std::thread;
 
 const STACK: usize = 512_000;
@@ -18,7 +18,7 @@ fn legs(most: u32) -> Vec<u32> {
 }
 
 /// Everything that a sheet may have: 8,643 words with the penalties, the most that is accepted. Each customer is called once.
-fn largest(penalty: Option<u32>) -> Vec<u8> {
+fn largest(penalty: Option<u32>) -> Sheet {
     let customer = Customer {
         demand: 1,
         wheelchairs: Some(1),
@@ -26,7 +26,7 @@ fn largest(penalty: Option<u32>) -> Vec<u8> {
         window: Some([10, 4_000]),
         penalty,
     };
-    let sheet = Sheet {
+    Sheet {
         capacity: 40,
         wheelchairs: Some(30),
         fixed: 50,
@@ -36,8 +36,17 @@ fn largest(penalty: Option<u32>) -> Vec<u8> {
         customers: vec![customer; CUSTOMERS],
         distances: legs(101),
         times: legs(31),
-    };
-    sheet.with(&calls(CUSTOMERS))
+    }
+}
+
+/// The same with every fifth leg closed that goes from one call to the next.
+fn closed() -> Sheet {
+    let mut sheet = largest(Some(1));
+    for pair in calls(CUSTOMERS).windows(2).step_by(5) {
+        let leg = 64 * pair[0] + pair[1];
+        (sheet.distances[leg], sheet.times[leg]) = (NO_ROAD, NO_ROAD);
+    }
+    sheet
 }
 
 /// Plans the sheet and marks the plan.
@@ -58,9 +67,10 @@ fn improve(sheet: &[u8]) {
 }
 
 fn all_functions() {
-    let (paying, plain) = (largest(Some(1)), largest(None));
+    let sheets = [largest(Some(1)), closed(), largest(None)];
+    let [paying, closed, plain] = sheets.map(|sheet| sheet.with(&calls(CUSTOMERS)));
     assert_eq!(paying.len(), 4 * 8_643);
-    for sheet in [&paying, &plain] {
+    for sheet in [&paying, &closed, &plain] {
         plan_and_mark(sheet);
     }
     improve(&plain);

@@ -1,10 +1,12 @@
 //! Sheets that are refused: their bytes, the refusal's number, and the index of the bad word.
-use super::worked::{base, with_window};
+use super::sheets::Sheet;
+use super::worked::{base, with_closed, with_window};
 use super::{bytes, sample, words};
+use lizsomdur::NO_ROAD;
 
 pub type Faulty = (Vec<u8>, u32, usize);
 
-/// Sample m with one word changed. Where it has several faults, they count in the order 11, 1, 21, 2, 3.
+/// Sample m with one word changed. Where it has several faults, they count in the order 11, 1, 21, 2, 22, 3.
 fn changed() -> Vec<Faulty> {
     let table = [
         (0, 0x1000_0000, 1),
@@ -22,6 +24,10 @@ fn changed() -> Vec<Faulty> {
         (7, 0x0000_8000, 1),
         (8, 0x0000_0001, 11),
         (9, 0x9000_0000, 11),
+        (11, 0xC098_9681, 1),
+        (11, 0xCFFF_FFFE, 1),
+        (2, 0x3FFF_FFFF, 1),
+        (7, 0x8FFF_FFFF, 1),
         (20, 0xE000_0003, 1),
         (20, 0xE000_0001, 21),
         (20, 0x0000_0001, 11),
@@ -50,6 +56,31 @@ fn said_twice() -> Vec<Faulty> {
         .collect()
 }
 
+/// The base with times, and a leg that has a road by one table alone, or a wrong time: the word of the time is bad. Distances and times begin at words 7 and 16.
+fn closed_apart() -> Vec<Faulty> {
+    let timed = Sheet {
+        times: vec![1; 9],
+        ..base()
+    };
+    let closed = with_closed(timed.clone(), &[(1, 2), (2, 2)]);
+    let table = [
+        (&timed, 7 + 5, NO_ROAD, 22, 16 + 5),
+        (&timed, 16 + 5, NO_ROAD, 22, 16 + 5),
+        (&timed, 16, NO_ROAD, 22, 16),
+        (&closed, 7 + 5, 1, 22, 16 + 5),
+        (&closed, 16 + 8, 1, 22, 16 + 8),
+        (&closed, 16 + 5, NO_ROAD - 1, 1, 16 + 5),
+    ];
+    table
+        .into_iter()
+        .map(|(sheet, index, value, number, bad)| {
+            let mut words = words(&sheet.with(&[1, 1]));
+            words[index] = words[index] & 0xF000_0000 | value;
+            (bytes(&words), number, bad)
+        })
+        .collect()
+}
+
 /// Sample m ended too early or too late, with one to three bytes left over or without.
 fn cut_short_or_continued() -> Vec<Faulty> {
     let sheet = sample("m");
@@ -69,5 +100,6 @@ pub fn faulty() -> Vec<Faulty> {
         (base().with(&[1, 2, 2, 1]), 21, 16 + 2),
         (base().with(&[1; 129]), 21, 16 + 1),
     ];
-    [changed(), said_twice(), cut_short_or_continued(), others].concat()
+    let kinds = [changed(), said_twice(), closed_apart()];
+    [&kinds.concat()[..], &cut_short_or_continued(), &others].concat()
 }

@@ -1,5 +1,6 @@
 //! The worked sheets and the cuttings of their calls that crates/test_marks marks.
 use super::sheets::{Customer, Sheet};
+use lizsomdur::NO_ROAD;
 
 /// A cutting to be marked.
 pub struct Marked {
@@ -62,6 +63,19 @@ pub fn with_distance_limit(limit: u32) -> Sheet {
     }
 }
 
+/// The sheet with these legs closed, each by where it starts and where it ends.
+pub fn with_closed(mut sheet: Sheet, legs: &[(usize, usize)]) -> Sheet {
+    let places = sheet.customers.len() + 1;
+    for &(from, to) in legs {
+        for table in [&mut sheet.distances, &mut sheet.times] {
+            if let Some(leg) = table.get_mut(from * places + to) {
+                *leg = NO_ROAD;
+            }
+        }
+    }
+    sheet
+}
+
 fn customer(demand: u32, service: u32, window: Option<[u32; 2]>, penalty: Option<u32>) -> Customer {
     Customer {
         demand,
@@ -119,6 +133,7 @@ fn whole(name: &'static str, sheet: &Sheet, tour: &[usize], place: usize) -> Mar
 fn of_base() -> Vec<Marked> {
     let (base, due) = (base(), |due| with_window(base(), [0, due], None));
     let at_price = with_window(with_break(0, 30), [12, 13], Some(5));
+    let between = with_closed(base.clone(), &[(1, 2), (2, 1)]);
     vec![
         whole("q", &at_price, &[1, 2], 2),
         whole("best", &base, &[1, 2], 0),
@@ -150,6 +165,9 @@ fn of_base() -> Vec<Marked> {
         whole("break", &with_break(5, 10), &[1, 2], 2),
         whole("missing", &with_break(20, 30), &[1, 2], 0),
         whole("far", &with_distance_limit(26), &[1, 2], 0),
+        whole("closed", &between, &[1, 2], 0),
+        whole("closed the other way", &between, &[2, 1], 0),
+        cut("a run each", &between, &[1, 2], &[(&[1], 0), (&[2], 0)]),
     ]
 }
 
@@ -195,7 +213,37 @@ fn of_full() -> Vec<Marked> {
     ]
 }
 
-/// All of them, in the order of crates/test_marks/stdout.
+/// Cuttings of sheets with closed legs, each with what is said of it.
+pub fn of_closed() -> Vec<(Marked, &'static str)> {
+    let singles: &[(&[usize], usize)] = &[(&[1], 0), (&[2], 0)];
+    let ford = with_closed(base(), &[(1, 2)]);
+    let full_bus = with_closed(with_capacity(3), &[(1, 2)]);
+    let no_way_out = with_closed(base(), &[(0, 2)]);
+    let no_way_home = with_closed(base(), &[(1, 0)]);
+    let due_home = with_closed(with_break(15, 30), &[(0, 2)]);
+    let either = "road closed in run 1, leg 2";
+    vec![
+        (whole("ford", &ford, &[1, 2], 0), either),
+        (cut("round the ford", &ford, &[1, 2], singles), "best"),
+        (whole("the other way", &ford, &[2, 1], 0), "best"),
+        (whole("road before load", &full_bus, &[1, 2], 0), either),
+        (whole("no way out", &no_way_out, &[1, 2], 0), "best"),
+        (
+            cut("second run closed", &no_way_out, &[1, 2], singles),
+            "road closed in run 2, leg 1",
+        ),
+        (
+            cut("first run before road", &due_home, &[1, 2], singles),
+            "break missing in run 1: 20 after 15",
+        ),
+        (
+            whole("calls before road", &no_way_home, &[1, 2], 0),
+            "other calls at position 1",
+        ),
+    ]
+}
+
+/// All that crates/test_marks marks, in the order of its stdout.
 pub fn marked() -> Vec<Marked> {
     [of_base(), of_full()].into_iter().flatten().collect()
 }

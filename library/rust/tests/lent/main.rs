@@ -11,7 +11,7 @@ mod slices;
 use common::faulty::faulty;
 use common::sample;
 use common::sheets::{Customer, Sheet};
-use common::worked::{base, full, marked, with_window};
+use common::worked::{base, full, marked, of_closed, with_closed, with_window};
 use lists::{Judged, Left, Planned, Reversed, OLD_FLOAT};
 
 const ROOM: usize = lizsomdur::TOUR;
@@ -42,6 +42,17 @@ fn road() -> Vec<u8> {
 /// A sheet with lateness pay: it costs nothing to be late.
 fn paying() -> Vec<u8> {
     with_window(base(), [0, 9], Some(0)).with(&[1, 2])
+}
+
+/// One with a leg that no run here uses, which is closed.
+fn closed() -> Vec<u8> {
+    with_closed(base(), &[(2, 1)]).with(&[1, 2])
+}
+
+/// One with both.
+fn paying_and_closed() -> Vec<u8> {
+    let closed = with_closed(base(), &[(2, 1)]);
+    with_window(closed, [0, 9], Some(0)).with(&[1, 2])
 }
 
 #[test]
@@ -110,7 +121,7 @@ fn a_refused_sheet_sets_the_word_alone() {
 }
 
 /// How many values the verdicts have, by number.
-const VALUES: [usize; 12] = [0, 1, 3, 5, 5, 3, 3, 3, 0, 1, 1, 3];
+const VALUES: [usize; 13] = [0, 1, 3, 5, 5, 3, 3, 3, 0, 1, 1, 3, 2];
 
 /// The end and the break place of each run.
 fn ends_and_places(runs: &[(Vec<usize>, usize)]) -> (Vec<usize>, Vec<usize>) {
@@ -126,7 +137,8 @@ fn ends_and_places(runs: &[(Vec<usize>, usize)]) -> (Vec<usize>, Vec<usize>) {
 #[test]
 fn a_verdict_sets_its_own_values() {
     let mut seen = [false; VALUES.len()];
-    for cut in marked() {
+    let closed = of_closed().into_iter().map(|(cut, _)| cut);
+    for cut in marked().into_iter().chain(closed) {
         let calls: Vec<usize> = cut.runs.iter().flat_map(|run| run.0.clone()).collect();
         let (ends, places) = ends_and_places(&cut.runs);
         let (number, left) = Judged::new().after(&cut.sheet, &calls, &ends, &places);
@@ -197,16 +209,20 @@ fn a_reversed_run_is_written_at_the_front() {
     assert_eq!(Reversed::new(4).after(&road(), &[]), (0, left));
 }
 
-/// Rows with several faults show which is told: 13 before 1 before 4.
+/// Rows with several faults show which is told: 13 before 1 before 4 before 23.
 #[test]
 fn a_refused_run_leaves_everything() {
-    let table: [(&[u8], List, usize, u32); 6] = [
+    let table: [(&[u8], List, usize, u32); 10] = [
         (&paying(), &[9, 2], 1, 13),
         (&road(), &[1; 129], 128, 13),
         (&paying(), &[9, 2], 2, 1),
         (&road(), &[0], 1, 1),
         (&road(), &[1; 129], 129, 1),
         (&paying(), &[1, 2], 2, 4),
+        (&closed(), &[9, 2], 1, 13),
+        (&closed(), &[9, 2], 2, 1),
+        (&paying_and_closed(), &[1, 2], 2, 4),
+        (&closed(), &[1, 2], 2, 23),
     ];
     for (row, (sheet, run, room, number)) in table.into_iter().enumerate() {
         let lent = Reversed::new(room);
@@ -228,10 +244,10 @@ fn runs_left_are_written_at_the_fronts() {
     }
 }
 
-/// Rows with several faults show which is told: 13 before 1 before 5 before 4.
+/// Rows with several faults show which is told: 13 before 1 before 5 before 4 before 23.
 #[test]
 fn refused_runs_of_an_elimination_leave_everything() {
-    let table: [(&[u8], List, List, [usize; 2], u32); 9] = [
+    let table: [(&[u8], List, List, [usize; 2], u32); 13] = [
         (&paying(), &[9, 2], &[2, 1], [1, 2], 13),
         (&paying(), &[9, 2], &[2, 1], [2, 1], 13),
         (&paying(), &[9, 2], &[2, 1], [2, 2], 1),
@@ -241,6 +257,10 @@ fn refused_runs_of_an_elimination_leave_everything() {
         (&road(), &[1, 2], &[], [2, 0], 5),
         (&road(), &[], &[0; 129], [0, 129], 5),
         (&paying(), &[1, 2], &[1, 2], [2, 2], 4),
+        (&closed(), &[9, 2], &[2, 1], [2, 2], 1),
+        (&closed(), &[1, 2], &[2, 1], [2, 2], 5),
+        (&paying_and_closed(), &[1, 2], &[1, 2], [2, 2], 4),
+        (&closed(), &[1, 2], &[1, 2], [2, 2], 23),
     ];
     for (row, (sheet, calls, ends, room, number)) in table.into_iter().enumerate() {
         let lent = Left::new(room[0], room[1]);

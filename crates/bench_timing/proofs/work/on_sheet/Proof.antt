@@ -4,7 +4,7 @@ use Rattle.sheet_read.specs.Summary.{heldCounts}
 use Rattle.sheet_loaded.specs.Held.{Accepted}
 use Rattle.sheet_loaded.proofs.Reading.{is-accepted}
 use Rattle.sheet_loaded.proofs.Loading.{far-inside, far-counted, long-inside, long-counted, calls-inside, calls-counted}
-use Rattle.bench_timing.proofs.Sheets.{callable, repeated-on}
+use Rattle.bench_timing.proofs.Sheets.{callable, rounds-on}
 use borrow.Author.Needs.{needs}
 use Rattle.bench_timing.proofs.work.on_sheet.Statement.{statement}
 use Rattle.bench_timing.proofs.work.on_sheet.Tie as tie
@@ -27,8 +27,8 @@ array-share-prefix-tour c =
     let H = x .load .ensures (q .0) (q .1) (q .2) in
     calls-inside H
 
-slice-aggregate-repeated : tie.Need-slice-aggregate-repeated
-slice-aggregate-repeated c =
+slice-aggregate-rounds : tie.Need-slice-aggregate-rounds
+slice-aggregate-rounds c =
     let x = c .before in
     let q = accepted x in
     let H = x .load .ensures (q .0) (q .1) (q .2) in
@@ -41,8 +41,8 @@ array-share-prefix-distances c =
     let H = x .load .ensures (q .0) (q .1) (q .2) in
     far-inside H
 
-slice-aggregate-repeated-2 : tie.Need-slice-aggregate-repeated-2
-slice-aggregate-repeated-2 c =
+slice-aggregate-rounds-2 : tie.Need-slice-aggregate-rounds-2
+slice-aggregate-rounds-2 c =
     let x = c .before .before in
     let q = accepted x in
     let H = x .load .ensures (q .0) (q .1) (q .2) in
@@ -55,15 +55,15 @@ array-share-prefix-times c =
     let H = x .load .ensures (q .0) (q .1) (q .2) in
     long-inside H
 
-slice-aggregate-repeated-3 : tie.Need-slice-aggregate-repeated-3
-slice-aggregate-repeated-3 c =
+slice-aggregate-rounds-3 : tie.Need-slice-aggregate-rounds-3
+slice-aggregate-rounds-3 c =
     let x = c .before .before .before in
     let q = accepted x in
     let H = x .load .ensures (q .0) (q .1) (q .2) in
     long-counted H
 
-repeated-requires : tie.Need-repeated-requires
-repeated-requires c κs =
+rounds-requires : tie.Need-rounds-requires
+rounds-requires c κs =
     let x = c .before .before .before in
     let q = accepted x in
     let H = x .load .ensures (q .0) (q .1) (q .2) in
@@ -75,7 +75,7 @@ returns c =
     let q = accepted x in
     let H = x .load .ensures (q .0) (q .1) (q .2) in
     let a = entry x .args in
-    repeated-on H (now (a .bytes)) (q .2) (c .repeated .result) (a .work) (a .n) (c .repeated .ensures)
+    rounds-on H (now (a .bytes)) (q .2) (c .rounds .result) (a .work) (a .n) (c .rounds .ensures)
 
 pub on-sheet-spec : {M : Type 1} → statement M
 on-sheet-spec =
@@ -83,10 +83,10 @@ on-sheet-spec =
     (tie.spec
     load-requires
     array-share-prefix-tour
-    slice-aggregate-repeated
+    slice-aggregate-rounds
     array-share-prefix-distances
-    slice-aggregate-repeated-2
+    slice-aggregate-rounds-2
     array-share-prefix-times
-    slice-aggregate-repeated-3
-    repeated-requires
+    slice-aggregate-rounds-3
+    rounds-requires
     returns)

@@ -1,7 +1,8 @@
 -- `work::once` meets its contract. Assumes nothing.
 use mathlib.Core.Path.{_≡_}
+use denote.Ref.{now}
+use Rattle.improve_base.proofs.OpenLegs.{both-open}
 use Rattle.bench_timing.specs.declared.work.Work.the-variants.{Eliminate}
-use Rattle.bench_timing.specs.Work.{splitCost}
 use borrow.Author.Needs.{needs}
 use Rattle.bench_timing.proofs.work.once.Statement.{statement}
 use Rattle.bench_timing.proofs.work.once.Tie as tie
@@ -22,19 +23,27 @@ enum-told-3 : tie.Need-enum-told-3
 enum-told-3 c = search needs
 
 reversed-distance-requires : tie.Need-reversed-distance-requires
-reversed-distance-requires c κs = search needs
+reversed-distance-requires c κs =
+    let told = c .before in
+    let s = told .before .before .before .before .before in
+    let a = s .args in
+    (s .pre .0, both-open (now (a .distances)) (now (a .times)) (rw (told .enum-told3 .given .1) at (s .pre .1)))
 
 enum-known-work : tie.Need-enum-known-work
 enum-known-work c = search needs
 
 runs-left-requires : tie.Need-runs-left-requires
-runs-left-requires c κs = search needs
+runs-left-requires c κs =
+    let known = c .before .before .before in
+    let s = known .before .before .before .before .before in
+    let a = s .args in
+    let e : a .work ≡ Eliminate (known .work .given .0 .0) = search needs in
+    (s .pre .0, both-open (now (a .distances)) (now (a .times)) (rw e at (s .pre .1)))
 
 returns : tie.Need-returns
 returns c = rw (c .before .before .before .before .enum-told .given .1) (c .split-tw-cost .ensures)
 
 returns-2 : tie.Need-returns-2
-unfolding splitCost
 returns-2 c = rw (c .before .before .before .before .enum-told2 .given .1) (c .split-cost .ensures)
 
 returns-3 : tie.Need-returns-3

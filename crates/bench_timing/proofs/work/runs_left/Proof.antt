@@ -44,10 +44,10 @@ eliminate-routes-requires c κs =
     let a = entry x .args in
     let w = x .write-every in
     let given = front (w .result) (everyEnds (a .run) (length (now (a .tour)))) (replicate 128 0) (w .last .1 .1 .0) (w .ensures .1) (w .ensures .0) in
-    let f : length (now (a .tour)) ≤ 128 = omega (arith, entry x .pre .few) in
+    let f : length (now (a .tour)) ≤ 128 = omega (arith, entry x .pre .0 .few) in
     let many = ends-room (a .run) (now (a .tour)) _ f given in (
       (f, many, rw given (ends-rise (a .run) (length (now (a .tour))))),
-      (omega (arith, f, c .before .eliminate-routes-arg .given .0 .1), omega (arith, many, c .eliminate-routes-arg2 .given .0 .1)),
+      ((omega (arith, f, c .before .eliminate-routes-arg .given .0 .1), omega (arith, many, c .eliminate-routes-arg2 .given .0 .1)), entry x .pre .1),
     )
 
 nearest-u64-to-f64-requires : tie.Need-nearest-u64-to-f64-requires

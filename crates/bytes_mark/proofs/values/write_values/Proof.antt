@@ -2,7 +2,7 @@
 use mathlib.Core.Path.{_≡_, subst}
 use Rattle.whole.specs.Whole.{fl}
 use Rattle.whole.proofs.Bits.{fl-in}
-use Rattle.marker.specs.declared.verdict.Verdict.the-variants.{OtherCalls, Overload, Dearer, Cheaper, WheelchairOverload}
+use Rattle.marker.specs.declared.verdict.Verdict.the-variants.{OtherCalls, Overload, Dearer, Cheaper, WheelchairOverload, RoadClosed}
 use Rattle.bytes_mark.specs.Values.{Small}
 use Rattle.bytes_mark.proofs.Verdicts.{written-by, ride-fault}
 use borrow.Author.Needs.{needs}
@@ -45,17 +45,28 @@ write-load-requires-2 c κs =
     let e : start .args .v ≡ WheelchairOverload (x .0) (x .1 .0) (x .1 .1 .0) = search needs in
     (subst Small e (start .pre .0), start .pre .1)
 
+enum-known-v-4 : tie.Need-enum-known-v-4
+enum-known-v-4 c = search needs
+
+write-leg-requires : tie.Need-write-leg-requires
+write-leg-requires c κs =
+    let known = c .before .before in
+    let start = known .before .before .before in
+    let x = known .v4 .given .0 in
+    let e : start .args .v ≡ RoadClosed (x .0) (x .1 .0) = search needs in
+    (subst Small e (start .pre .0), start .pre .1)
+
 enum-told : tie.Need-enum-told
 enum-told c = search needs
 
-enum-known-v-4 : tie.Need-enum-known-v-4
-enum-known-v-4 c = search needs
+enum-known-v-5 : tie.Need-enum-known-v-5
+enum-known-v-5 c = search needs
 
 write-one-requires-2 : tie.Need-write-one-requires-2
 write-one-requires-2 c κs = search needs
 
-enum-known-v-5 : tie.Need-enum-known-v-5
-enum-known-v-5 c = search needs
+enum-known-v-6 : tie.Need-enum-known-v-6
+enum-known-v-6 c = search needs
 
 write-one-requires-3 : tie.Need-write-one-requires-3
 write-one-requires-3 c κs = search needs
@@ -63,7 +74,7 @@ write-one-requires-3 c κs = search needs
 write-ride-fault-requires : tie.Need-write-ride-fault-requires
 write-ride-fault-requires c κs =
     let s = c .before .before .before in
-    (s .pre .0, (ride-fault (s .args .v) (c .before .match .keys7), search needs))
+    (s .pre .0, (ride-fault (s .args .v) (c .before .match .keys8), search needs))
 
 same-length : tie.Need-same-length
 same-length c = search needs
@@ -102,20 +113,20 @@ returns-3 c =
     let e : start .args .v ≡ WheelchairOverload (x .0) (x .1 .0) (x .1 .1 .0) = search needs in
     written-by e (start .args .values .now) (done .write-load2 .last .1 .1 .1 .0) (done .write-load2 .ensures)
 
-returns-4 : tie.Need-returns-4
-returns-4 c = search needs
-
 same-length-4 : tie.Need-same-length-4
 same-length-4 c = search needs
 
-returns-5 : tie.Need-returns-5
-returns-5 c =
+returns-4 : tie.Need-returns-4
+returns-4 c =
     let done = c .before .before in
     let known = done .before .before .before in
     let start = known .before .before .before in
     let x = known .v4 .given .0 in
-    let e : start .args .v ≡ Dearer (x .0) = search needs in
-    written-by e (start .args .values .now) (done .write-one2 .last .1 .0) (done .write-one2 .ensures)
+    let e : start .args .v ≡ RoadClosed (x .0) (x .1 .0) = search needs in
+    written-by e (start .args .values .now) (done .write-leg .last .1 .1 .0) (done .write-leg .ensures)
+
+returns-5 : tie.Need-returns-5
+returns-5 c = search needs
 
 same-length-5 : tie.Need-same-length-5
 same-length-5 c = search needs
@@ -126,14 +137,26 @@ returns-6 c =
     let known = done .before .before .before in
     let start = known .before .before .before in
     let x = known .v5 .given .0 in
-    let e : start .args .v ≡ Cheaper (x .0) = search needs in
-    written-by e (start .args .values .now) (done .write-one3 .last .1 .0) (done .write-one3 .ensures)
+    let e : start .args .v ≡ Dearer (x .0) = search needs in
+    written-by e (start .args .values .now) (done .write-one2 .last .1 .0) (done .write-one2 .ensures)
 
 same-length-6 : tie.Need-same-length-6
 same-length-6 c = search needs
 
 returns-7 : tie.Need-returns-7
-returns-7 c = c .before .before .write-ride-fault .ensures
+returns-7 c =
+    let done = c .before .before in
+    let known = done .before .before .before in
+    let start = known .before .before .before in
+    let x = known .v6 .given .0 in
+    let e : start .args .v ≡ Cheaper (x .0) = search needs in
+    written-by e (start .args .values .now) (done .write-one3 .last .1 .0) (done .write-one3 .ensures)
+
+same-length-7 : tie.Need-same-length-7
+same-length-7 c = search needs
+
+returns-8 : tie.Need-returns-8
+returns-8 c = c .before .before .write-ride-fault .ensures
 
 pub write-values-spec : {M : Type 1} → statement M
 write-values-spec =
@@ -146,10 +169,12 @@ write-values-spec =
     write-load-requires
     enum-known-v-3
     write-load-requires-2
-    enum-told
     enum-known-v-4
-    write-one-requires-2
+    write-leg-requires
+    enum-told
     enum-known-v-5
+    write-one-requires-2
+    enum-known-v-6
     write-one-requires-3
     write-ride-fault-requires
     same-length
@@ -158,10 +183,12 @@ write-values-spec =
     returns-2
     same-length-3
     returns-3
-    returns-4
     same-length-4
+    returns-4
     returns-5
     same-length-5
     returns-6
     same-length-6
-    returns-7)
+    returns-7
+    same-length-7
+    returns-8)

@@ -2,7 +2,8 @@
 use mathlib.Core.List.{[]}
 use Rattle.definitions.specs.Lent.{cutting}
 use Rattle.definitions.specs.Drop.{split}
-use Rattle.split.specs.Split.{lent, splitF}
+use Rattle.split.specs.Split.{bareLent}
+use Rattle.split_tw.specs.SplitTw.{splitTwF}
 use Rattle.call_cuts.proofs.CutAnswers.{Asked, Lists, rooms, cut-room, refused-cut, given-cut}
 use Rattle.call_cuts.proofs.SplitCase.{split-holds}
 use borrow.Author.Needs.{needs}
@@ -34,8 +35,7 @@ split-requires c κs =
     let tested = c .before .before .before in
     let s = start (tested .before) in
     let number = tested .before .refuse-cutting in
-    let room = cut-room (asked s) (lists s) (number .result) (number .ensures .0) (tested .if1 .left) (s .good .1 .0 .1 .0 .1) in
-    (room .0 .0, room .1)
+    cut-room (asked s) (lists s) (number .result) (number .ensures .0) (tested .if1 .left) (s .good .1 .0 .1 .0 .1)
 
 same-length : tie.Need-same-length
 same-length c = search needs
@@ -57,7 +57,7 @@ returns-2 c =
     let number = tested .before .refuse-cutting in
     let done = cut .split in
     given-cut (asked s) (lists s) (number .result) (number .ensures .0) (λ x. split x (a .tour .now)) (number .ensures .1) (tested .if1 .left)
-    (splitF (lent (a .all) (a .distances .now) (h .places) (h .capacity) (h .«fixed_cost»)) (a .tour .now))
+    (splitTwF (bareLent (a .all) (a .distances .now) (a .times .now) (h .places) (h .capacity) (h .«fixed_cost»)) (a .tour .now))
     (split-holds cutting (asked s) [] [] [] (rooms (asked s) (lists s))) (done .result) (done .ensures .0)
     (record { served = _; ends = _; dropped = _ }) (done .ensures .1 .0) (done .ensures .1 .1 .0) (done .ensures .1 .1 .1)
 

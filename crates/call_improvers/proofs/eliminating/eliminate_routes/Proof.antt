@@ -38,7 +38,7 @@ eliminate-routes-requires c κs =
     let tested = c .before .before .before in
     let s = start (tested .before) in
     let number = tested .before .refuse-eliminating in
-    elimination-room (asked s) (s .args .ends .now) (out s) (number .result) (number .ensures .0) (tested .if1 .left) (s .good .1 .0 .1 .0 .1)
+    elimination-room (asked s) (s .args .ends .now) (out s) (number .result) (number .ensures .0) (number .ensures .1) (tested .if1 .left) (s .good .1 .0 .1 .0 .1)
 
 same-length : tie.Need-same-length
 same-length c = search needs

@@ -31,7 +31,7 @@ two-opt-improve-requires c κs =
     let tested = c .before .before in
     let s = start (tested .before) in
     let number = tested .before .refuse-reversing in
-    reversal-room (asked s) (s .args .improved .now) (number .result) (number .ensures .0) (tested .if1 .left) (s .good .1 .0 .1 .0 .1)
+    reversal-room (asked s) (s .args .improved .now) (number .result) (number .ensures .0) (number .ensures .1) (tested .if1 .left) (s .good .1 .0 .1 .0 .1)
 
 same-length : tie.Need-same-length
 same-length c = search needs

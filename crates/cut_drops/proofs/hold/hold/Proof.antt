@@ -4,7 +4,8 @@ use mathlib.Core.Path.{refl, sym}
 use lib.Seq.{length-take-le}
 use denote.Ref.{now}
 use Rattle.cut_theory.specs.Tab.{mostCut}
-use Rattle.cut_stops.specs.Stops.{lookups, legLists}
+use Rattle.distance.specs.Lookup.{driveF}
+use Rattle.cut_stops.specs.Stops.{legLists}
 use Rattle.cut_drops.proofs.Noting.{legs-begun}
 use Rattle.cut_drops.proofs.Settling.{few-taken, numbered}
 use borrow.Author.Needs.{needs}
@@ -54,7 +55,7 @@ drop-stuck-requires c κs =
       positions-are = numbered (a .n) _ _ (m .number .ensures);
       reach-long = refl;
       legs-long = g .write-legs .ensures .long;
-      legs-are = legs-begun (lookups (now (a .distances)) (now (a .times)) (a .size)) _ (a .n) (legLists _ _) (legLists _ _) (g .write-legs .ensures);
+      legs-are = legs-begun (driveF (now (a .distances)) (now (a .times)) (a .size)) _ (a .n) (legLists _ _) (legLists _ _) (g .write-legs .ensures);
       unfilled = s .pre .1 .0;
       lists = s .pre .1 .1;
     }

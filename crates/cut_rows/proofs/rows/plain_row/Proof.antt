@@ -3,7 +3,7 @@
 use Prim.Native.Nat.{ℕ, _+_, _-_, _<_, _≤_}
 use native.Mathlib.Omega.{arith}
 use mathlib.Core.Path.{_≡_, refl, sym, ap, subst, _∙_}
-use mathlib.Core.Option.{none}
+use mathlib.Core.Option.{none, some}
 use mathlib.Core.List.{List}
 use lib.ListN.{length, getD, take, drop, length-drop}
 use lib.Dec.{eqb}
@@ -15,6 +15,8 @@ use Rattle.cut_theory.specs.Tab.{mostCut}
 use Rattle.definitions.specs.Load.{noLoad}
 use Rattle.models.specs.Load.{loadOf, UpTo, none-up-to, up-to-more}
 use Rattle.whole.proofs.Bits.{fl-zero}
+use Rattle.distance.specs.declared.matrix.Road.the-variants.{Length, Closed}
+use Rattle.distance.specs.Lookup.{roadF, roadOf}
 use Rattle.evaluation.specs.Records.{Tables}
 use Rattle.cut_stops.specs.Stops.{stopOf, stopAt, StopsOf, LegsLong, LegsAre}
 use Rattle.cut_table.specs.Table.{table}
@@ -23,10 +25,10 @@ use Rattle.cut_rows.specs.Stretch.{joinedF, legTo}
 use Rattle.cut_rows.specs.Runs.{Instance, visitedOf, overBy, tariff, RowLists, rowLists, Rowed}
 use Rattle.cut_rows.proofs.Branches.{fails, holds}
 use Rattle.cut_rows.proofs.Along.{Row, rowFrom, setout}
-use Rattle.cut_rows.proofs.Ends.{run-out, overloaded}
-use Rattle.cut_rows.proofs.Calls.{RunIs, run-is, call-below, way-is, CallIs, call-is}
+use Rattle.cut_rows.proofs.Ends.{run-out, overloaded, cut-off}
+use Rattle.cut_rows.proofs.Calls.{RunIs, run-is, call-below, way-is, CallIs, call-is, leg-closed}
 use Rattle.cut_rows.proofs.Going.{Going}
-use Rattle.cut_rows.proofs.PlainAlong.{PlainAlong, plain-setout, shut, skip, put}
+use Rattle.cut_rows.proofs.PlainAlong.{PlainAlong, plain-setout, shut, homeless, skip, put}
 use Rattle.cut_rows.proofs.rows.plain_row.Statement.{statement}
 use Rattle.cut_rows.proofs.rows.plain_row.Tie as tie
 
@@ -113,26 +115,54 @@ module _ (p : tie.After-stop-at Inv-loop μ-loop) where
 abbrev stop : tie.Else1 Inv-loop μ-loop → tie.After-stop-at Inv-loop μ-loop
 stop b = b .before .before .before
 
+-- the leg to it is read
+abbrev fitted : tie.After-road-of Inv-loop μ-loop → tie.Else1 Inv-loop μ-loop
+fitted q = q .before .before .before
+
 -- it is visited
 module _ (v : tie.After-visit Inv-loop μ-loop) where
+  abbrev way : tie.After-way-to Inv-loop μ-loop
+  way = v .before .before .before .before
+
+  abbrev leg-at : tie.After-leg Inv-loop μ-loop
+  leg-at = way .before .before
+
+  abbrev road : tie.After-road-of Inv-loop μ-loop
+  road = leg-at .before .before
+
   abbrev branch : tie.Else1 Inv-loop μ-loop
-  branch = v .before .before .before .before .before
+  branch = fitted road
 
-  far-way : v .before .before .before .way-to .result
-      ≡ joinedF (top (stop branch) .loop .gone)
-      (legTo (run (stop branch)) (stopOf (stop branch .stop-at .result) .out) (getD (x (stop branch) .legs .distances) (i (stop branch) + m (stop branch)) nan))
-      (eqb (m (stop branch)) 0)
-  far-way = way-is (is-run (stop branch .before .before)) _ _ _ _ (v .before .before .before .way-to .ensures)
+  leg-open : roadF (road .before .leg-to .result) ≡ some (leg-at .leg .given .0 .0)
+  leg-open = let e : road .road-of .result ≡ Length (leg-at .leg .given .0 .0) = search (needs, leg-at .leg) in sym (road .road-of .ensures) ∙ ap roadOf e
 
-  time-way : v .before .way-to2 .result
-      ≡ joinedF (top (stop branch) .loop .time)
-      (legTo (run (stop branch)) (stopOf (stop branch .stop-at .result) .timeOut) (getD (x (stop branch) .legs .times) (i (stop branch) + m (stop branch)) nan))
-      (eqb (m (stop branch)) 0)
-  time-way = way-is (is-run (stop branch .before .before)) _ _ _ _ (v .before .way-to2 .ensures)
+  far-way : way .way-to .result ≡ joinedF (top (stop branch) .loop .gone) (leg-at .leg .given .0 .0) (eqb (m (stop branch)) 0)
+  far-way = way-is (is-run (stop branch .before .before)) _ _ _ (way .way-to .ensures)
+
+  time-way : v .before .way-to2 .result ≡ joinedF (top (stop branch) .loop .time) (v .before .before .leg-to2 .result) (eqb (m (stop branch)) 0)
+  time-way = way-is (is-run (stop branch .before .before)) _ _ _ (v .before .way-to2 .ensures)
+
+-- the way home is read
+module _ (h : tie.After-road-of2 Inv-loop μ-loop) where
+  abbrev served-at : tie.After-v Inv-loop μ-loop
+  served-at = h .before .before
+
+  abbrev visited : tie.After-visit Inv-loop μ-loop
+  visited = served-at .before .before
+
+  served : visitedOf (visited .visit .result) ≡ some (served-at .v .given .0 .0)
+  served = let e : visited .visit .result ≡ Open (served-at .v .given .0 .0) = search (needs, served-at .v) in ap visitedOf e
 
 -- the limits are asked
-abbrev visited : tie.After-allow Inv-loop μ-loop → tie.After-visit Inv-loop μ-loop
-visited g = let told = g .before .before .before in told .before .before .before
+module _ (g : tie.After-allow Inv-loop μ-loop) where
+  abbrev back-at : tie.After-back Inv-loop μ-loop
+  back-at = g .before .before .before
+
+  abbrev home : tie.After-road-of2 Inv-loop μ-loop
+  home = back-at .before .before
+
+  home-open : roadF (stopOf (stop (branch (visited home)) .stop-at .result) .back) ≡ some (back-at .back .given .0 .0)
+  home-open = let e : home .road-of2 .result ≡ Length (back-at .back .given .0 .0) = search (needs, back-at .back) in sym (home .road-of2 .ensures) ∙ ap roadOf e
 
 -- the run is offered
 abbrev allowed : tie.After-offer-arg3 Inv-loop μ-loop → tie.After-allow Inv-loop μ-loop
@@ -187,7 +217,7 @@ part-run-end : tie.Need-part-run-end Inv-loop μ-loop
 part-run-end c = let s = begun (c .before .before) in omega (arith, s .pre .inside, c .loop-test .taken)
 
 last-call-requires : tie.Need-last-call-requires Inv-loop μ-loop
-last-call-requires c κs = is-run c .some
+last-call-requires c κs = is-run c .any
 
 stop-at-requires : tie.Need-stop-at-requires Inv-loop μ-loop
 stop-at-requires c κs =
@@ -216,20 +246,48 @@ returns c =
       l .loop .inv .within,
     )
 
-mul-way-to : tie.Need-mul-way-to Inv-loop μ-loop
-mul-way-to c = let p = stop c in omega (arith, ahead p, few p .0)
+mul-leg-to : tie.Need-mul-leg-to Inv-loop μ-loop
+mul-leg-to c = let p = stop c in omega (arith, ahead p, few p .0)
 
-shared-slice-read-way-to : tie.Need-shared-slice-read-way-to Inv-loop μ-loop
-shared-slice-read-way-to c = let p = stop (c .before) in omega (arith, ahead p, few p .0, few p .1 .distances-long)
+shared-slice-read-leg-to : tie.Need-shared-slice-read-leg-to Inv-loop μ-loop
+shared-slice-read-leg-to c = let p = stop (c .before) in omega (arith, ahead p, few p .0, few p .1 .distances-long)
+
+leg-to-requires : tie.Need-leg-to-requires Inv-loop μ-loop
+leg-to-requires c κs = search needs
+
+road-of-requires : tie.Need-road-of-requires Inv-loop μ-loop
+road-of-requires c κs = search needs
+
+enum-known-leg : tie.Need-enum-known-leg Inv-loop μ-loop
+enum-known-leg c = search needs
+
+enum-told : tie.Need-enum-told Inv-loop μ-loop
+enum-told c = search needs
+
+returns-2 : tie.Need-returns-2 Inv-loop μ-loop
+unfolding Rowed
+returns-2 c =
+    let q = c .before .before in
+    let p = stop (fitted q) in
+    let l = top p in
+    let e : q .road-of .result ≡ Closed = search needs in (
+      λ t W L.
+          cut-off (over (l .before) t) (l .loop .inv .keeps t W L .along) (inside p)
+          (leg-closed _ _ _ (called p t W L _ _ (q .before .leg-to .ensures) refl .leg-is) (sym (q .road-of .ensures) ∙ ap roadOf e)),
+      l .loop .inv .within,
+    )
 
 way-to-requires : tie.Need-way-to-requires Inv-loop μ-loop
 way-to-requires c κs = search needs
 
-mul-way-to-2 : tie.Need-mul-way-to-2 Inv-loop μ-loop
-mul-way-to-2 c = let p = stop (c .before .before) in omega (arith, ahead p, few p .0)
+mul-leg-to-2 : tie.Need-mul-leg-to-2 Inv-loop μ-loop
+mul-leg-to-2 c = let p = stop (fitted (c .before .before .before .before)) in omega (arith, ahead p, few p .0)
 
-shared-slice-read-way-to-2 : tie.Need-shared-slice-read-way-to-2 Inv-loop μ-loop
-shared-slice-read-way-to-2 c = let p = stop (c .before .before .before) in omega (arith, ahead p, few p .0, few p .1 .times-long)
+shared-slice-read-leg-to-2 : tie.Need-shared-slice-read-leg-to-2 Inv-loop μ-loop
+shared-slice-read-leg-to-2 c = let p = stop (fitted (c .before .before .before .before .before)) in omega (arith, ahead p, few p .0, few p .1 .times-long)
+
+leg-to-requires-2 : tie.Need-leg-to-requires-2 Inv-loop μ-loop
+leg-to-requires-2 c κs = search needs
 
 way-to-requires-2 : tie.Need-way-to-requires-2 Inv-loop μ-loop
 way-to-requires-2 c κs = search needs
@@ -240,78 +298,108 @@ visit-requires c κs = search needs
 enum-known-v : tie.Need-enum-known-v Inv-loop μ-loop
 enum-known-v c = search needs
 
-enum-told : tie.Need-enum-told Inv-loop μ-loop
-enum-told c = search needs
+enum-told-2 : tie.Need-enum-told-2 Inv-loop μ-loop
+enum-told-2 c = search needs
 
-returns-2 : tie.Need-returns-2 Inv-loop μ-loop
+returns-3 : tie.Need-returns-3 Inv-loop μ-loop
 unfolding Rowed
-returns-2 c =
+returns-3 c =
     let v = c .before .before in
     let b = branch v in
     let p = stop b in
     let l = top p in
     let e : v .visit .result ≡ Shut = search needs in (
       λ t W L.
-          shut (over (l .before) t) refl _ _ _ _ (l .loop .inv .keeps t W L) (called p t W L _ _ refl refl) (inside p) (short p) (b .before .before .plus .ensures .0)
-          (holds _ _ (b .before .fits2 .ensures .0) (b .if1 .left)) (far-way v) (time-way v) (sym (v .visit .ensures) ∙ ap visitedOf e),
+          shut (over (l .before) t) refl _ _ _ _ _ (l .loop .inv .keeps t W L) (called p t W L _ _ (road v .before .leg-to .ensures) (v .before .before .leg-to2 .ensures)) (inside p) (short p)
+          (b .before .before .plus .ensures .0) (holds _ _ (b .before .fits2 .ensures .0) (b .if1 .left)) (leg-open v) (far-way v) (time-way v)
+          (sym (v .visit .ensures) ∙ ap visitedOf e),
       l .loop .inv .within,
     )
 
 add-m : tie.Need-add-m Inv-loop μ-loop
 add-m c = let p = stop (branch (c .before .before .before)) in omega (arith, ahead p, few p .0)
 
-allow-requires : tie.Need-allow-requires Inv-loop μ-loop
-allow-requires c κs = search needs
+road-of-requires-2 : tie.Need-road-of-requires-2 Inv-loop μ-loop
+road-of-requires-2 c κs = search needs
+
+enum-known-back : tie.Need-enum-known-back Inv-loop μ-loop
+enum-known-back c = search needs
+
+enum-told-3 : tie.Need-enum-told-3 Inv-loop μ-loop
+enum-told-3 c = search needs
 
 loop-less : tie.Need-loop-less Inv-loop μ-loop
-loop-less c = let p = stop (branch (visited (c .before))) in omega (arith, ahead p)
+loop-less c = let p = stop (branch (visited (c .before .before))) in omega (arith, ahead p)
 
 loop-again : tie.Need-loop-again Inv-loop μ-loop
 loop-again c =
-    let v = visited (c .before) in
+    let h = c .before .before in
+    let v = visited h in
     let b = branch v in
     let p = stop b in
     let l = top p in
-    let w = c .before .before .before .before .before in
-    let e : v .visit .result ≡ Open (w .v .given .0 .0) = search (needs, w .v) in
+    let e : h .road-of2 .result ≡ Closed = search needs in
     record {
       within = omega (arith, ahead p);
       light = b .before .fits2 .ensures .1 (not-false _ (b .if1 .left));
       keeps =
           λ t W L.
-          skip (over (l .before) t) refl _ _ _ _ (l .loop .inv .keeps t W L) (called p t W L _ _ refl refl) (inside p) (short p) (b .before .before .plus .ensures .0)
-          (holds _ _ (b .before .fits2 .ensures .0) (b .if1 .left)) (far-way v) (time-way v) _ (sym (v .visit .ensures) ∙ ap visitedOf e)
-          (fails _ _ (c .before .allow .ensures) (c .if2 .taken));
+          homeless (over (l .before) t) refl _ _ _ _ _ (l .loop .inv .keeps t W L) (called p t W L _ _ (road v .before .leg-to .ensures) (v .before .before .leg-to2 .ensures)) (inside p) (short p)
+          (b .before .before .plus .ensures .0) (holds _ _ (b .before .fits2 .ensures .0) (b .if1 .left)) (leg-open v) (far-way v) (time-way v)
+          _ (sym (v .visit .ensures) ∙ served h) (sym (h .road-of2 .ensures) ∙ ap roadOf e);
     }
 
-offer-requires : tie.Need-offer-requires Inv-loop μ-loop
-offer-requires c κs = let p = stop (branch (visited (allowed c))) in omega (arith, ahead p, few p .0)
+allow-requires : tie.Need-allow-requires Inv-loop μ-loop
+allow-requires c κs = search needs
 
 loop-less-2 : tie.Need-loop-less-2 Inv-loop μ-loop
-loop-less-2 c = let p = stop (branch (visited (allowed (c .before)))) in omega (arith, ahead p)
+loop-less-2 c = let p = stop (branch (visited (home (c .before)))) in omega (arith, ahead p)
 
 loop-again-2 : tie.Need-loop-again-2 Inv-loop μ-loop
 loop-again-2 c =
-    let g = allowed (c .before) in
-    let v = visited g in
+    let h = home (c .before) in
+    let v = visited h in
     let b = branch v in
     let p = stop b in
     let l = top p in
-    let w = g .before .before .before .before in
-    let e : v .visit .result ≡ Open (w .v .given .0 .0) = search (needs, w .v) in
     record {
       within = omega (arith, ahead p);
       light = b .before .fits2 .ensures .1 (not-false _ (b .if1 .left));
       keeps =
           λ t W L.
-          put (over (l .before) t) refl _ _ _ _ (l .loop .inv .keeps t W L) (called p t W L _ _ refl refl) (inside p) (short p) (b .before .before .plus .ensures .0)
-          (holds _ _ (b .before .fits2 .ensures .0) (b .if1 .left)) (far-way v) (time-way v) _ (sym (v .visit .ensures) ∙ ap visitedOf e) _ _
+          skip (over (l .before) t) refl _ _ _ _ _ (l .loop .inv .keeps t W L) (called p t W L _ _ (road v .before .leg-to .ensures) (v .before .before .leg-to2 .ensures)) (inside p) (short p)
+          (b .before .before .plus .ensures .0) (holds _ _ (b .before .fits2 .ensures .0) (b .if1 .left)) (leg-open v) (far-way v) (time-way v)
+          _ (sym (v .visit .ensures) ∙ served h) _ (home-open (c .before)) (fails _ _ (c .before .allow .ensures) (c .if2 .taken));
+    }
+
+offer-requires : tie.Need-offer-requires Inv-loop μ-loop
+offer-requires c κs = let p = stop (branch (visited (home (allowed c)))) in omega (arith, ahead p, few p .0)
+
+loop-less-3 : tie.Need-loop-less-3 Inv-loop μ-loop
+loop-less-3 c = let p = stop (branch (visited (home (allowed (c .before))))) in omega (arith, ahead p)
+
+loop-again-3 : tie.Need-loop-again-3 Inv-loop μ-loop
+loop-again-3 c =
+    let g = allowed (c .before) in
+    let h = home g in
+    let v = visited h in
+    let b = branch v in
+    let p = stop b in
+    let l = top p in
+    record {
+      within = omega (arith, ahead p);
+      light = b .before .fits2 .ensures .1 (not-false _ (b .if1 .left));
+      keeps =
+          λ t W L.
+          put (over (l .before) t) refl _ _ _ _ _ (l .loop .inv .keeps t W L) (called p t W L _ _ (road v .before .leg-to .ensures) (v .before .before .leg-to2 .ensures)) (inside p) (short p)
+          (b .before .before .plus .ensures .0) (holds _ _ (b .before .fits2 .ensures .0) (b .if1 .left)) (leg-open v) (far-way v) (time-way v)
+          _ (sym (v .visit .ensures) ∙ served h) _ (home-open g) _ _
           (holds _ _ (g .allow .ensures) (c .before .before .before .before .if2 .left)) (next-cell p) (c .offer .ensures);
     }
 
-returns-3 : tie.Need-returns-3 Inv-loop μ-loop
+returns-4 : tie.Need-returns-4 Inv-loop μ-loop
 unfolding Rowed
-returns-3 c =
+returns-4 c =
     let l = c .before in (
       λ t W L. run-out (l .loop .inv .keeps t W L .along) (simp length-drop (omega (arith, c .loop-test .left))),
       l .loop .inv .within,
@@ -341,21 +429,32 @@ plain-row-spec =
     plus-requires
     fits-requires
     returns
-    mul-way-to
-    shared-slice-read-way-to
+    mul-leg-to
+    shared-slice-read-leg-to
+    leg-to-requires
+    road-of-requires
+    enum-known-leg
+    enum-told
+    returns-2
     way-to-requires
-    mul-way-to-2
-    shared-slice-read-way-to-2
+    mul-leg-to-2
+    shared-slice-read-leg-to-2
+    leg-to-requires-2
     way-to-requires-2
     visit-requires
     enum-known-v
-    enum-told
-    returns-2
+    enum-told-2
+    returns-3
     add-m
-    allow-requires
+    road-of-requires-2
+    enum-known-back
+    enum-told-3
     loop-less
     loop-again
-    offer-requires
+    allow-requires
     loop-less-2
     loop-again-2
-    returns-3)
+    offer-requires
+    loop-less-3
+    loop-again-3
+    returns-4)

@@ -17,6 +17,8 @@ use Rattle.definitions.specs.Sheet.{BreakOf}
 use Rattle.models.specs.Records.{breakOf}
 use Rattle.models.specs.Load.{loadOf, UpTo, none-up-to, up-to-more}
 use Rattle.whole.proofs.Bits.{fl-zero}
+use Rattle.distance.specs.declared.matrix.Road.the-variants.{Length, Closed}
+use Rattle.distance.specs.Lookup.{roadF, roadOf}
 use Rattle.clock.specs.declared.schedule.Finished.the-variants.{Impossible, Home}
 use Rattle.clock.specs.Records.{ClockF, clockOf, finishedOf}
 use Rattle.clock.specs.Clock.{begunF, pushF}
@@ -27,10 +29,10 @@ use Rattle.cut_rows.specs.Stretch.{joinedF, legTo}
 use Rattle.cut_rows.specs.Runs.{Instance, overBy, tariff, RowLists, rowLists, Rowed}
 use Rattle.cut_rows.proofs.Branches.{fails, holds}
 use Rattle.cut_rows.proofs.Along.{Row, rowFrom, setout}
-use Rattle.cut_rows.proofs.Ends.{run-out, overloaded}
-use Rattle.cut_rows.proofs.Calls.{RunIs, run-is, call-below, way-is, CallIs, call-is}
+use Rattle.cut_rows.proofs.Ends.{run-out, overloaded, cut-off}
+use Rattle.cut_rows.proofs.Calls.{RunIs, run-is, call-below, way-is, CallIs, call-is, leg-closed}
 use Rattle.cut_rows.proofs.Going.{Going, same-break}
-use Rattle.cut_rows.proofs.RestAlong.{RestAlong, rest-setout, first-index, next-index, dead, endless, skip, put}
+use Rattle.cut_rows.proofs.RestAlong.{RestAlong, rest-setout, first-index, next-index, dead, homeless, endless, skip, put}
 use Rattle.cut_rows.proofs.rows.rest_row.Statement.{statement}
 use Rattle.cut_rows.proofs.rows.rest_row.Tie as tie
 
@@ -130,32 +132,63 @@ module _ (p : tie.After-stop-at Inv-loop μ-loop) where
 abbrev stop : tie.Else1 Inv-loop μ-loop → tie.After-stop-at Inv-loop μ-loop
 stop b = b .before .before .before
 
+-- the leg to it is read
+abbrev fitted : tie.After-road-of Inv-loop μ-loop → tie.Else1 Inv-loop μ-loop
+fitted q = q .before .before .before
+
 -- the clock serves it
-module _ (c : tie.After-pushed Inv-loop μ-loop) where
+module _ (k : tie.After-pushed Inv-loop μ-loop) where
+  abbrev way : tie.After-way-to Inv-loop μ-loop
+  way = k .before .before .before
+
+  abbrev leg-at : tie.After-leg Inv-loop μ-loop
+  leg-at = way .before .before
+
+  abbrev road : tie.After-road-of Inv-loop μ-loop
+  road = leg-at .before .before
+
   abbrev branch : tie.Else1 Inv-loop μ-loop
-  branch = c .before .before .before .before .before
+  branch = fitted road
 
-  far-way : c .before .before .before .way-to .result
-      ≡ joinedF (top (stop branch) .loop .gone)
-      (legTo (run (stop branch)) (stopOf (stop branch .stop-at .result) .out) (getD (x (stop branch) .legs .distances) (i (stop branch) + m (stop branch)) nan))
-      (eqb (m (stop branch)) 0)
-  far-way = way-is (is-run (stop branch .before .before)) _ _ _ _ (c .before .before .before .way-to .ensures)
+  leg-open : roadF (road .before .leg-to .result) ≡ some (leg-at .leg .given .0 .0)
+  leg-open = let e : road .road-of .result ≡ Length (leg-at .leg .given .0 .0) = search (needs, leg-at .leg) in sym (road .road-of .ensures) ∙ ap roadOf e
 
-  served : clockOf (c .pushed .result)
+  far-way : way .way-to .result ≡ joinedF (top (stop branch) .loop .gone) (leg-at .leg .given .0 .0) (eqb (m (stop branch)) 0)
+  far-way = way-is (is-run (stop branch .before .before)) _ _ _ (way .way-to .ensures)
+
+  served : clockOf (k .pushed .result)
       ≡ pushF (clockOf (top (stop branch) .loop .clock)) (getD (drop (i (stop branch)) (x (stop branch) .held)) (m (stop branch)) 0)
-      (stopOf (stop branch .stop-at .result) .customer) (c .before .leg-to .result)
+      (stopOf (stop branch .stop-at .result) .customer) (k .before .leg-to2 .result)
   served =
-      c .pushed .ensures
-      ∙ ap (λ (k : ℕ). pushF (clockOf (top (stop branch) .loop .clock)) k (stopOf (stop branch .stop-at .result) .customer) (c .before .leg-to .result))
+      k .pushed .ensures
+      ∙ ap (λ (n : ℕ). pushF (clockOf (top (stop branch) .loop .clock)) n (stopOf (stop branch .stop-at .result) .customer) (k .before .leg-to2 .result))
       (is-run (stop branch .before .before) .is-last)
 
+-- the way home is read
+abbrev pushed-at : tie.After-road-of2 Inv-loop μ-loop → tie.After-pushed Inv-loop μ-loop
+pushed-at h = h .before .before .before
+
 -- the clock's answer for the run
-abbrev pushed-at : tie.After-finish Inv-loop μ-loop → tie.After-pushed Inv-loop μ-loop
-pushed-at f = f .before .before .before .before
+module _ (f : tie.After-finish Inv-loop μ-loop) where
+  abbrev back-at : tie.After-back Inv-loop μ-loop
+  back-at = f .before .before
+
+  abbrev home : tie.After-road-of2 Inv-loop μ-loop
+  home = back-at .before .before
+
+  home-open : roadF (stopOf (stop (branch (pushed-at home)) .stop-at .result) .back) ≡ some (back-at .back .given .0 .0)
+  home-open = let e : home .road-of2 .result ≡ Length (back-at .back .given .0 .0) = search (needs, back-at .back) in sym (home .road-of2 .ensures) ∙ ap roadOf e
 
 -- the limits are asked
-abbrev finished : tie.After-allow Inv-loop μ-loop → tie.After-finish Inv-loop μ-loop
-finished g = g .before .before .before .before
+module _ (g : tie.After-allow Inv-loop μ-loop) where
+  abbrev done-at : tie.After-done Inv-loop μ-loop
+  done-at = g .before .before
+
+  abbrev finished : tie.After-finish Inv-loop μ-loop
+  finished = done-at .before .before
+
+  at-home : finishedOf (finished .finish .result) ≡ some (done-at .done .given .0 .0)
+  at-home = let e : finished .finish .result ≡ Home (done-at .done .given .0 .0) = search (needs, done-at .done) in ap finishedOf e
 
 -- the run is offered
 abbrev allowed : tie.After-offer-arg3 Inv-loop μ-loop → tie.After-allow Inv-loop μ-loop
@@ -216,7 +249,7 @@ part-run-end : tie.Need-part-run-end Inv-loop μ-loop
 part-run-end c = let s = begun (c .before .before) in omega (arith, s .pre .inside, c .loop-test .taken)
 
 last-call-requires : tie.Need-last-call-requires Inv-loop μ-loop
-last-call-requires c κs = is-run c .some
+last-call-requires c κs = is-run c .any
 
 stop-at-requires : tie.Need-stop-at-requires Inv-loop μ-loop
 stop-at-requires c κs =
@@ -246,43 +279,70 @@ returns c =
       l .loop .inv .0 .within,
     )
 
-mul-way-to : tie.Need-mul-way-to Inv-loop μ-loop
-mul-way-to c = let p = stop c in omega (arith, ahead p, few p .0)
-
-shared-slice-read-way-to : tie.Need-shared-slice-read-way-to Inv-loop μ-loop
-shared-slice-read-way-to c = let p = stop (c .before) in omega (arith, ahead p, few p .0, few p .1 .distances-long)
-
-way-to-requires : tie.Need-way-to-requires Inv-loop μ-loop
-way-to-requires c κs = search needs
-
 mul-leg-to : tie.Need-mul-leg-to Inv-loop μ-loop
-mul-leg-to c = let p = stop (c .before .before) in omega (arith, ahead p, few p .0)
+mul-leg-to c = let p = stop c in omega (arith, ahead p, few p .0)
 
 shared-slice-read-leg-to : tie.Need-shared-slice-read-leg-to Inv-loop μ-loop
-shared-slice-read-leg-to c = let p = stop (c .before .before .before) in omega (arith, ahead p, few p .0, few p .1 .times-long)
+shared-slice-read-leg-to c = let p = stop (c .before) in omega (arith, ahead p, few p .0, few p .1 .distances-long)
 
 leg-to-requires : tie.Need-leg-to-requires Inv-loop μ-loop
 leg-to-requires c κs = search needs
 
-pushed-requires : tie.Need-pushed-requires Inv-loop μ-loop
-pushed-requires c κs =
-    let p = stop (c .before .before .before .before) in
-    (is-run (p .before .before) .some, omega (arith, top p .loop .inv .1, ahead p, few p .0))
+road-of-requires : tie.Need-road-of-requires Inv-loop μ-loop
+road-of-requires c κs = search needs
 
-alive-requires : tie.Need-alive-requires Inv-loop μ-loop
-alive-requires c κs = search needs
+enum-known-leg : tie.Need-enum-known-leg Inv-loop μ-loop
+enum-known-leg c = search needs
+
+enum-told : tie.Need-enum-told Inv-loop μ-loop
+enum-told c = search needs
 
 returns-2 : tie.Need-returns-2 Inv-loop μ-loop
 unfolding Rowed
 returns-2 c =
+    let q = c .before .before in
+    let p = stop (fitted q) in
+    let l = top p in
+    let e : q .road-of .result ≡ Closed = search needs in (
+      as-lent (l .before) _ _
+          (λ t W L.
+          cut-off (over (l .before) t) (l .loop .inv .0 .keeps t W L .along) (inside p)
+          (leg-closed _ _ _ (called p t W L _ _ (q .before .leg-to .ensures) refl .leg-is) (sym (q .road-of .ensures) ∙ ap roadOf e))),
+      l .loop .inv .0 .within,
+    )
+
+way-to-requires : tie.Need-way-to-requires Inv-loop μ-loop
+way-to-requires c κs = search needs
+
+mul-leg-to-2 : tie.Need-mul-leg-to-2 Inv-loop μ-loop
+mul-leg-to-2 c = let p = stop (fitted (c .before .before .before .before)) in omega (arith, ahead p, few p .0)
+
+shared-slice-read-leg-to-2 : tie.Need-shared-slice-read-leg-to-2 Inv-loop μ-loop
+shared-slice-read-leg-to-2 c = let p = stop (fitted (c .before .before .before .before .before)) in omega (arith, ahead p, few p .0, few p .1 .times-long)
+
+leg-to-requires-2 : tie.Need-leg-to-requires-2 Inv-loop μ-loop
+leg-to-requires-2 c κs = search needs
+
+pushed-requires : tie.Need-pushed-requires Inv-loop μ-loop
+pushed-requires c κs =
+    let told = c .before .before .before in
+    let p = stop (fitted (told .before .before .before)) in
+    (is-run (p .before .before) .any, omega (arith, top p .loop .inv .1, ahead p, few p .0))
+
+alive-requires : tie.Need-alive-requires Inv-loop μ-loop
+alive-requires c κs = search needs
+
+returns-3 : tie.Need-returns-3 Inv-loop μ-loop
+unfolding Rowed
+returns-3 c =
     let k = c .before .before in
     let b = branch k in
     let p = stop b in
     let l = top p in (
       as-lent (l .before) _ _
           (λ t W L.
-          dead (over (l .before) t) (pause (l .before)) refl _ _ _ (l .loop .inv .0 .keeps t W L) (called p t W L _ _ refl (k .before .leg-to .ensures)) (inside p) (short p)
-          (b .before .before .plus .ensures .0) (holds _ _ (b .before .fits2 .ensures .0) (b .if1 .left)) (far-way k) (served k)
+          dead (over (l .before) t) (pause (l .before)) refl _ _ _ _ (l .loop .inv .0 .keeps t W L) (called p t W L _ _ (road k .before .leg-to .ensures) (k .before .leg-to2 .ensures))
+          (inside p) (short p) (b .before .before .plus .ensures .0) (holds _ _ (b .before .fits2 .ensures .0) (b .if1 .left)) (leg-open k) (far-way k) (served k)
           (fails _ _ (c .before .alive .ensures) (c .if2 .taken))),
       l .loop .inv .0 .within,
     )
@@ -290,22 +350,54 @@ returns-2 c =
 add-m : tie.Need-add-m Inv-loop μ-loop
 add-m c = let p = stop (branch (c .before .before)) in omega (arith, ahead p, few p .0)
 
-finish-requires : tie.Need-finish-requires Inv-loop μ-loop
-finish-requires c κs = search needs
+road-of-requires-2 : tie.Need-road-of-requires-2 Inv-loop μ-loop
+road-of-requires-2 c κs = search needs
 
-enum-known-done : tie.Need-enum-known-done Inv-loop μ-loop
-enum-known-done c = search needs
+enum-known-back : tie.Need-enum-known-back Inv-loop μ-loop
+enum-known-back c = search needs
 
-enum-told : tie.Need-enum-told Inv-loop μ-loop
-enum-told c = search needs
+enum-told-2 : tie.Need-enum-told-2 Inv-loop μ-loop
+enum-told-2 c = search needs
 
 loop-less : tie.Need-loop-less Inv-loop μ-loop
 loop-less c = let p = stop (branch (pushed-at (c .before .before))) in omega (arith, ahead p)
 
 loop-again : tie.Need-loop-again Inv-loop μ-loop
 loop-again c =
+    let h = c .before .before in
+    let k = pushed-at h in
+    let b = branch k in
+    let p = stop b in
+    let l = top p in
+    let e : h .road-of2 .result ≡ Closed = search needs in (
+      record {
+        within = omega (arith, ahead p);
+        light = b .before .fits2 .ensures .1 (not-false _ (b .if1 .left));
+        keeps =
+            λ t W L.
+            homeless (over (l .before) t) (pause (l .before)) refl _ _ _ _ (l .loop .inv .0 .keeps t W L) (called p t W L _ _ (road k .before .leg-to .ensures) (k .before .leg-to2 .ensures))
+            (inside p) (short p) (b .before .before .plus .ensures .0) (holds _ _ (b .before .fits2 .ensures .0) (b .if1 .left)) (leg-open k) (far-way k) (served k)
+            (sym (h .road-of2 .ensures) ∙ ap roadOf e);
+      },
+      next-index _ _ _ _ _ _ (served k) (l .loop .inv .1),
+    )
+
+finish-requires : tie.Need-finish-requires Inv-loop μ-loop
+finish-requires c κs = search needs
+
+enum-known-done : tie.Need-enum-known-done Inv-loop μ-loop
+enum-known-done c = search needs
+
+enum-told-3 : tie.Need-enum-told-3 Inv-loop μ-loop
+enum-told-3 c = search needs
+
+loop-less-2 : tie.Need-loop-less-2 Inv-loop μ-loop
+loop-less-2 c = let p = stop (branch (pushed-at (home (c .before .before)))) in omega (arith, ahead p)
+
+loop-again-2 : tie.Need-loop-again-2 Inv-loop μ-loop
+loop-again-2 c =
     let f = c .before .before in
-    let k = pushed-at f in
+    let k = pushed-at (home f) in
     let b = branch k in
     let p = stop b in
     let l = top p in
@@ -315,9 +407,9 @@ loop-again c =
         light = b .before .fits2 .ensures .1 (not-false _ (b .if1 .left));
         keeps =
             λ t W L.
-            endless (over (l .before) t) (pause (l .before)) refl _ _ _ (l .loop .inv .0 .keeps t W L) (called p t W L _ _ refl (k .before .leg-to .ensures)) (inside p) (short p)
-            (b .before .before .plus .ensures .0) (holds _ _ (b .before .fits2 .ensures .0) (b .if1 .left)) (far-way k) (served k)
-            _ (f .finish .ensures) (ap finishedOf e);
+            endless (over (l .before) t) (pause (l .before)) refl _ _ _ _ (l .loop .inv .0 .keeps t W L) (called p t W L _ _ (road k .before .leg-to .ensures) (k .before .leg-to2 .ensures))
+            (inside p) (short p) (b .before .before .plus .ensures .0) (holds _ _ (b .before .fits2 .ensures .0) (b .if1 .left)) (leg-open k) (far-way k) (served k)
+            _ (home-open f) _ (f .finish .ensures) (ap finishedOf e);
       },
       next-index _ _ _ _ _ _ (served k) (l .loop .inv .1),
     )
@@ -325,62 +417,59 @@ loop-again c =
 allow-requires : tie.Need-allow-requires Inv-loop μ-loop
 allow-requires c κs = search needs
 
-loop-less-2 : tie.Need-loop-less-2 Inv-loop μ-loop
-loop-less-2 c = let p = stop (branch (pushed-at (finished (c .before)))) in omega (arith, ahead p)
+loop-less-3 : tie.Need-loop-less-3 Inv-loop μ-loop
+loop-less-3 c = let p = stop (branch (pushed-at (home (finished (c .before))))) in omega (arith, ahead p)
 
-loop-again-2 : tie.Need-loop-again-2 Inv-loop μ-loop
-loop-again-2 c =
-    let f = finished (c .before) in
-    let k = pushed-at f in
+loop-again-3 : tie.Need-loop-again-3 Inv-loop μ-loop
+loop-again-3 c =
+    let g = c .before in
+    let f = finished g in
+    let k = pushed-at (home f) in
     let b = branch k in
     let p = stop b in
-    let l = top p in
-    let w = c .before .before .before in
-    let e : f .finish .result ≡ Home (w .done .given .0 .0) = search (needs, w .done) in (
+    let l = top p in (
       record {
         within = omega (arith, ahead p);
         light = b .before .fits2 .ensures .1 (not-false _ (b .if1 .left));
         keeps =
             λ t W L.
-            skip (over (l .before) t) (pause (l .before)) refl _ _ _ (l .loop .inv .0 .keeps t W L) (called p t W L _ _ refl (k .before .leg-to .ensures)) (inside p) (short p)
-            (b .before .before .plus .ensures .0) (holds _ _ (b .before .fits2 .ensures .0) (b .if1 .left)) (far-way k) (served k)
-            _ (f .finish .ensures) _ (ap finishedOf e) (fails _ _ (c .before .allow .ensures) (c .if3 .taken));
+            skip (over (l .before) t) (pause (l .before)) refl _ _ _ _ (l .loop .inv .0 .keeps t W L) (called p t W L _ _ (road k .before .leg-to .ensures) (k .before .leg-to2 .ensures))
+            (inside p) (short p) (b .before .before .plus .ensures .0) (holds _ _ (b .before .fits2 .ensures .0) (b .if1 .left)) (leg-open k) (far-way k) (served k)
+            _ (home-open f) _ (f .finish .ensures) _ (at-home g) (fails _ _ (g .allow .ensures) (c .if3 .taken));
       },
       next-index _ _ _ _ _ _ (served k) (l .loop .inv .1),
     )
 
 offer-requires : tie.Need-offer-requires Inv-loop μ-loop
-offer-requires c κs = let p = stop (branch (pushed-at (finished (allowed c)))) in omega (arith, ahead p, few p .0)
+offer-requires c κs = let p = stop (branch (pushed-at (home (finished (allowed c))))) in omega (arith, ahead p, few p .0)
 
-loop-less-3 : tie.Need-loop-less-3 Inv-loop μ-loop
-loop-less-3 c = let p = stop (branch (pushed-at (finished (allowed (c .before))))) in omega (arith, ahead p)
+loop-less-4 : tie.Need-loop-less-4 Inv-loop μ-loop
+loop-less-4 c = let p = stop (branch (pushed-at (home (finished (allowed (c .before)))))) in omega (arith, ahead p)
 
-loop-again-3 : tie.Need-loop-again-3 Inv-loop μ-loop
-loop-again-3 c =
+loop-again-4 : tie.Need-loop-again-4 Inv-loop μ-loop
+loop-again-4 c =
     let g = allowed (c .before) in
     let f = finished g in
-    let k = pushed-at f in
+    let k = pushed-at (home f) in
     let b = branch k in
     let p = stop b in
-    let l = top p in
-    let w = g .before .before in
-    let e : f .finish .result ≡ Home (w .done .given .0 .0) = search (needs, w .done) in (
+    let l = top p in (
       record {
         within = omega (arith, ahead p);
         light = b .before .fits2 .ensures .1 (not-false _ (b .if1 .left));
         keeps =
             λ t W L.
-            put (over (l .before) t) (pause (l .before)) refl _ _ _ (l .loop .inv .0 .keeps t W L) (called p t W L _ _ refl (k .before .leg-to .ensures)) (inside p) (short p)
-            (b .before .before .plus .ensures .0) (holds _ _ (b .before .fits2 .ensures .0) (b .if1 .left)) (far-way k) (served k)
-            _ (f .finish .ensures) _ (ap finishedOf e) _ _ (holds _ _ (g .allow .ensures) (c .before .before .before .before .before .if3 .left)) (next-cell p)
+            put (over (l .before) t) (pause (l .before)) refl _ _ _ _ (l .loop .inv .0 .keeps t W L) (called p t W L _ _ (road k .before .leg-to .ensures) (k .before .leg-to2 .ensures))
+            (inside p) (short p) (b .before .before .plus .ensures .0) (holds _ _ (b .before .fits2 .ensures .0) (b .if1 .left)) (leg-open k) (far-way k) (served k)
+            _ (home-open f) _ (f .finish .ensures) _ (at-home g) _ _ (holds _ _ (g .allow .ensures) (c .before .before .before .before .before .if3 .left)) (next-cell p)
             (c .offer .ensures);
       },
       next-index _ _ _ _ _ _ (served k) (l .loop .inv .1),
     )
 
-returns-3 : tie.Need-returns-3 Inv-loop μ-loop
+returns-4 : tie.Need-returns-4 Inv-loop μ-loop
 unfolding Rowed
-returns-3 c =
+returns-4 c =
     let l = c .before in (
       as-lent (l .before) _ _ (λ t W L. run-out (l .loop .inv .0 .keeps t W L .along) (simp length-drop (omega (arith, c .loop-test .left)))),
       l .loop .inv .0 .within,
@@ -411,25 +500,35 @@ rest-row-spec =
     plus-requires
     fits-requires
     returns
-    mul-way-to
-    shared-slice-read-way-to
-    way-to-requires
     mul-leg-to
     shared-slice-read-leg-to
     leg-to-requires
+    road-of-requires
+    enum-known-leg
+    enum-told
+    returns-2
+    way-to-requires
+    mul-leg-to-2
+    shared-slice-read-leg-to-2
+    leg-to-requires-2
     pushed-requires
     alive-requires
-    returns-2
+    returns-3
     add-m
-    finish-requires
-    enum-known-done
-    enum-told
+    road-of-requires-2
+    enum-known-back
+    enum-told-2
     loop-less
     loop-again
-    allow-requires
+    finish-requires
+    enum-known-done
+    enum-told-3
     loop-less-2
     loop-again-2
-    offer-requires
+    allow-requires
     loop-less-3
     loop-again-3
-    returns-3)
+    offer-requires
+    loop-less-4
+    loop-again-4
+    returns-4)

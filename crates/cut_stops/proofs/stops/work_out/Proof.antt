@@ -1,7 +1,6 @@
 -- `stops::work_out` meets its contract. The loop's invariant is `HoldsTo`: the places below c stand in the lists. The measure is how many places are left. Assumes nothing.
 use Prim.Native.Nat.{_-_}
 use native.Mathlib.Omega.{arith}
-use mathlib.Core.Path.{refl}
 use denote.Ref.{now}
 use borrow.Author.Needs.{needs}
 use Rattle.evaluation.specs.Records.{lent}
@@ -19,20 +18,14 @@ abbrev μ-loop : tie.MeasureT-loop
 loop-holds : tie.Need-loop-holds Inv-loop μ-loop
 loop-holds c = record { long = c .before .before .pre; stops-are = λ k b. absurd (omega arith) }
 
-leg-between-requires : tie.Need-leg-between-requires Inv-loop μ-loop
-leg-between-requires c κs = search needs
+mul-put-place : tie.Need-mul-put-place Inv-loop μ-loop
+mul-put-place c = search needs
 
-leg-between-requires-2 : tie.Need-leg-between-requires-2 Inv-loop μ-loop
-leg-between-requires-2 c κs = search needs
+array-copy-out-put-place : tie.Need-array-copy-out-put-place Inv-loop μ-loop
+array-copy-out-put-place c = search needs
 
-mul-t13 : tie.Need-mul-t13 Inv-loop μ-loop
-mul-t13 c = search needs
-
-array-copy-out-t16 : tie.Need-array-copy-out-t16 Inv-loop μ-loop
-array-copy-out-t16 c = search needs
-
-put-stop-requires : tie.Need-put-stop-requires Inv-loop μ-loop
-put-stop-requires c κs = search needs
+put-place-requires : tie.Need-put-place-requires Inv-loop μ-loop
+put-place-requires c κs = search needs
 
 add-c : tie.Need-add-c Inv-loop μ-loop
 add-c c = search needs
@@ -42,17 +35,12 @@ loop-less c = search needs
 
 loop-again : tie.Need-loop-again Inv-loop μ-loop
 loop-again c =
-    let back = c .before .before .before .before in
-    let out = back .before in
-    let t = out .before in
+    let t = c .before .before .before .before in
     let l = t .before in
     let s = l .before .before .before in
     let a = s .args in
-    let h = t .loop-test .taken in
-    worked-more (lent (a .t1) (now (a .distances)) (now (a .times)) (a .size)) (numbers (l .loop .codes) (l .loop .figures)) (l .loop .c) _ _ _ (l .loop .inv) h
-    (looked-up (a .t1) (now (a .distances)) (now (a .times)) (a .size) (l .loop .c) _ _ (s .good .0 .1 .0 .1) h refl
-    (out .leg-between .ensures .0) (back .leg-between2 .ensures .0) (out .leg-between .ensures .1) (back .leg-between2 .ensures .1))
-    (c .put-stop .ensures .0) (c .put-stop .ensures .1)
+    worked-more (lent (a .t1) (now (a .distances)) (now (a .times)) (a .size)) (numbers (l .loop .codes) (l .loop .figures)) _ (l .loop .c) _ (l .loop .inv) (c .put-place .ensures)
+    (looked-up (a .t1) (now (a .distances)) (now (a .times)) (a .size) (l .loop .c) _ (s .good .0 .1 .0 .1) (t .loop-test .taken))
 
 returns : tie.Need-returns Inv-loop μ-loop
 returns c =
@@ -63,16 +51,4 @@ returns c =
 pub work-out-spec : {M : Type 1} → statement M
 work-out-spec =
     tie.close
-    (tie.spec
-    Inv-loop
-    μ-loop
-    loop-holds
-    leg-between-requires
-    leg-between-requires-2
-    mul-t13
-    array-copy-out-t16
-    put-stop-requires
-    add-c
-    loop-less
-    loop-again
-    returns)
+    (tie.spec Inv-loop μ-loop loop-holds mul-put-place array-copy-out-put-place put-place-requires add-c loop-less loop-again returns)

@@ -2,7 +2,6 @@
 -- measure is how many calls are left. Assumes nothing.
 use Prim.Native.Nat.{_-_, _<_}
 use native.Mathlib.Omega.{arith}
-use mathlib.Core.Path.{refl}
 use lib.ListN.{length, getD}
 use denote.Ref.{now}
 use borrow.Author.Needs.{needs}
@@ -23,12 +22,12 @@ abbrev μ-loop : tie.MeasureT-loop
 abbrev start : tie.At-loop Inv-loop μ-loop → tie.Start Inv-loop μ-loop
 start c = c .before .before .before .before
 
-abbrev loop : tie.After-leg-between2 Inv-loop μ-loop → tie.At-loop Inv-loop μ-loop
-loop c = c .before .before .before .before
+abbrev loop : tie.After-shared-slice-known4 Inv-loop μ-loop → tie.At-loop Inv-loop μ-loop
+loop c = c .before .before
 
-below : (c : tie.After-leg-between2 Inv-loop μ-loop) → getD (now (start (loop c) .args .calls)) (loop c .loop .k) 0 < 64
+below : (c : tie.After-shared-slice-known4 Inv-loop μ-loop) → getD (now (start (loop c) .args .calls)) (loop c .loop .k) 0 < 64
 unfolding Below64
-below c = start (loop c) .pre .1 (loop c .loop .k) (c .before .before .before .loop-test .taken)
+below c = start (loop c) .pre .1 (loop c .loop .k) (c .before .loop-test .taken)
 
 loop-holds : tie.Need-loop-holds Inv-loop μ-loop
 loop-holds c = record { long = c .before .before .before .pre .0; stops-are = λ k b. absurd (omega arith) }
@@ -39,20 +38,14 @@ mul-c c = search needs
 shared-slice-read-c : tie.Need-shared-slice-read-c Inv-loop μ-loop
 shared-slice-read-c c = search needs
 
-leg-between-requires : tie.Need-leg-between-requires Inv-loop μ-loop
-leg-between-requires c κs = search needs
+mul-put-place : tie.Need-mul-put-place Inv-loop μ-loop
+mul-put-place c = record { fits = omega (arith, below c) }
 
-leg-between-requires-2 : tie.Need-leg-between-requires-2 Inv-loop μ-loop
-leg-between-requires-2 c κs = search needs
+array-copy-out-put-place : tie.Need-array-copy-out-put-place Inv-loop μ-loop
+array-copy-out-put-place c = below c
 
-mul-t14 : tie.Need-mul-t14 Inv-loop μ-loop
-mul-t14 c = record { fits = omega (arith, below c) }
-
-array-copy-out-t20 : tie.Need-array-copy-out-t20 Inv-loop μ-loop
-array-copy-out-t20 c = below c
-
-put-stop-requires : tie.Need-put-stop-requires Inv-loop μ-loop
-put-stop-requires c κs = below (c .before .before .before)
+put-place-requires : tie.Need-put-place-requires Inv-loop μ-loop
+put-place-requires c κs = (loop (c .before .before .before) .loop .inv .long, below (c .before .before .before))
 
 add-k : tie.Need-add-k Inv-loop μ-loop
 add-k c = search needs
@@ -62,17 +55,14 @@ loop-less c = search needs
 
 loop-again : tie.Need-loop-again Inv-loop μ-loop
 loop-again c =
-    let back = c .before .before .before .before in
-    let out = back .before in
-    let at = loop back in
+    let slice = c .before .before .before .before in
+    let at = loop slice in
     let l = at .loop in
     let s = start at in
     let a = s .args in
     let calls = now (a .calls) in
-    stops-more (lent (a .t2) (now (a .distances)) (now (a .times)) (a .size)) calls (numbers (l .codes) (l .figures)) (l .k) _ _ _ (l .inv) (below back)
-    (looked-up (a .t2) (now (a .distances)) (now (a .times)) (a .size) (getD calls (l .k) 0) _ _ (s .good .1 .0 .1 .0 .1) (below back) refl
-    (out .leg-between .ensures .0) (back .leg-between2 .ensures .0) (out .leg-between .ensures .1) (back .leg-between2 .ensures .1))
-    (c .put-stop .ensures .0) (c .put-stop .ensures .1)
+    stops-more (lent (a .t2) (now (a .distances)) (now (a .times)) (a .size)) (numbers (l .codes) (l .figures)) _ (l .k) _ calls (l .inv) (c .put-place .ensures)
+    (looked-up (a .t2) (now (a .distances)) (now (a .times)) (a .size) (getD calls (l .k) 0) _ (s .good .1 .0 .1 .0 .1) (below slice))
 
 returns : tie.Need-returns Inv-loop μ-loop
 returns c =
@@ -89,11 +79,9 @@ work-out-calls-spec =
     loop-holds
     mul-c
     shared-slice-read-c
-    leg-between-requires
-    leg-between-requires-2
-    mul-t14
-    array-copy-out-t20
-    put-stop-requires
+    mul-put-place
+    array-copy-out-put-place
+    put-place-requires
     add-k
     loop-less
     loop-again

@@ -1,18 +1,19 @@
 -- `stops::write_legs` meets its contract. The loop's invariant is `Written`: the legs from number `from` up to k are written. The measure is how many are left. Assumes nothing.
 use Prim.Native.Nat.{_-_}
 use native.Mathlib.Omega.{arith}
-use mathlib.Core.Path.{refl}
+use mathlib.Core.Path.{refl, ap, _∙_}
 use lib.ListN.{length}
 use denote.Ref.{now}
 use borrow.Author.Needs.{needs}
-use Rattle.cut_stops.specs.Stops.{lookups, legLists}
+use Rattle.distance.specs.Lookup.{driveF}
+use Rattle.cut_stops.specs.Stops.{listedLeg, legLists}
 use Rattle.cut_stops.proofs.Legs.{Written, written-none, written-more, written-all}
 use Rattle.cut_stops.proofs.stops.write_legs.Statement.{statement}
 use Rattle.cut_stops.proofs.stops.write_legs.Tie as tie
 
 abbrev Inv-loop : tie.InvT-loop
 Inv-loop distances times size held from legs₀ time-legs₀ k₀ legs time-legs k =
-    Written (lookups distances times size) held from (legLists legs₀ time-legs₀) (legLists legs time-legs) k
+    Written (driveF distances times size) held from (legLists legs₀ time-legs₀) (legLists legs time-legs) k
 
 abbrev μ-loop : tie.MeasureT-loop
 μ-loop distances times size held from legs₀ time-legs₀ k₀ legs time-legs k = length held - k
@@ -21,7 +22,7 @@ loop-holds : tie.Need-loop-holds Inv-loop μ-loop
 loop-holds c =
     let s = c .before .before .before in
     let a = s .args in
-    written-none (lookups (now (a .distances)) (now (a .times)) (a .size)) (now (a .held)) (a .from) (legLists (now (a .legs)) (now (a .time-legs))) (s .pre .1)
+    written-none (driveF (now (a .distances)) (now (a .times)) (a .size)) (now (a .held)) (a .from) (legLists (now (a .legs)) (now (a .time-legs))) (s .pre .1)
 
 place-before-requires : tie.Need-place-before-requires Inv-loop μ-loop
 place-before-requires c κs = search needs
@@ -34,6 +35,9 @@ shared-slice-read-cid c = search needs
 
 leg-between-requires : tie.Need-leg-between-requires Inv-loop μ-loop
 leg-between-requires c κs = search needs
+
+listed-leg-requires : tie.Need-listed-leg-requires Inv-loop μ-loop
+listed-leg-requires c κs = search needs
 
 mul-legs : tie.Need-mul-legs Inv-loop μ-loop
 mul-legs c = search needs
@@ -55,20 +59,20 @@ loop-less c = search needs
 
 loop-again : tie.Need-loop-again Inv-loop μ-loop
 loop-again c =
-    let p = c .before .before in
+    let p = c .before .before .before in
     let l = p .before .before in
     let s = l .before .before .before .before in
     let a = s .args in
     let h = p .before .loop-test .taken in
-    written-more (lookups (now (a .distances)) (now (a .times)) (a .size)) (now (a .held)) (a .from) (legLists (now (a .legs)) (now (a .time-legs)))
-    (legLists (l .loop .legs) (l .loop .time-legs)) (l .loop .k) (l .loop .inv) _ _ _ _
-    (omega (arith, s .pre .0)) (p .place-before .ensures) refl (c .leg-between .ensures .0) (c .leg-between .ensures .1)
+    written-more (driveF (now (a .distances)) (now (a .times)) (a .size)) (now (a .held)) (a .from) (legLists (now (a .legs)) (now (a .time-legs)))
+    (legLists (l .loop .legs) (l .loop .time-legs)) (l .loop .k) (l .loop .inv) _ _ _
+    (omega (arith, s .pre .0)) (p .place-before .ensures) refl (c .listed-leg .ensures ∙ ap listedLeg (c .before .leg-between .ensures))
 
 returns : tie.Need-returns Inv-loop μ-loop
 returns c =
     let l = c .before in
     let a = l .before .before .before .before .args in
-    written-all (lookups (now (a .distances)) (now (a .times)) (a .size)) (now (a .held)) (a .from) (legLists (now (a .legs)) (now (a .time-legs)))
+    written-all (driveF (now (a .distances)) (now (a .times)) (a .size)) (now (a .held)) (a .from) (legLists (now (a .legs)) (now (a .time-legs)))
     (legLists (l .loop .legs) (l .loop .time-legs)) _ (l .loop .inv) (c .loop-test .left)
 
 pub write-legs-spec : {M : Type 1} → statement M
@@ -82,6 +86,7 @@ write-legs-spec =
     mul-cid
     shared-slice-read-cid
     leg-between-requires
+    listed-leg-requires
     mul-legs
     element-write-legs
     mul-time-legs

@@ -1,5 +1,6 @@
 -- `way::plain_from` meets its contract. Assumes nothing.
 use mathlib.Core.Path.{_≡_}
+use Rattle.distance.specs.declared.leg.Drive.the-variants.{Open, Closed}
 use Rattle.evaluation.specs.declared.way.Driven.the-variants.{Failed, To}
 use Rattle.evaluation.specs.Way.{plainF}
 use borrow.Author.Needs.{needs}
@@ -24,18 +25,35 @@ returns c =
 leg-between-requires : tie.Need-leg-between-requires
 leg-between-requires c κs = search needs
 
-home-requires : tie.Need-home-requires
-home-requires c κs = search needs
+enum-known-back : tie.Need-enum-known-back
+enum-known-back c = search needs
+
+enum-told-2 : tie.Need-enum-told-2
+enum-told-2 c = search needs
 
 returns-2 : tie.Need-returns-2
 unfolding plainF
 returns-2 c =
-    let driven = c .before .before .before in
+    let driven = c .before .before in
     let known = driven .before .before .before in
     let went = known .before .before in
-    let back = driven .leg-between .ensures in
     let e : went .way-through .result ≡ To (known .d .given .0 .0) = search needs in
-    rw (← went .way-through .ensures, e) (rw (c .home .ensures, back .1, back .0))
+    let f : driven .leg-between .result ≡ Closed = search needs in
+    rw (← went .way-through .ensures, e, ← driven .leg-between .ensures, f)
+
+home-requires : tie.Need-home-requires
+home-requires c κs = search needs
+
+returns-3 : tie.Need-returns-3
+unfolding plainF
+returns-3 c =
+    let homeward = c .before .before .before .before in
+    let driven = homeward .before .before in
+    let known = driven .before .before .before in
+    let went = known .before .before in
+    let e : went .way-through .result ≡ To (known .d .given .0 .0) = search needs in
+    let f : driven .leg-between .result ≡ Open (homeward .back .given .0 .0) = search needs in
+    rw (← went .way-through .ensures, e, ← driven .leg-between .ensures, f) (rw (c .home .ensures))
 
 pub plain-from-spec : {M : Type 1} → statement M
 plain-from-spec =
@@ -46,5 +64,8 @@ plain-from-spec =
     enum-told
     returns
     leg-between-requires
+    enum-known-back
+    enum-told-2
+    returns-2
     home-requires
-    returns-2)
+    returns-3)

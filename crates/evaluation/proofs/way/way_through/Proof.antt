@@ -3,12 +3,14 @@ use mathlib.Core.Path.{_≡_, refl, sym, ap, _∙_}
 use Prim.Native.Nat.{_-_, _≤_}
 use native.Mathlib.Omega.{arith}
 use lib.ListN.{length, drop}
+use Rattle.distance.specs.declared.leg.Drive.the-variants.{Open, Closed}
+use Rattle.distance.specs.Lookup.{driveOf}
 use Rattle.evaluation.specs.declared.way.Driven.the-variants.{Failed, To}
 use Rattle.evaluation.specs.Records.{drivenOf, lent}
-use Rattle.evaluation.specs.Tables.{recordF, distanceF, timeF}
+use Rattle.evaluation.specs.Tables.{recordF, legF}
 use Rattle.evaluation.specs.Way.{wayF}
 use Rattle.evaluation.proofs.Reading.{read-record}
-use Rattle.evaluation.proofs.Driving.{through-turn, through-fails, through-end}
+use Rattle.evaluation.proofs.Driving.{through-closed, through-turn, through-fails, through-end}
 use borrow.Author.Needs.{needs}
 use Rattle.evaluation.proofs.way.way_through.Statement.{statement}
 use Rattle.evaluation.proofs.way.way_through.Tie as tie
@@ -32,6 +34,22 @@ shared-slice-read-cid c = search needs
 leg-between-requires : tie.Need-leg-between-requires Inv-loop μ-loop
 leg-between-requires c κs = search needs
 
+enum-known-leg : tie.Need-enum-known-leg Inv-loop μ-loop
+enum-known-leg c = search needs
+
+enum-told : tie.Need-enum-told Inv-loop μ-loop
+enum-told c = search needs
+
+returns : tie.Need-returns Inv-loop μ-loop
+returns c =
+    let driven = c .before .before in
+    let in-loop = driven .before .before in
+    let x = in-loop .before .loop in
+    let a = in-loop .before .before .before .before .before .args in
+    let t = lent (a .t3) (a .distances .now) (a .times .now) (a .size) in
+    let e : driven .leg-between .result ≡ Closed = c .enum-told .given .1 in
+    sym (through-closed (legF t) (recordF t) (a .calls .now) (x .way) (x .i) _ (in-loop .loop-test .taken) (driven .leg-between .ensures) (ap driveOf e)) ∙ x .inv .1
+
 record-index-requires : tie.Need-record-index-requires Inv-loop μ-loop
 record-index-requires c κs = search needs
 
@@ -47,14 +65,15 @@ on-requires c κs = search needs
 enum-known-w : tie.Need-enum-known-w Inv-loop μ-loop
 enum-known-w c = search needs
 
-enum-told : tie.Need-enum-told Inv-loop μ-loop
-enum-told c = search needs
+enum-told-2 : tie.Need-enum-told-2 Inv-loop μ-loop
+enum-told-2 c = search needs
 
-returns : tie.Need-returns Inv-loop μ-loop
-returns c =
+returns-2 : tie.Need-returns-2 Inv-loop μ-loop
+returns-2 c =
     let drove = c .before .before in
     let indexed = drove .before .before in
-    let driven = indexed .before in
+    let known = indexed .before .before in
+    let driven = known .before .before in
     let in-loop = driven .before .before in
     let x = in-loop .before .loop in
     let S = in-loop .before .before .before .before .before in
@@ -62,11 +81,11 @@ returns c =
     let t = lent (a .t3) (a .distances .now) (a .times .now) (a .size) in
     let index = indexed .record-index .ensures in
     let record-is = read-record (a .t3) (a .distances .now) (a .times .now) (a .size) _ _ _ (S .good .1 .1 .0 .1 .0 .1) (index .0) (index .1) in
-    let leg = driven .leg-between .ensures in
-    let e : drove .on .result ≡ Failed = c .enum-told .given .1 in
+    let far : driven .leg-between .result ≡ Open (known .leg .given .0 .0) = known .leg .given .1 in
+    let e : drove .on .result ≡ Failed = c .enum-told2 .given .1 in
     let fails =
-    through-fails (distanceF t) (timeF t) (recordF t) (a .calls .now) (x .way) (x .i) _ _ _ _
-    (in-loop .loop-test .taken) (leg .0) (leg .1) record-is (drove .on .ensures) (ap drivenOf e) in
+    through-fails (legF t) (recordF t) (a .calls .now) (x .way) (x .i) _
+    (in-loop .loop-test .taken) (driven .leg-between .ensures) _ (ap driveOf far) _ _ record-is (drove .on .ensures) (ap drivenOf e) in
     sym fails ∙ x .inv .1
 
 add-i : tie.Need-add-i Inv-loop μ-loop
@@ -79,7 +98,8 @@ loop-again : tie.Need-loop-again Inv-loop μ-loop
 loop-again c =
     let drove = c .before .before .before in
     let indexed = drove .before .before in
-    let driven = indexed .before in
+    let known = indexed .before .before in
+    let driven = known .before .before in
     let in-loop = driven .before .before in
     let x = in-loop .before .loop in
     let S = in-loop .before .before .before .before .before in
@@ -87,19 +107,19 @@ loop-again c =
     let t = lent (a .t3) (a .distances .now) (a .times .now) (a .size) in
     let index = indexed .record-index .ensures in
     let record-is = read-record (a .t3) (a .distances .now) (a .times .now) (a .size) _ _ _ (S .good .1 .1 .0 .1 .0 .1) (index .0) (index .1) in
-    let leg = driven .leg-between .ensures in
+    let far : driven .leg-between .result ≡ Open (known .leg .given .0 .0) = known .leg .given .1 in
     let e : drove .on .result ≡ To (c .before .w .given .0 .0) = c .before .w .given .1 in
     let turn =
-    through-turn (distanceF t) (timeF t) (recordF t) (a .calls .now) (x .way) (x .i) _ _ _ _
-    (in-loop .loop-test .taken) (leg .0) (leg .1) record-is (drove .on .ensures) _ (ap drivenOf e) in
+    through-turn (legF t) (recordF t) (a .calls .now) (x .way) (x .i) _
+    (in-loop .loop-test .taken) (driven .leg-between .ensures) _ (ap driveOf far) _ _ record-is (drove .on .ensures) _ (ap drivenOf e) in
     (omega arith, sym turn ∙ x .inv .1)
 
-returns-2 : tie.Need-returns-2 Inv-loop μ-loop
-returns-2 c =
+returns-3 : tie.Need-returns-3 Inv-loop μ-loop
+returns-3 c =
     let a = c .before .before .before .before .before .args in
     let x = c .before .loop in
     let t = lent (a .t3) (a .distances .now) (a .times .now) (a .size) in
-    sym (through-end (distanceF t) (timeF t) (recordF t) (a .calls .now) (x .way) (x .i) (c .loop-test .left)) ∙ x .inv .1
+    sym (through-end (legF t) (recordF t) (a .calls .now) (x .way) (x .i) (c .loop-test .left)) ∙ x .inv .1
 
 pub way-through-spec : {M : Type 1} → statement M
 way-through-spec =
@@ -111,14 +131,17 @@ way-through-spec =
     mul-cid
     shared-slice-read-cid
     leg-between-requires
+    enum-known-leg
+    enum-told
+    returns
     record-index-requires
     mul-on
     array-copy-out-on
     on-requires
     enum-known-w
-    enum-told
-    returns
+    enum-told-2
+    returns-2
     add-i
     loop-less
     loop-again
-    returns-2)
+    returns-3)

@@ -6,7 +6,7 @@ use mathlib.Core.Bool.{Bool}
 use lib.ListN.{length, getD, drop}
 use denote.Ref.{now}
 use Rattle.basics.proofs.TestLaws.{not-true, not-false}
-use Rattle.distance.specs.Lookup.{lookupF}
+use Rattle.distance.specs.Lookup.{numberF}
 use Rattle.improve_base.specs.Gain.{legsEqualF, allEqualF}
 use Rattle.improve_base.proofs.Counting.{all-goes, all-stops, all-ends}
 use borrow.Author.Needs.{needs}
@@ -14,7 +14,7 @@ use Rattle.improve_base.proofs.gain.call_symmetric.Statement.{statement
 use Rattle.improve_base.proofs.gain.call_symmetric.Tie as tie
 
 abbrev Inv-loop : tie.InvT-loop
-Inv-loop calls distances size i one j₀ j = allEqualF (lookupF distances size) (getD calls i 0) (drop j calls) ≡ allEqualF (lookupF distances size) (getD calls i 0) (drop (i + 1) calls)
+Inv-loop calls distances size i one j₀ j = allEqualF (numberF distances size) (getD calls i 0) (drop j calls) ≡ allEqualF (numberF distances size) (getD calls i 0) (drop (i + 1) calls)
 
 abbrev μ-loop : tie.MeasureT-loop
 μ-loop calls distances size i one j₀ j = length calls - j
@@ -31,14 +31,14 @@ loop c = c .before .before .before .before .before
 abbrev same : tie.Start Inv-loop μ-loop → ℕ → Bool
 same s k =
     let a = s .args in
-    let leg = lookupF (now (a .distances)) (a .size) in
+    let leg = numberF (now (a .distances)) (a .size) in
     let one = getD (now (a .calls)) (a .i) 0 in
     legsEqualF (leg one k) (leg k one)
 
 abbrev found : (c : tie.After-legs-equal Inv-loop μ-loop) →
     let s = start (loop c) in
     c .legs-equal .result ≡ same s (getD (now (s .args .calls)) (loop c .loop .j) 0)
-found c = c .legs-equal .ensures ∙ ap₂ legsEqualF (c .before .before .get .ensures) (c .before .get2 .ensures)
+found c = c .legs-equal .ensures ∙ ap₂ legsEqualF (c .before .before .open-leg .ensures) (c .before .open-leg2 .ensures)
 
 mul-one : tie.Need-mul-one Inv-loop μ-loop
 mul-one c = search needs
@@ -58,11 +58,11 @@ mul-other c = search needs
 shared-slice-read-other : tie.Need-shared-slice-read-other Inv-loop μ-loop
 shared-slice-read-other c = search needs
 
-get-requires : tie.Need-get-requires Inv-loop μ-loop
-get-requires c κs = search needs
+open-leg-requires : tie.Need-open-leg-requires Inv-loop μ-loop
+open-leg-requires c κs = search needs
 
-get-requires-2 : tie.Need-get-requires-2 Inv-loop μ-loop
-get-requires-2 c κs = search needs
+open-leg-requires-2 : tie.Need-open-leg-requires-2 Inv-loop μ-loop
+open-leg-requires-2 c κs = search needs
 
 legs-equal-requires : tie.Need-legs-equal-requires Inv-loop μ-loop
 legs-equal-requires c κs = search needs
@@ -106,8 +106,8 @@ call-symmetric-spec =
     loop-holds
     mul-other
     shared-slice-read-other
-    get-requires
-    get-requires-2
+    open-leg-requires
+    open-leg-requires-2
     legs-equal-requires
     returns
     add-j-2

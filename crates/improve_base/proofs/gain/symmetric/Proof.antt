@@ -6,7 +6,7 @@ use lib.ListN.{length, drop}
 use lib.Ieee.{Float}
 use denote.Ref.{now}
 use Rattle.basics.proofs.TestLaws.{not-true, not-false}
-use Rattle.distance.specs.Lookup.{lookupF}
+use Rattle.distance.specs.Lookup.{numberF}
 use Rattle.improve_base.specs.Gain.{symmetricF}
 use Rattle.improve_base.proofs.Counting.{pairs-go, pairs-stop, pairs-end}
 use borrow.Author.Needs.{needs}
@@ -14,7 +14,7 @@ use Rattle.improve_base.proofs.gain.symmetric.Statement.{statement}
 use Rattle.improve_base.proofs.gain.symmetric.Tie as tie
 
 abbrev Inv-loop : tie.InvT-loop
-Inv-loop calls distances size i₀ i = symmetricF (lookupF distances size) (drop i calls) ≡ symmetricF (lookupF distances size) calls
+Inv-loop calls distances size i₀ i = symmetricF (numberF distances size) (drop i calls) ≡ symmetricF (numberF distances size) calls
 
 abbrev μ-loop : tie.MeasureT-loop
 μ-loop calls distances size i₀ i = length calls - i
@@ -28,7 +28,7 @@ abbrev start : tie.At-loop Inv-loop μ-loop → tie.Start Inv-loop μ-loop
 start c = c .before .before .before
 
 abbrev leg : tie.At-loop Inv-loop μ-loop → ℕ → ℕ → Float
-leg c = let a = start c .args in lookupF (now (a .distances)) (a .size)
+leg c = let a = start c .args in numberF (now (a .distances)) (a .size)
 
 loop-holds : tie.Need-loop-holds Inv-loop μ-loop
 loop-holds c = refl

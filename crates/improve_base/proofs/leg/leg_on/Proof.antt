@@ -1,23 +1,14 @@
 -- `leg::leg_on` meets its contract. Assumes nothing.
-use Prim.Native.Nat.{ℕ, _<_}
-use native.Mathlib.Omega.{arith}
-use mathlib.Core.Path.{_≡_, ap, _∙_}
+use mathlib.Core.Path.{ap, _∙_}
 use mathlib.Core.List.{List}
-use lib.ListN.{length, getD}
-use lib.Ieee.{Float, nan}
+use lib.Ieee.{Float}
 use denote.Ref.{now}
-use Rattle.distance.specs.Lookup.{lookupF}
-use Rattle.distance.proofs.Ways.{inside, no-times, own-times}
-use Rattle.improve_base.specs.Leg.{CellOf}
+use Rattle.distance.specs.Lookup.{numberF}
+use Rattle.distance.proofs.Ways.{no-times, own-times}
+use Rattle.improve_base.proofs.OpenLegs.{cell-read, drive-open}
 use borrow.Author.Needs.{needs}
 use Rattle.improve_base.proofs.leg.leg_on.Statement.{statement}
 use Rattle.improve_base.proofs.leg.leg_on.Tie as tie
-
--- a cell that is found, read
-read : (table : List Float) (size from to many cell : ℕ) → CellOf size from to many cell → cell < many → cell < length table → getD table cell nan ≡ lookupF table size from to
-read table size from to many cell C h l =
-    let f = C .found h in
-    ap (λ (k : ℕ). getD table k nan) (f .2) ∙ inside table size from to nan (f .0) (f .1) (omega (arith, f .2, l))
 
 abbrev start : tie.After-cell-of → tie.Start
 start c = c .before .before .before
@@ -42,8 +33,9 @@ returns-2 c =
     let tested = c .before .before in
     let cell = tested .before in
     let a = start cell .args in
-    let d = read (now (a .distances)) (a .size) (a .from) (a .to) _ _ (cell .cell-of .ensures) (tested .if1 .left) (tested .if1 .left) in
-    (d, d ∙ ap (λ (table : List Float). lookupF table (a .size) (a .from) (a .to)) (no-times (now (a .distances)) (now (a .times)) (c .if2 .taken)))
+    let d = cell-read (now (a .distances)) (a .size) (a .from) (a .to) _ _ (cell .cell-of .ensures) (tested .if1 .left) (tested .if1 .left) in
+    let t = d ∙ ap (λ (table : List Float). numberF table (a .size) (a .from) (a .to)) (no-times (now (a .distances)) (now (a .times)) (c .if2 .taken)) in
+    drive-open (now (a .distances)) (now (a .times)) (a .size) (a .from) (a .to) (start cell .pre) _ _ d t
 
 read-between-requires-2 : tie.Need-read-between-requires-2
 read-between-requires-2 c κs = search needs
@@ -64,9 +56,10 @@ returns-4 c =
     let cell = tested .before in
     let a = start cell .args in
     let found = cell .cell-of .ensures in
-    let d = read (now (a .distances)) (a .size) (a .from) (a .to) _ _ found (tested .if1 .left) (tested .if1 .left) in
-    let t = read (now (a .times)) (a .size) (a .from) (a .to) _ _ found (tested .if1 .left) (last .if3 .left) in
-    (d, t ∙ ap (λ (table : List Float). lookupF table (a .size) (a .from) (a .to)) (own-times (now (a .distances)) (now (a .times)) (last .before .if2 .left)))
+    let d = cell-read (now (a .distances)) (a .size) (a .from) (a .to) _ _ found (tested .if1 .left) (tested .if1 .left) in
+    let own = own-times (now (a .distances)) (now (a .times)) (last .before .if2 .left) in
+    let t = cell-read (now (a .times)) (a .size) (a .from) (a .to) _ _ found (tested .if1 .left) (last .if3 .left) in
+    drive-open (now (a .distances)) (now (a .times)) (a .size) (a .from) (a .to) (start cell .pre) _ _ d (t ∙ ap (λ (table : List Float). numberF table (a .size) (a .from) (a .to)) own)
 
 pub leg-on-spec : {M : Type 1} → statement M
 leg-on-spec =

@@ -1,8 +1,8 @@
 -- `prefix::clock_on` meets its contract. Assumes nothing.
 use mathlib.Core.Path.{sym, _∙_}
 use denote.Ref.{now}
-use Rattle.clock.specs.Records.{clockOf}
 use Rattle.cut_stops.specs.Stops.{numbers, listed}
+use Rattle.improve_base.specs.Prefix.{timedOf}
 use Rattle.improve_base.proofs.Onward.{ticked-on, ticked-out}
 use borrow.Author.Needs.{needs}
 use Rattle.improve_base.proofs.prefix.clock_on.Statement.{statement}
@@ -23,8 +23,7 @@ returns c =
     let ticked = asked .before .before in
     let a = start (ticked .before) .args in
     let t = listed (numbers (now (a .codes)) (now (a .figures))) (now (a .distances)) (now (a .times)) (a .size) in
-    let new = ticked .tick-on .ensures in
-    ticked-on t (clockOf (a .timed .clock)) (a .timed .distance) (a .cid) _ (new .0) _ (new .1) (sym (asked .alive .ensures) ∙ c .if1 .taken)
+    ticked-on t (timedOf (a .timed)) (a .cid) _ (ticked .tick-on .ensures) (sym (asked .alive .ensures) ∙ c .if1 .taken)
 
 returns-2 : tie.Need-returns-2
 returns-2 c =
@@ -32,7 +31,7 @@ returns-2 c =
     let ticked = asked .before .before in
     let a = start (ticked .before) .args in
     let t = listed (numbers (now (a .codes)) (now (a .figures))) (now (a .distances)) (now (a .times)) (a .size) in
-    ticked-out t (clockOf (a .timed .clock)) (a .timed .distance) (a .cid) _ (ticked .tick-on .ensures .0) (sym (asked .alive .ensures) ∙ c .if1 .left)
+    ticked-out t (timedOf (a .timed)) (a .cid) _ (ticked .tick-on .ensures) (sym (asked .alive .ensures) ∙ c .if1 .left)
 
 pub clock-on-spec : {M : Type 1} → statement M
 clock-on-spec =

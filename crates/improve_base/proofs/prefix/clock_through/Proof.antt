@@ -5,10 +5,9 @@ use native.Mathlib.Omega.{arith}
 use lib.ListN.{length, drop}
 use denote.Ref.{now}
 use borrow.Author.Tests.{not-true, not-false}
-use Rattle.clock.specs.Records.{clockOf}
 use Rattle.cut_stops.specs.Stops.{numbers, listed}
 use Rattle.improve_base.specs.declared.prefix.Prefix.the-variants.{Clock}
-use Rattle.improve_base.specs.Prefix.{prefixOf, onAllF}
+use Rattle.improve_base.specs.Prefix.{timedOf, prefixOf, onAllF}
 use Rattle.improve_base.proofs.Onward.{ticked-on, ticked-index, ticked-out, on-turn, on-fails, on-end}
 use borrow.Author.Needs.{needs}
 use Rattle.improve_base.proofs.prefix.clock_through.Statement.{statement}
@@ -40,7 +39,7 @@ tick-on-requires : tie.Need-tick-on-requires Inv-loop μ-loop
 tick-on-requires c κs =
     let looped = c .before .before in
     let pre = start (looped .before) .pre in
-    (pre .0, omega (arith, pre .1, looped .loop .inv .1))
+    ((pre .0, omega (arith, pre .1 .0, looped .loop .inv .1)), pre .1 .1)
 
 alive-requires : tie.Need-alive-requires Inv-loop μ-loop
 alive-requires c κs = search needs
@@ -55,7 +54,7 @@ returns c =
     let t = listed (numbers (now (a .codes)) (now (a .figures))) (now (a .distances)) (now (a .times)) (a .size) in
     let x = looped .loop in
     let dead = sym (asked .alive .ensures) ∙ not-true _ (c .if1 .taken) in
-    let out = ticked-out t (clockOf (x .timed .clock)) (x .timed .distance) _ _ (ticked .tick-on .ensures .0) dead in
+    let out = ticked-out t (timedOf (x .timed)) _ _ (ticked .tick-on .ensures) dead in
     sym (on-fails t (now (a .calls)) (prefixOf (Clock (x .timed))) (x .i) (tested .loop-test .taken) out) ∙ x .inv .2
 
 add-i : tie.Need-add-i Inv-loop μ-loop
@@ -75,8 +74,8 @@ loop-again c =
     let x = looped .loop in
     let new = ticked .tick-on .ensures in
     let alive = sym (asked .alive .ensures) ∙ not-false _ (c .if1 .left) in
-    let on = ticked-on t (clockOf (x .timed .clock)) (x .timed .distance) _ _ (new .0) _ (new .1) alive in
-    let next = ticked-index t (clockOf (x .timed .clock)) (x .timed .distance) _ _ (new .0) in
+    let on = ticked-on t (timedOf (x .timed)) _ _ new alive in
+    let next = ticked-index t (timedOf (x .timed)) _ _ new in
     let turn = on-turn t (now (a .calls)) (prefixOf (Clock (x .timed))) (x .i) _ (tested .loop-test .taken) on in
     (omega arith, omega (arith, next, x .inv .1), sym turn ∙ x .inv .2)
 

@@ -26,7 +26,7 @@ clock-on-requires c κs =
     let known = c .before in
     let s = start (known .before .before) in
     let e : s .args .prefix ≡ Clock (known .prefix2 .given .0 .0) = search needs in
-    (s .pre .0, rw e at (s .pre .1))
+    ((s .pre .0 .0, rw e at (s .pre .0 .1)), s .pre .1)
 
 returns : tie.Need-returns
 unfolding onF

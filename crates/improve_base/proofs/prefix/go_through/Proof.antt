@@ -29,7 +29,7 @@ clock-through-requires c κs =
     let known = c .before in
     let s = start (known .before .before) in
     let e : s .args .prefix ≡ Clock (known .prefix2 .given .0 .0) = search needs in
-    (s .pre .0, omega (arith, ap (λ (p : Prefix). indexF (prefixOf p)) e, s .pre .1))
+    (s .pre .0, (omega (arith, ap (λ (p : Prefix). indexF (prefixOf p)) e, s .pre .1 .0), s .pre .1 .1))
 
 returns : tie.Need-returns
 returns c =

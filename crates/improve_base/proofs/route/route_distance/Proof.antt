@@ -5,7 +5,7 @@ use lib.ListN.{length, drop}
 use lib.Ieee as Ieee
 use lib.Ieee.{Float, binary64}
 use denote.Ref.{now}
-use Rattle.distance.specs.Lookup.{lookupF}
+use Rattle.distance.specs.Lookup.{numberF}
 use Rattle.improve_base.specs.Route.{homeF}
 use Rattle.improve_base.proofs.Reckoning.{home-turn, home-end, distance-none, distance-some}
 use borrow.Author.Needs.{needs}
@@ -13,7 +13,7 @@ use Rattle.improve_base.proofs.route.route_distance.Statement.{statemen
 use Rattle.improve_base.proofs.route.route_distance.Tie as tie
 
 abbrev Inv-loop : tie.InvT-loop
-Inv-loop route distances size prev₀ dist₀ k₀ prev dist k = homeF (lookupF distances size) dist prev (drop k route) ≡ homeF (lookupF distances size) dist₀ prev₀ (drop 1 route)
+Inv-loop route distances size prev₀ dist₀ k₀ prev dist k = homeF (numberF distances size) dist prev (drop k route) ≡ homeF (numberF distances size) dist₀ prev₀ (drop 1 route)
 
 abbrev μ-loop : tie.MeasureT-loop
 μ-loop route distances size prev₀ dist₀ k₀ prev dist k = length route - k
@@ -27,18 +27,18 @@ abbrev some : tie.At-loop Inv-loop μ-loop → tie.Else1 Inv-loop μ-loop
 some c = c .before .before .before
 
 abbrev leg : tie.Start Inv-loop μ-loop → ℕ → ℕ → Float
-leg s = lookupF (now (s .args .distances)) (s .args .size)
+leg s = numberF (now (s .args .distances)) (s .args .size)
 
 returns : tie.Need-returns Inv-loop μ-loop
 returns c =
     let a = c .before .before .before .args in
-    distance-none (lookupF (now (a .distances)) (a .size)) (now (a .route)) (c .if1 .taken)
+    distance-none (numberF (now (a .distances)) (a .size)) (now (a .route)) (c .if1 .taken)
 
 shared-slice-read-prev : tie.Need-shared-slice-read-prev Inv-loop μ-loop
 shared-slice-read-prev c = search needs
 
-get-requires : tie.Need-get-requires Inv-loop μ-loop
-get-requires c κs = search needs
+open-leg-requires : tie.Need-open-leg-requires Inv-loop μ-loop
+open-leg-requires c κs = search needs
 
 loop-holds : tie.Need-loop-holds Inv-loop μ-loop
 loop-holds c = refl
@@ -49,8 +49,8 @@ mul-next c = search needs
 shared-slice-read-next : tie.Need-shared-slice-read-next Inv-loop μ-loop
 shared-slice-read-next c = search needs
 
-get-requires-2 : tie.Need-get-requires-2 Inv-loop μ-loop
-get-requires-2 c κs = search needs
+open-leg-requires-2 : tie.Need-open-leg-requires-2 Inv-loop μ-loop
+open-leg-requires-2 c κs = search needs
 
 add-k : tie.Need-add-k Inv-loop μ-loop
 add-k c = search needs
@@ -63,10 +63,10 @@ loop-again c =
     let turn = c .before .before in
     let s = start (some (turn .before)) in
     let l = turn .before .loop in
-    sym (home-turn (leg s) (now (s .args .route)) (l .dist) (l .prev) (l .k) _ (turn .loop-test .taken) (c .get2 .ensures)) ∙ l .inv
+    sym (home-turn (leg s) (now (s .args .route)) (l .dist) (l .prev) (l .k) _ (turn .loop-test .taken) (c .open-leg2 .ensures)) ∙ l .inv
 
-get-requires-3 : tie.Need-get-requires-3 Inv-loop μ-loop
-get-requires-3 c κs = search needs
+open-leg-requires-3 : tie.Need-open-leg-requires-3 Inv-loop μ-loop
+open-leg-requires-3 c κs = search needs
 
 returns-2 : tie.Need-returns-2 Inv-loop μ-loop
 returns-2 c =
@@ -75,10 +75,10 @@ returns-2 c =
     let some-calls = some at in
     let s = start some-calls in
     let route = now (s .args .route) in
-    ap (Ieee.add binary64 (l .dist)) (c .get3 .ensures)
+    ap (Ieee.add binary64 (l .dist)) (c .open-leg3 .ensures)
     ∙ sym (home-end (leg s) route (l .dist) (l .prev) (l .k) (c .before .loop-test .left))
     ∙ l .inv
-    ∙ distance-some (leg s) route _ (some-calls .if1 .left) (at .before .get .ensures)
+    ∙ distance-some (leg s) route _ (some-calls .if1 .left) (at .before .open-leg .ensures)
 
 pub route-distance-spec : {M : Type 1} → statement M
 route-distance-spec =
@@ -88,13 +88,13 @@ route-distance-spec =
     μ-loop
     returns
     shared-slice-read-prev
-    get-requires
+    open-leg-requires
     loop-holds
     mul-next
     shared-slice-read-next
-    get-requires-2
+    open-leg-requires-2
     add-k
     loop-less
     loop-again
-    get-requires-3
+    open-leg-requires-3
     returns-2)

@@ -14,7 +14,7 @@ returns : tie.Need-returns
 unfolding homeFromF
 returns c =
     let back = c .before .before .before .leg-on .ensures in
-    rw (c .finish .ensures, back .0, back .1)
+    rw (c .finish .ensures, ← back)
 
 pub clock-home-spec : {M : Type 1} → statement M
 clock-home-spec =

@@ -33,7 +33,7 @@ returns c =
     let record-is =
     read .customer-at .ensures
     ∙ listed-record (numbers (now (a .codes)) (now (a .figures))) (now (a .distances)) (now (a .times)) (a .size) (a .cid) _ (index .0) (index .1) in
-    rw (← leg .0, ← leg .1, ← record-is) (c .on .ensures)
+    rw (← leg, ← record-is) (c .on .ensures)
 
 pub drive-on-spec : {M : Type 1} → statement M
 drive-on-spec =

@@ -34,7 +34,7 @@ returns c =
     let record-is =
     read .customer-at .ensures
     ∙ listed-record (numbers (now (a .codes)) (now (a .figures))) (now (a .distances)) (now (a .times)) (a .size) (a .cid) _ (index .0) (index .1) in
-    (rw (← leg .1, ← record-is) (pushed .push .ensures), rw (leg .0))
+    rw (← leg, ← record-is, pushed .push .ensures)
 
 pub tick-on-spec : {M : Type 1} → statement M
 tick-on-spec =

@@ -3,7 +3,7 @@ use mathlib.Core.Path.{_≡_, refl, sym, _∙_}
 use native.Mathlib.Omega.{arith}
 use lib.ListN.{length, length-drop}
 use Rattle.basics.specs.Lists.{any}
-use Rattle.definitions.specs.Domain.{isNumber}
+use Rattle.definitions.specs.Domain.{isLeg}
 use Rattle.definitions.specs.Refusals.{unfit}
 use Rattle.whole.specs.Value.{value}
 use Rattle.refuse_numbers.proofs.Searching.{found, next, missed, behind-first}
@@ -13,7 +13,7 @@ use Rattle.refuse_numbers.proofs.tables.bad_numbers.Tie as tie
 
 -- what is left says what all say
 abbrev Inv-loop : tie.InvT-loop
-Inv-loop numbers left₀ left = any (unfit value isNumber) left ≡ any (unfit value isNumber) numbers
+Inv-loop numbers left₀ left = any (unfit value isLeg) left ≡ any (unfit value isLeg) numbers
 
 abbrev μ-loop : tie.MeasureT-loop
 μ-loop numbers left₀ left = length left
@@ -21,16 +21,16 @@ abbrev μ-loop : tie.MeasureT-loop
 loop-holds : tie.Need-loop-holds Inv-loop μ-loop
 loop-holds c = refl
 
-shared-slice-read-unfit-number : tie.Need-shared-slice-read-unfit-number Inv-loop μ-loop
-shared-slice-read-unfit-number c = search needs
+shared-slice-read-unfit-leg : tie.Need-shared-slice-read-unfit-leg Inv-loop μ-loop
+shared-slice-read-unfit-leg c = search needs
 
-unfit-number-requires : tie.Need-unfit-number-requires Inv-loop μ-loop
-unfit-number-requires c κs = search needs
+unfit-leg-requires : tie.Need-unfit-leg-requires Inv-loop μ-loop
+unfit-leg-requires c κs = search needs
 
 returns : tie.Need-returns Inv-loop μ-loop
 returns c =
     let l = c .before .before .before .before in
-    found (unfit value isNumber) (l .loop .left .now) 0 _ (omega arith) (sym (c .before .unfit-number .ensures) ∙ c .if1 .taken) refl ∙ l .loop .inv
+    found (unfit value isLeg) (l .loop .left .now) 0 _ (omega arith) (sym (c .before .unfit-leg .ensures) ∙ c .if1 .taken) refl ∙ l .loop .inv
 
 sub-left : tie.Need-sub-left Inv-loop μ-loop
 sub-left c = search needs
@@ -51,12 +51,12 @@ loop-again c =
     let t = c .before in
     let l = t .before .before .before .before in
     rw (behind-first (l .loop .left .now))
-    (next (unfit value isNumber) (l .loop .left .now) 0 _ (omega arith) (sym (t .before .unfit-number .ensures) ∙ t .if1 .left) refl ∙ l .loop .inv)
+    (next (unfit value isLeg) (l .loop .left .now) 0 _ (omega arith) (sym (t .before .unfit-leg .ensures) ∙ t .if1 .left) refl ∙ l .loop .inv)
 
 returns-2 : tie.Need-returns-2 Inv-loop μ-loop
 returns-2 c =
     let l = c .before in
-    missed (unfit value isNumber) (l .loop .left .now) 0 (omega arith) refl ∙ l .loop .inv
+    missed (unfit value isLeg) (l .loop .left .now) 0 (omega arith) refl ∙ l .loop .inv
 
 pub bad-numbers-spec : {M : Type 1} → statement M
 bad-numbers-spec =
@@ -65,8 +65,8 @@ bad-numbers-spec =
     Inv-loop
     μ-loop
     loop-holds
-    shared-slice-read-unfit-number
-    unfit-number-requires
+    shared-slice-read-unfit-leg
+    unfit-leg-requires
     returns
     sub-left
     part-left-start

@@ -3,7 +3,7 @@ use mathlib.Core.Path.{_≡_, sym, ap₂, _∙_}
 use mathlib.Core.Bool.{Bool, _||_}
 use Prim.Native.Nat.{_-_}
 use native.Mathlib.Omega.{arith}
-use Rattle.definitions.specs.Domain.{isNumber}
+use Rattle.definitions.specs.Domain.{isLeg}
 use Rattle.definitions.specs.Refusals.{unfit}
 use Rattle.whole.specs.Value.{value}
 use Rattle.refuse_numbers.proofs.Rows.{Left, set-out, found, turn, ended, rows-so-far}
@@ -16,7 +16,7 @@ either-row : {a b x y : Bool} → a ≡ x → b ≡ y → x || y ≡ a || b
 either-row h g = ap₂ (λ (a b : Bool). a || b) (sym h) (sym g)
 
 abbrev Inv-loop : tie.InvT-loop
-Inv-loop distances times size k d₀ t₀ i₀ d t i = Left (unfit value isNumber) size k distances times d t i
+Inv-loop distances times size k d₀ t₀ i₀ d t i = Left (unfit value isLeg) size k distances times d t i
 
 abbrev μ-loop : tie.MeasureT-loop
 μ-loop distances times size k d₀ t₀ i₀ d t i = k - i
@@ -24,7 +24,7 @@ abbrev μ-loop : tie.MeasureT-loop
 loop-holds : tie.Need-loop-holds Inv-loop μ-loop
 loop-holds c =
     let a = c .before .before .args in
-    set-out (unfit value isNumber) (a .size) (a .k) (a .distances .now) (a .times .now)
+    set-out (unfit value isLeg) (a .size) (a .k) (a .distances .now) (a .times .now)
 
 fewer-requires : tie.Need-fewer-requires Inv-loop μ-loop
 fewer-requires c κs = search needs
@@ -65,7 +65,7 @@ returns c =
     let a = l .before .before .before .args in
     let s = either-row (r .bad-numbers .ensures) (c .before .bad-numbers2 .ensures) ∙ c .if1 .taken in
     let e = found (l .loop .inv) (omega arith) (n .before .fewer .ensures) (n .fewer2 .ensures) s in
-    (e, e ∙ rows-so-far (unfit value isNumber) (a .size) (a .k) (a .distances .now) (a .times .now))
+    (e, e ∙ rows-so-far (unfit value isLeg) (a .size) (a .k) (a .distances .now) (a .times .now))
 
 mul-d : tie.Need-mul-d Inv-loop μ-loop
 mul-d c = search needs
@@ -111,7 +111,7 @@ returns-2 c =
     let l = c .before in
     let a = l .before .before .before .args in
     let e = ended (l .loop .inv) (omega arith) in
-    (e, e ∙ rows-so-far (unfit value isNumber) (a .size) (a .k) (a .distances .now) (a .times .now))
+    (e, e ∙ rows-so-far (unfit value isLeg) (a .size) (a .k) (a .distances .now) (a .times .now))
 
 pub bad-rows-spec : {M : Type 1} → statement M
 bad-rows-spec =

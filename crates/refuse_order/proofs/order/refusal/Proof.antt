@@ -43,11 +43,17 @@ repeats-requires c κs = search needs
 pairs-fall-requires : tie.Need-pairs-fall-requires
 pairs-fall-requires c κs = search needs
 
+closures-differ-requires : tie.Need-closures-differ-requires
+closures-differ-requires c κs = search needs
+
 runs-uneven-requires : tie.Need-runs-uneven-requires
 runs-uneven-requires c κs = search needs
 
 lateness-pay-requires : tie.Need-lateness-pay-requires
 lateness-pay-requires c κs = search needs
+
+closed-legs-requires : tie.Need-closed-legs-requires
+closed-legs-requires c κs = search needs
 
 slice-aggregate-first-fit : tie.Need-slice-aggregate-first-fit
 slice-aggregate-first-fit c = search needs
@@ -61,9 +67,11 @@ first-fit-requires c κs = search needs
 returns : tie.Need-returns
 returns c =
     -- behind each test, from the last
-    let c4 = c .before .before .before in
+    let c23 = c .before .before .before in
+    let c4 = c23 .before in
     let c5 = c4 .before in
-    let c2 = c5 .before in
+    let c22 = c5 .before in
+    let c2 = c22 .before in
     let c21 = c2 .before in
     let c1 = c21 .before in
     let c14 = c1 .before in
@@ -81,8 +89,10 @@ returns c =
     ∷ c1 .out-of-range .ensures i
     ∷ c21 .repeats .ensures i
     ∷ c2 .pairs-fall .ensures i
+    ∷ c22 .closures-differ .ensures i
     ∷ c5 .runs-uneven .ensures i
     ∷ c4 .lateness-pay .ensures i
+    ∷ c23 .closed-legs .ensures i
     ∷ []) in
     let fitting : Fitting (given a) = record {
       head = fit-head (a .head) _ (s .good .1 .0);
@@ -101,8 +111,10 @@ refusal-spec =
     out-of-range-requires
     repeats-requires
     pairs-fall-requires
+    closures-differ-requires
     runs-uneven-requires
     lateness-pay-requires
+    closed-legs-requires
     slice-aggregate-first-fit
     slice-aggregate-first-fit-2
     first-fit-requires

@@ -111,7 +111,7 @@ is-feasible-with-requires c κs =
     let known = c .before .before .before .before .before in
     let s = start (untaken known) in
     let a = s .args in
-    (s .pre .0, s .pre .1, subst (λ (x : Spot). x .pos ≤ length (now (a .route))) (sym (is known)) (least-inside (legF (given s)) (a .k) (a .mover .call) (now (a .route))))
+    ((s .pre .0 .0, s .pre .0 .1, subst (λ (x : Spot). x .pos ≤ length (now (a .route))) (sym (is known)) (least-inside (legF (given s)) (a .k) (a .mover .call) (now (a .route)))), s .pre .1)
 
 returns-4 : tie.Need-returns-4
 returns-4 c =
@@ -122,7 +122,7 @@ returns-4 c =
     let s = start (untaken known) in
     let a = s .args in
     let pays = sym (paid .before .pays .ensures) ∙ not-false (paid .before .pays .result) (paid .if2 .left) in
-    let allowed = sym (asked .is-feasible-with .ensures ∙ allowed-asked (given s) (s .pre .2) _) ∙ c .if4 .taken in
+    let allowed = sym (asked .is-feasible-with .ensures ∙ allowed-asked (given s) (s .pre .0 .2) _) ∙ c .if4 .taken in
     takes (given s) (a .mover) (now (a .route)) (a .k) (a .best) (a .fits) (room known) _ (is known) pays
     (not-false (Ieee.lt (known .cheapest-in .result .cost) (a .best .cost)) (cheap .if3 .left)) allowed
 
@@ -133,7 +133,7 @@ returns-5 c =
     let known = cheap .before .before .before .before .before in
     let s = start (untaken known) in
     let a = s .args in
-    let refused = sym (asked .is-feasible-with .ensures ∙ allowed-asked (given s) (s .pre .2) _) ∙ c .if4 .left in
+    let refused = sym (asked .is-feasible-with .ensures ∙ allowed-asked (given s) (s .pre .0 .2) _) ∙ c .if4 .left in
     not-allowed (given s) (a .mover) (now (a .route)) (a .k) (a .best) (a .fits) (room known) _ (is known) refused
 
 pub bound-in-spec : {M : Type 1} → statement M

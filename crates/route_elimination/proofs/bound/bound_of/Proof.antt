@@ -108,7 +108,7 @@ part-bound-in-end : tie.Need-part-bound-in-end Inv-loop μ-loop
 part-bound-in-end c = part (in-loop c) .ends-inside
 
 bound-in-requires : tie.Need-bound-in-requires Inv-loop μ-loop
-bound-in-requires c κs = let t = in-loop (c .before) in (start t .pre .1 .0, part t .short, start t .pre .1 .1)
+bound-in-requires c κs = let t = in-loop (c .before) in ((start t .pre .1 .0 .0, part t .short, start t .pre .1 .0 .1), start t .pre .1 .1)
 
 add-k : tie.Need-add-k Inv-loop μ-loop
 add-k c = let t = in-loop (c .before .before) in record { fits = omega (arith, t .loop-test .taken, start t .pre .0 .0 .runs-fit) }

@@ -54,7 +54,7 @@ set-out-requires : tie.Need-set-out-requires Inv-loop μ-loop
 set-out-requires c κs = search needs
 
 next-wanted-requires : tie.Need-next-wanted-requires Inv-loop μ-loop
-next-wanted-requires c κs = let s = start (c .before .before .before) in (s .pre .1, omega arith)
+next-wanted-requires c κs = let s = start (c .before .before .before) in ((s .pre .0 .1, omega arith), s .pre .1 .0)
 
 loop-holds : tie.Need-loop-holds Inv-loop μ-loop
 loop-holds c =
@@ -66,7 +66,7 @@ loop-holds c =
     (subst (Leads (T .tables) (T .search .limits) []) (sym (out .set-out .ensures)) (leads-start (T .tables) (T .search .limits))) (c .next-wanted .ensures)
 
 mul-go-through : tie.Need-mul-go-through Inv-loop μ-loop
-mul-go-through c = let l = c .before .loop in record { fits = omega (arith, l .inv .inside, begin (c .before) .pre .1) }
+mul-go-through c = let l = c .before .loop in record { fits = omega (arith, l .inv .inside, begin (c .before) .pre .0 .1) }
 
 sub-go-through : tie.Need-sub-go-through Inv-loop μ-loop
 sub-go-through c = c .before .loop .inv .before
@@ -83,15 +83,18 @@ go-through-requires c κs =
     let l = at .loop in
     let s = begin at in
     let I = l .inv in (
-      s .pre .0,
-      omega (
-        arith,
-        I .leads .index,
-        length-take-le (l .gone) (now (s .args .route)) (I .inside),
-        I .inside,
-        span-short (now (s .args .route)) (l .gone)
-            (l .pos),
-        c .before .loop-test .taken,
+      s .pre .0 .0,
+      (
+        omega (
+          arith,
+          I .leads .index,
+          length-take-le (l .gone) (now (s .args .route)) (I .inside),
+          I .inside,
+          span-short (now (s .args .route)) (l .gone)
+              (l .pos),
+          c .before .loop-test .taken,
+          s .pre .0 .1,
+        ),
         s .pre .1,
       ),
     )
@@ -108,19 +111,23 @@ better-requires c κs =
     let T = given s in
     let run = now (s .args .route) in
     let here : c .spot-at .result .pos ≡ at .loop .pos = ap (λ (x : Spot). x .pos) (c .spot-at .ensures) in (
-      (s .pre .0, s .pre .1, omega (arith, here, in-loop .loop-test .taken)),
-      subst (λ (n : ℕ). Leads (T .tables) (T .search .limits) (take n run) (prefixOf (went .go-through .result))) (sym here) (led in-loop _ (went .go-through .ensures)),
+      (s .pre .0 .0, s .pre .0 .1, omega (arith, here, in-loop .loop-test .taken)),
+      (
+        subst (λ (n : ℕ). Leads (T .tables) (T .search .limits) (take n run) (prefixOf (went .go-through .result))) (sym here) (led in-loop _ (went .go-through .ensures)),
+        s .pre .1,
+      ),
     )
 
 add-next-wanted : tie.Need-add-next-wanted Inv-loop μ-loop
 add-next-wanted c =
     let in-loop = c .before .before .before .before in
-    record { fits = omega (arith, in-loop .loop-test .taken, begin (in-loop .before) .pre .1) }
+    record { fits = omega (arith, in-loop .loop-test .taken, begin (in-loop .before) .pre .0 .1) }
 
 next-wanted-requires-2 : tie.Need-next-wanted-requires-2 Inv-loop μ-loop
 next-wanted-requires-2 c κs =
     let in-loop = c .before .before .before .before in
-    (begin (in-loop .before) .pre .1, omega (arith, in-loop .loop-test .taken))
+    let s = begin (in-loop .before) in
+    ((s .pre .0 .1, omega (arith, in-loop .loop-test .taken)), s .pre .1 .0)
 
 loop-less : tie.Need-loop-less Inv-loop μ-loop
 loop-less c =
@@ -141,7 +148,7 @@ loop-again c =
     let a = s .args in
     let run = now (a .route) in
     let is = tested .better .ensures ∙ ap (λ (x : Spot). cond (feasibleF (T .tables) (T .search .limits) (insertAt (x .pos) (a .mover .call) run)) x (l .found)) (spotted .spot-at .ensures) in
-    choosing-more T (a .mover) (a .bound) (a .best) run (a .k) (s .pre .2) (l .found) _ (l .gone) (l .pos) (l .inv) (in-loop .loop-test .taken) _
+    choosing-more T (a .mover) (a .bound) (a .best) run (a .k) (s .pre .0 .2) (l .found) _ (l .gone) (l .pos) (l .inv) (in-loop .loop-test .taken) _
     (led in-loop _ (went .go-through .ensures)) _ is _ (c .next-wanted2 .ensures)
 
 returns : tie.Need-returns Inv-loop μ-loop

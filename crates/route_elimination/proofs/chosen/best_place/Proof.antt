@@ -35,7 +35,7 @@ rest s = let a = s .args in runsIn (runs (now (a .calls)) (now (a .ends)) (a .ma
 
 -- what each call asks for, by the records
 abbrev asks : (s : tie.Start) → askedF (now (s .args .demands)) ≡ demandF (given s)
-asks s = fun-ext (s .pre .1 .1)
+asks s = fun-ext (s .pre .1 .0 .1)
 
 abbrev least : (c : tie.After-cheapest-place) → let s = start c in c .cheapest-place .result ≡ folded cheaperF nowhereF (candidatesF (given s) (s .args .mover .call) (rest s))
 least c =
@@ -81,7 +81,7 @@ is-allowed-requires : tie.Need-is-allowed-requires
 is-allowed-requires c κs =
     let k = c .before .before in
     let s = start k in
-    (s .pre .0 .0, least-there (given s) (s .args .mover) (rest s) _ (least k) (paid c), s .pre .1 .0)
+    ((s .pre .0 .0, least-there (given s) (s .args .mover) (rest s) _ (least k) (paid c), s .pre .1 .0 .0), s .pre .1 .1)
 
 returns-2 : tie.Need-returns-2
 returns-2 c =
@@ -99,14 +99,14 @@ bound-of-requires : tie.Need-bound-of-requires
 bound-of-requires c κs =
     let asked = c .before in
     let s = start (asked .before .before .before) in
-    ((s .pre .0 .0, s .pre .0 .1), (s .pre .1 .0, asked .is-allowed .ensures .1 (c .if2 .left)))
+    ((s .pre .0 .0, s .pre .0 .1), ((s .pre .1 .0 .0, asked .is-allowed .ensures .1 (c .if2 .left)), s .pre .1 .1))
 
 best-tested-requires : tie.Need-best-tested-requires
 best-tested-requires c κs =
     let refused = c .before in
     let asked = refused .before in
     let s = start (asked .before .before .before) in
-    ((s .pre .0 .0, s .pre .0 .1), (s .pre .1 .0, asked .is-allowed .ensures .1 (refused .if2 .left)))
+    ((s .pre .0 .0, s .pre .0 .1), ((s .pre .1 .0 .0, asked .is-allowed .ensures .1 (refused .if2 .left)), s .pre .1 .1))
 
 pays-requires-2 : tie.Need-pays-requires-2
 pays-requires-2 c κs = search needs

@@ -109,7 +109,7 @@ part-best-offered-end : tie.Need-part-best-offered-end Inv-loop μ-loop
 part-best-offered-end c = part (in-loop c) .ends-inside
 
 best-offered-requires : tie.Need-best-offered-requires Inv-loop μ-loop
-best-offered-requires c κs = let t = in-loop (c .before) in (start t .pre .1 .0, part t .short, start t .pre .1 .1)
+best-offered-requires c κs = let t = in-loop (c .before) in ((start t .pre .1 .0 .0, part t .short, start t .pre .1 .0 .1), start t .pre .1 .1)
 
 add-k : tie.Need-add-k Inv-loop μ-loop
 add-k c = let t = in-loop (c .before .before) in record { fits = omega (arith, t .loop-test .taken, start t .pre .0 .0 .runs-fit) }

@@ -8,7 +8,7 @@ use lib.Dec.{ltb}
 use lib.Ieee.{Float}
 use borrow.Author.Tests.{ltb-true, ltb-false}
 use Rattle.basics.proofs.TestLaws.{by-test}
-use Rattle.distance.specs.Lookup.{lookupF}
+use Rattle.distance.specs.Lookup.{numberF}
 use Rattle.route_elimination.specs.Insertion.{wantedF, addsF}
 use denote.Ref.{now}
 use borrow.Author.Needs.{needs}
@@ -18,7 +18,7 @@ use Rattle.route_elimination.proofs.chosen.next_wanted.Tie as tie
 abbrev Inv-loop : tie.InvT-loop
 Inv-loop bound best route from mover distances size c pos₀ pos =
     (from ≤ pos) × (pos ≤ suc (length route))
-    × ((j : ℕ) → from ≤ j → j < pos → wantedF mover bound best (addsF (lookupF distances size) route j (mover .call)) ≡ false)
+    × ((j : ℕ) → from ≤ j → j < pos → wantedF mover bound best (addsF (numberF distances size) route j (mover .call)) ≡ false)
 
 abbrev μ-loop : tie.MeasureT-loop
 μ-loop bound best route from mover distances size c pos₀ pos = suc (length route) - pos
@@ -26,7 +26,7 @@ abbrev μ-loop : tie.MeasureT-loop
 loop-holds : tie.Need-loop-holds Inv-loop μ-loop
 loop-holds c =
     let s = c .before .before in
-    (omega arith, omega (arith, s .pre .1), λ j u v. absurd (omega arith))
+    (omega arith, omega (arith, s .pre .0 .1), λ j u v. absurd (omega arith))
 
 insertion-cost-requires : tie.Need-insertion-cost-requires Inv-loop μ-loop
 insertion-cost-requires c κs = search needs
@@ -56,7 +56,7 @@ loop-again c =
     let at = tested .before in
     let l = at .loop in
     let a = at .before .before .before .args in
-    let by : ℕ → Bool = λ j. wantedF (a .mover) (a .bound) (a .best) (addsF (lookupF (now (a .distances)) (a .size)) (now (a .route)) j (a .mover .call)) in
+    let by : ℕ → Bool = λ j. wantedF (a .mover) (a .bound) (a .best) (addsF (numberF (now (a .distances)) (a .size)) (now (a .route)) j (a .mover .call)) in
     let here = sym (asked .is-wanted .ensures ∙ ap (wantedF (a .mover) (a .bound) (a .best)) (asked .before .insertion-cost .ensures)) ∙ c .if1 .left in (
       omega (arith, l .inv .0),
       omega (arith, tested .loop-test .taken),

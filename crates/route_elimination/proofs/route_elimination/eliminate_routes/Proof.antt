@@ -124,9 +124,12 @@ eliminate-requires c κs =
     let known = c .before .before .before .before in (
       begun known .0,
       (
-        out .list-records .ensures .0,
-        subst (λ (l : List (CustomerOf Float)). Asks l (out .before .before .before .demands-of .result))
-            (sym (ap (λ (t : Tables). t .customers) (tables out))) (out .before .before .before .demands-of .ensures .1),
+        (
+          out .list-records .ensures .0,
+          subst (λ (l : List (CustomerOf Float)). Asks l (out .before .before .before .demands-of .result))
+              (sym (ap (λ (t : Tables). t .customers) (tables out))) (out .before .before .before .demands-of .ensures .1),
+        ),
+        start out .pre .1 .1,
       ),
     )
 
@@ -141,7 +144,7 @@ slice-aggregate-write-front c =
 write-front-requires : tie.Need-write-front-requires
 write-front-requires c κs =
     let gone = c .before .before .before .before in
-    omega (arith, ap length (answer gone .calls-out), answer gone .few-calls, begin gone .pre .1 .0)
+    omega (arith, ap length (answer gone .calls-out), answer gone .few-calls, begin gone .pre .1 .0 .0)
 
 array-share-prefix-held-ends : tie.Need-array-share-prefix-held-ends
 array-share-prefix-held-ends c = search needs
@@ -154,7 +157,7 @@ slice-aggregate-write-front-2 c =
 write-front-requires-2 : tie.Need-write-front-requires-2
 write-front-requires-2 c κs =
     let gone = left (c .before .before .before .before) in
-    omega (arith, ap length (answer gone .ends-out), answer gone .few-runs, begin gone .pre .1 .1)
+    omega (arith, ap length (answer gone .ends-out), answer gone .few-runs, begin gone .pre .1 .0 .1)
 
 same-length : tie.Need-same-length
 same-length c = search needs

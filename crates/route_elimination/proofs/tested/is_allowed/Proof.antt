@@ -34,7 +34,7 @@ abbrev old : tie.Start → Runs
 old s = let a = s .args in runs (now (a .calls)) (now (a .ends)) (a .many) (a .count)
 
 few : (c : tie.After-place-before) → start (entry c) .args .spot .run < start (entry c) .args .count
-few c = let s = start (entry c) in omega (arith, s .pre .1 .run-inside, held (old s) (s .pre .0) .count-is)
+few c = let s = start (entry c) in omega (arith, s .pre .0 .1 .run-inside, held (old s) (s .pre .0 .0) .count-is)
 
 abbrev bound : (c : tie.After-place-before) →
     let a = start (entry c) .args in
@@ -43,7 +43,7 @@ abbrev bound : (c : tie.After-place-before) →
 bound c =
     let s = start (entry c) in
     let a = s .args in
-    run-bound (old s) (a .spot .run) (c .place-before .result) (getD (now (a .ends)) (a .spot .run) 0) (s .pre .0, few c) (c .place-before .ensures) (end-is (now (a .ends)) (a .spot .run))
+    run-bound (old s) (a .spot .run) (c .place-before .result) (getD (now (a .ends)) (a .spot .run) 0) (s .pre .0 .0, few c) (c .place-before .ensures) (end-is (now (a .ends)) (a .spot .run))
 
 abbrev run : (c : tie.After-place-before) →
     let a = start (entry c) .args in
@@ -51,7 +51,7 @@ abbrev run : (c : tie.After-place-before) →
 run c =
     let s = start (entry c) in
     let a = s .args in
-    run-lent (old s) (a .spot .run) (c .place-before .result) (getD (now (a .ends)) (a .spot .run) 0) (s .pre .0, few c) (c .place-before .ensures) (end-is (now (a .ends)) (a .spot .run))
+    run-lent (old s) (a .spot .run) (c .place-before .result) (getD (now (a .ends)) (a .spot .run) 0) (s .pre .0 .0, few c) (c .place-before .ensures) (end-is (now (a .ends)) (a .spot .run))
 
 not-asked : (G : GivenF) (run : List ℕ) → G .search .constrained ≡ false → true ≡ allowedF G run
 unfolding allowedF
@@ -72,10 +72,10 @@ mul-to c = record { fits = omega (arith, few c) }
 shared-slice-read-to : tie.Need-shared-slice-read-to
 shared-slice-read-to c =
     let s = start (entry (c .before)) in
-    omega (arith, few (c .before), s .pre .0 .runs-fit, s .pre .0 .ends-long)
+    omega (arith, few (c .before), s .pre .0 .0 .runs-fit, s .pre .0 .0 .ends-long)
 
 mul-is-feasible-with : tie.Need-mul-is-feasible-with
-mul-is-feasible-with c = record { fits = omega (arith, bound (c .before) .0, bound (c .before) .1, start (entry (c .before)) .pre .0 .calls-fit) }
+mul-is-feasible-with c = record { fits = omega (arith, bound (c .before) .0, bound (c .before) .1, start (entry (c .before)) .pre .0 .0 .calls-fit) }
 
 sub-is-feasible-with : tie.Need-sub-is-feasible-with
 sub-is-feasible-with c = bound (c .before) .0
@@ -86,7 +86,7 @@ part-is-feasible-with-start c = bound (c .before) .0
 part-is-feasible-with-end : tie.Need-part-is-feasible-with-end
 part-is-feasible-with-end c =
     let s = start (entry (c .before)) in
-    let h : getD (now (s .args .ends)) (s .args .spot .run) 0 ≤ length (now (s .args .calls)) = omega (arith, bound (c .before) .1, s .pre .0 .calls-fit, s .pre .0 .calls-long) in
+    let h : getD (now (s .args .ends)) (s .args .spot .run) 0 ≤ length (now (s .args .calls)) = omega (arith, bound (c .before) .1, s .pre .0 .0 .calls-fit, s .pre .0 .0 .calls-long) in
     h
 
 is-feasible-with-requires : tie.Need-is-feasible-with-requires
@@ -94,7 +94,7 @@ is-feasible-with-requires c κs =
     let k = c .before .before in
     let s = start (entry k) in
     let many = ap length (run k) in
-    (s .pre .2, omega (arith, many, bound k .1, bound k .2, s .pre .0 .calls-fit), omega (arith, many, s .pre .1 .pos-inside))
+    ((s .pre .0 .2, omega (arith, many, bound k .1, bound k .2, s .pre .0 .0 .calls-fit), omega (arith, many, s .pre .0 .1 .pos-inside)), s .pre .1)
 
 returns-2 : tie.Need-returns-2
 returns-2 c =

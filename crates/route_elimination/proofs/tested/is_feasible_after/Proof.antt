@@ -23,7 +23,7 @@ go-on-requires : tie.Need-go-on-requires
 go-on-requires c κs =
     let s = start (c .before .before) in
     let a = s .args in
-    (s .pre .0 .0, omega (arith, s .pre .1 .index, s .pre .0 .1, s .pre .0 .2, length-take-le (a .pos) (now (a .route)) (s .pre .0 .2)))
+    ((s .pre .0 .0, omega (arith, s .pre .1 .0 .index, s .pre .0 .1, s .pre .0 .2, length-take-le (a .pos) (now (a .route)) (s .pre .0 .2))), s .pre .1 .1)
 
 mul-feasible-from : tie.Need-mul-feasible-from
 mul-feasible-from c = search needs
@@ -43,8 +43,8 @@ feasible-from-requires c κs =
     let s = start (went .before .before .before) in
     let a = s .args in
     let T = given s in
-    let i = index-after (T .tables) (T .search .limits) (now (a .route)) (a .pos) (a .c) (s .pre .0 .2) (prefixOf (a .prefix)) _ (s .pre .1) (went .go-on .ensures) in
-    (s .pre .0 .0, omega (arith, i, part-short (now (a .route)) (a .pos), s .pre .0 .1))
+    let i = index-after (T .tables) (T .search .limits) (now (a .route)) (a .pos) (a .c) (s .pre .0 .2) (prefixOf (a .prefix)) _ (s .pre .1 .0) (went .go-on .ensures) in
+    (s .pre .0 .0, (omega (arith, i, part-short (now (a .route)) (a .pos), s .pre .0 .1), s .pre .1 .1))
 
 returns : tie.Need-returns
 returns c =
@@ -52,7 +52,7 @@ returns c =
     let s = start (went .before .before .before) in
     let a = s .args in
     let T = given s in
-    asked-after (T .tables) (T .search .limits) (now (a .route)) (a .pos) (a .c) (s .pre .0 .2) (prefixOf (a .prefix)) _ (s .pre .1) (went .go-on .ensures) _ (c .feasible-from .ensures)
+    asked-after (T .tables) (T .search .limits) (now (a .route)) (a .pos) (a .c) (s .pre .0 .2) (prefixOf (a .prefix)) _ (s .pre .1 .0) (went .go-on .ensures) _ (c .feasible-from .ensures)
 
 pub is-feasible-after-spec : {M : Type 1} → statement M
 is-feasible-after-spec =

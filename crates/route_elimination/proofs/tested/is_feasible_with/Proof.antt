@@ -37,22 +37,25 @@ set-out-requires c κs = search needs
 slice-aggregate-go-through : tie.Need-slice-aggregate-go-through
 slice-aggregate-go-through c =
     let s = start (c .before .before .before .before) in
-    sym (length-take-le _ _ (s .pre .2))
+    sym (length-take-le _ _ (s .pre .0 .2))
 
 go-through-requires : tie.Need-go-through-requires
 go-through-requires c κs =
     let s = start (c .before .before .before .before) in
     let out = first (c .before) in
-    (s .pre .0, omega (arith, out .index, length-take-le (s .args .pos) (now (s .args .route)) (s .pre .2), s .pre .1, s .pre .2))
+    (s .pre .0 .0, (omega (arith, out .index, length-take-le (s .args .pos) (now (s .args .route)) (s .pre .0 .2), s .pre .0 .1, s .pre .0 .2), s .pre .1))
 
 is-feasible-after-requires : tie.Need-is-feasible-after-requires
 is-feasible-after-requires c κs =
     let out = c .before .before in
     let s = start (out .before .before .before) in
     let T = given s in (
-      s .pre,
-      leads-through (T .tables) (T .search .limits) (now (s .args .route)) 0 (s .args .pos) _ _ (omega arith) (s .pre .2) (first out)
-          (c .go-through .ensures ∙ ap (λ (n : ℕ). onAllF (T .tables) (prefixOf (out .set-out .result)) (take n (now (s .args .route)))) (sym (sub-zero (s .args .pos)))),
+      s .pre .0,
+      (
+        leads-through (T .tables) (T .search .limits) (now (s .args .route)) 0 (s .args .pos) _ _ (omega arith) (s .pre .0 .2) (first out)
+            (c .go-through .ensures ∙ ap (λ (n : ℕ). onAllF (T .tables) (prefixOf (out .set-out .result)) (take n (now (s .args .route)))) (sym (sub-zero (s .args .pos)))),
+        s .pre .1,
+      ),
     )
 
 returns : tie.Need-returns

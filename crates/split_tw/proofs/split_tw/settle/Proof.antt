@@ -9,7 +9,6 @@ use Rattle.cut_rows.specs.declared.terms.Terms.{Terms}
 use Rattle.cut_drops.specs.Refill.{given}
 use Rattle.split_tw.proofs.Stayed.{tour-front, worked, stayed-of, stayed-falls, stayed-settled, unfilled}
 use borrow.Author.Needs.{needs}
-use borrow.Author.Needs.{needs}
 use Rattle.split_tw.proofs.split_tw.settle.Statement.{statement}
 use Rattle.split_tw.proofs.split_tw.settle.Tie as tie
 

@@ -12,7 +12,7 @@ use Rattle.cut_rows.specs.Runs.{Instance, lent, tariff}
 use Rattle.cut_drops.specs.Drops.{dropsF}
 use Rattle.split_tw.specs.SplitTw.{splitTwF}
 use Rattle.split_tw.proofs.Stayed.{each-counted}
-use Rattle.split.proofs.Answering.{lent-few, few-ends, ends-written, answered}
+use Rattle.split_tw.proofs.Answering.{lent-few, few-ends, ends-written, answered}
 use borrow.Author.Needs.{needs}
 use borrow.Author.Needs.{needs}
 use Rattle.split_tw.proofs.split_tw.split_tw.Statement.{statement}

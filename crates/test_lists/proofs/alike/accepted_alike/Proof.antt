@@ -4,7 +4,7 @@ use Rattle.sheet_read.specs.Summary.{heldCounts}
 use Rattle.sheet_loaded.specs.Held.{Accepted}
 use Rattle.sheet_loaded.proofs.Reading.{is-accepted}
 use Rattle.sheet_loaded.proofs.Loading.{far-inside, far-counted, long-inside, long-counted, calls-inside, calls-counted}
-use Rattle.test_lists.proofs.Held.{few-tour, alike-on}
+use Rattle.test_lists.proofs.Held.{cuttable, alike-on}
 use borrow.Author.Needs.{needs}
 use Rattle.test_lists.proofs.alike.accepted_alike.Statement.{statement}
 use Rattle.test_lists.proofs.alike.accepted_alike.Tie as tie
@@ -60,7 +60,7 @@ list-alike-requires : tie.Need-list-alike-requires
 list-alike-requires c κs =
     let x = c .before .before .before in
     let q = accepted x in
-    (entry x .pre .1, few-tour (x .load .ensures (q .0) (q .1) (q .2)))
+    (entry x .pre .1, cuttable (x .load .ensures (q .0) (q .1) (q .2)))
 
 returns : tie.Need-returns
 returns c =

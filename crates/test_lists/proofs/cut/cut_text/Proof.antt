@@ -1,12 +1,15 @@
 -- `cut::cut_text` meets its contract. Assumes nothing.
-use mathlib.Core.Path.{ap, _∙_}
+use mathlib.Core.Path.{ap, subst, _∙_}
 use lib.ListN.{replicate}
 use denote.Ref.{now}
 use Rattle.cut_theory.specs.Tab.{mostCut}
-use Rattle.split.specs.Answer.{ResultF}
-use Rattle.split.specs.Split.{splitF, lent}
+use Rattle.split_tw.specs.Answer.{ResultF}
+use Rattle.cut_rows.specs.Runs.{Instance}
+use Rattle.split_tw.specs.SplitTw.{splitTwF}
+use Rattle.split.proofs.Bare.{lent-bare}
 use Rattle.test_runs.specs.Along.{follows}
-use Rattle.test_lists.specs.Answers.{cutWords}
+use Rattle.test_runs.specs.Runs.{givenIn}
+use Rattle.test_lists.specs.Answers.{bare, cutWords}
 use Rattle.test_lists.proofs.CutLists.{Lists, Cuts, served-inside, served-counted, ends-inside, ends-counted, dropped-inside, dropped-counted, cut-is}
 use borrow.Author.Needs.{needs}
 use Rattle.test_lists.proofs.cut.cut_text.Statement.{statement}
@@ -15,7 +18,7 @@ use Rattle.test_lists.proofs.cut.cut_text.Tie as tie
 -- ---- the places on the way: before the lent slices, the head, the records and the three arrays; and the cut, before its lists are lent
 
 abbrev entry : tie.After-split → tie.Start
-entry x = let lists = x .before .before .before in let arrays = lists .before .before .before in arrays .before .before .before
+entry x = let lists = x .before .before .before in let arrays = lists .before .before .before in arrays .before .before .before .before
 
 abbrev gone : tie.After-served3 → tie.After-split
 gone x = x .before .before .before .before
@@ -23,21 +26,24 @@ gone x = x .before .before .before .before
 abbrev plan : tie.Start → ResultF
 plan s =
     let a = s .args in
-    let head = a .held .head in
-    splitF (lent (a .held .customers) (now (a .distances)) (head .places) (head .capacity) (head .«fixed_cost»)) (now (a .tour))
+    splitTwF (bare (givenIn (a .held) (now (a .distances)) (now (a .times)))) (now (a .tour))
 
 abbrev blank : Lists
 blank = record { served = replicate mostCut 0; ends = replicate mostCut 0; dropped = replicate mostCut 0 }
 
 abbrev lists : tie.After-split → Lists
 lists x =
-    let l = x .split .last .1 .1 .1 .1 .1 .1 in
+    let l = x .split .last .1 .1 .1 .1 .1 .1 .1 in
     record { served = l .0; ends = l .1 .0; dropped = l .1 .1 .0 }
 
 made : (x : tie.After-split) → Cuts (plan (entry x)) (x .split .result) blank (lists x)
 made x =
     let e = x .split .ensures in
-    record { counts = e .0; served-is = e .1 .0; ends-are = e .1 .1 .0; dropped-are = e .1 .1 .1 }
+    let a = entry x .args in
+    let head = a .held .head in
+    subst (λ (I : Instance). Cuts (splitTwF I (now (a .tour))) (x .split .result) blank (lists x))
+    (lent-bare (a .held .customers) (now (a .distances)) (now (a .times)) (head .places) (head .capacity) (head .«fixed_cost») (head .limits))
+    (record { counts = e .0; served-is = e .1 .0; ends-are = e .1 .1 .0; dropped-are = e .1 .1 .1 })
 
 slice-aggregate-split : tie.Need-slice-aggregate-split
 slice-aggregate-split c = search needs

@@ -1,6 +1,6 @@
 -- `lines::violation_figures` meets its contract. Assumes nothing.
 use mathlib.Core.Path.{_≡_}
-use Rattle.visits.specs.declared.visit.ViolationType.the-variants.{TimeWindowViolated, CapacityExceeded, MaxDistanceExceeded, MaxDurationExceeded, WheelchairsExceeded}
+use Rattle.visits.specs.declared.visit.ViolationType.the-variants.{TimeWindowViolated, CapacityExceeded, MaxDistanceExceeded, MaxDurationExceeded, WheelchairsExceeded, ClosedLeg}
 use Rattle.test_runs.specs.Along.{follows}
 use borrow.Author.Needs.{needs}
 use Rattle.test_runs.proofs.lines.violation_figures.Statement.{statement}
@@ -45,6 +45,15 @@ enum-known-kind-5 c = search needs
 over-figures-requires-2 : tie.Need-over-figures-requires-2
 over-figures-requires-2 c κs = search needs
 
+enum-known-kind-6 : tie.Need-enum-known-kind-6
+enum-known-kind-6 c = search needs
+
+number-requires-3 : tie.Need-number-requires-3
+number-requires-3 c κs = search needs
+
+number-requires-4 : tie.Need-number-requires-4
+number-requires-4 c κs = search needs
+
 returns : tie.Need-returns
 unfolding follows
 returns c =
@@ -85,6 +94,14 @@ returns-6 c =
     let e : known .before .before .before .args .kind ≡ WheelchairsExceeded (k .0) (k .1 .0) = search needs in
     rw e (c .over-figures2 .ensures)
 
+returns-7 : tie.Need-returns-7
+unfolding follows
+returns-7 c =
+    let known = c .before .before .before in
+    let k = known .kind6 .given .0 in
+    let e : known .before .before .before .args .kind ≡ ClosedLeg (k .0) = search needs in
+    rw (e, c .number4 .ensures, c .before .number3 .ensures)
+
 pub violation-figures-spec : {M : Type 1} → statement M
 violation-figures-spec =
     tie.close
@@ -102,9 +119,13 @@ violation-figures-spec =
     number-and-two-requires-3
     enum-known-kind-5
     over-figures-requires-2
+    enum-known-kind-6
+    number-requires-3
+    number-requires-4
     returns
     returns-2
     returns-3
     returns-4
     returns-5
-    returns-6)
+    returns-6
+    returns-7)

@@ -19,7 +19,7 @@ loop-holds : tie.Need-loop-holds Inv-loop μ-loop
 loop-holds c =
     let s = c .before .before .before .before .before in
     let a = s .args in
-    set-out (now (a .recorded)) (runWords (givenIn (a .held) (now (a .distances)) (now (a .times))) (a .topic)) (now (a .all)) (now (a .ends)) (a .at) (s .pre .1)
+    set-out (now (a .recorded)) (runWords (givenIn (a .held) (now (a .distances)) (now (a .times))) (a .topic)) (now (a .all)) (now (a .ends)) (a .at) (s .pre .0 .1)
 
 mul-to : tie.Need-mul-to Inv-loop μ-loop
 mul-to c = search needs
@@ -52,7 +52,7 @@ run-text-requires c κs =
     let t = c .before .before in
     let slices = t .before .before .before .before in
     let s = slices .before .before .before in
-    omega (arith, run-short (t .before .loop .inv) (t .loop-test .taken), s .pre .0)
+    (omega (arith, run-short (t .before .loop .inv) (t .loop-test .taken), s .pre .0 .0), s .pre .1)
 
 add-k : tie.Need-add-k Inv-loop μ-loop
 add-k c = search needs

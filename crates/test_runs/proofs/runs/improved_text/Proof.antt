@@ -6,7 +6,9 @@ use Rattle.test_runs.proofs.runs.improved_text.Statement.{statement}
 use Rattle.test_runs.proofs.runs.improved_text.Tie as tie
 
 each-run-requires : tie.Need-each-run-requires
-each-run-requires c κs = walkable (c .before .before .before .before .before .pre)
+each-run-requires c κs =
+    let p = c .before .before .before .before .before .pre in
+    (walkable (p .0), p .1)
 
 left-lines-requires : tie.Need-left-lines-requires
 left-lines-requires c κs = search needs

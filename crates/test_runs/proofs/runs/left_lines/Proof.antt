@@ -47,7 +47,7 @@ each-run-requires : tie.Need-each-run-requires
 each-run-requires c κs =
     let x = gone (c .before) in
     let long : length (x .eliminated .last .1 .1 .1 .1 .1 .0) ≡ 128 = search needs in
-    (omega (arith, few-calls (x .eliminated .ensures), long), ends-rise (x .eliminated .ensures))
+    ((omega (arith, few-calls (x .eliminated .ensures), long), ends-rise (x .eliminated .ensures)), tt)
 
 returns : tie.Need-returns
 returns c =

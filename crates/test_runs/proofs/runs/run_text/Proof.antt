@@ -1,5 +1,8 @@
 -- `runs::run_text` meets its contract. Assumes nothing.
-use Rattle.test_runs.specs.Runs.{runWords}
+use mathlib.Core.Path.{subst}
+use denote.Ref.{now}
+use Rattle.test_runs.specs.declared.runs.Topic.{Topic}
+use Rattle.test_runs.specs.Runs.{Drivable, runWords}
 use borrow.Author.Needs.{needs}
 use Rattle.test_runs.proofs.runs.run_text.Statement.{statement}
 use Rattle.test_runs.proofs.runs.run_text.Tie as tie
@@ -20,7 +23,10 @@ enum-told-3 : tie.Need-enum-told-3
 enum-told-3 c = search needs
 
 reversed-requires : tie.Need-reversed-requires
-reversed-requires c κs = search needs
+reversed-requires c κs =
+    let slices = c .before in
+    let s = slices .before .before .before .before .before in
+    (s .pre .0, subst (λ (topic : Topic). Drivable topic (now (s .args .distances)) (now (s .args .times))) (c .enum-told3 .given .1) (s .pre .1))
 
 enum-told-4 : tie.Need-enum-told-4
 enum-told-4 c = search needs

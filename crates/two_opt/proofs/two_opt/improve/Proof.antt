@@ -6,7 +6,7 @@ use mathlib.Core.List.{List}
 use denote.Ref.{now}
 use Rattle.cut_table.proofs.Writing.{written-over}
 use Rattle.evaluation.specs.Records.{Tables, lent}
-use Rattle.evaluation.specs.Tables.{distanceF}
+use Rattle.improve_base.specs.Leg.{distanceF}
 use Rattle.improve_base.specs.Search.{searchOf}
 use Rattle.improve_base.specs.Route.{routeDistanceF}
 use Rattle.two_opt.specs.TwoOpt.{improvedF}
@@ -30,7 +30,7 @@ abbrev tables : tie.Start → Tables
 tables s = let a = s .args in lent (a .customers) (now (a .distances)) (now (a .times)) (a .size)
 
 copied : (c : tie.After-write-front) → c .write-front .last .1 .0 ≡ now (start c .args .route)
-copied c = let s = start c in c .write-front .ensures ∙ written-over (now (s .args .route)) (now (s .args .current)) (s .pre)
+copied c = let s = start c in c .write-front .ensures ∙ written-over (now (s .args .route)) (now (s .args .current)) (s .pre .0)
 
 write-front-requires : tie.Need-write-front-requires
 write-front-requires c κs = omega arith

@@ -12,11 +12,11 @@ shared-slice-read-first c = search needs
 place-before-requires : tie.Need-place-before-requires
 place-before-requires c κs = search needs
 
-get-requires : tie.Need-get-requires
-get-requires c κs = search needs
+open-leg-requires : tie.Need-open-leg-requires
+open-leg-requires c κs = search needs
 
 returns : tie.Need-returns
-returns c = rw (c .get .ensures, c .before .place-before .ensures)
+returns c = rw (c .open-leg .ensures, c .before .place-before .ensures)
 
 pub leg-into-spec : {M : Type 1} → statement M
-leg-into-spec = tie.close (tie.spec mul-first shared-slice-read-first place-before-requires get-requires returns)
+leg-into-spec = tie.close (tie.spec mul-first shared-slice-read-first place-before-requires open-leg-requires returns)

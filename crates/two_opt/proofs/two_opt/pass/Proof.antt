@@ -8,7 +8,7 @@ use lib.ListN.{length, take, length-take}
 use denote.Ref.{now}
 use Rattle.basics.specs.Lists.{count}
 use Rattle.evaluation.specs.Records.{Tables, limitsOf}
-use Rattle.distance.specs.Lookup.{lookupF}
+use Rattle.distance.specs.Lookup.{numberF}
 use Rattle.cut_stops.specs.Stops.{numbers, listed}
 use Rattle.two_opt.specs.Rules.{rulesOf}
 use Rattle.improve_base.specs.Prefix.{prefixOf, Leads}
@@ -26,7 +26,7 @@ Inv-loop current₀ codes figures distances times size rules far tried₀ prefix
     × (passFromF (listed (numbers codes figures) distances times size) (rulesOf rules) (length current₀) (count i (length current₀ - 1 - i)) (state current (tried .improved))
     ≡ passF (listed (numbers codes figures) distances times size) (rulesOf rules) current₀)
     × Leads (listed (numbers codes figures) distances times size) (limitsOf (rules .limits)) (take i current) (prefixOf prefix)
-    × (tried .far ≡ farF (limitsOf (rules .limits)) (lookupF distances size) current)
+    × (tried .far ≡ farF (limitsOf (rules .limits)) (numberF distances size) current)
 
 abbrev μ-loop : tie.MeasureT-loop
 μ-loop current₀ codes figures distances times size rules far tried₀ prefix₀ i₀ current tried prefix i = length current - i
@@ -71,7 +71,7 @@ add-loop c = search needs
 try-all-requires : tie.Need-try-all-requires Inv-loop μ-loop
 try-all-requires c κs =
     let at = c .before .before in
-    ((start at .pre, omega arith), (at .loop .inv .3, at .loop .inv .4))
+    ((start at .pre .0, omega arith), (at .loop .inv .3, (at .loop .inv .4, start at .pre .1)))
 
 mul-cid : tie.Need-mul-cid Inv-loop μ-loop
 mul-cid c = search needs
@@ -83,7 +83,7 @@ go-on-requires : tie.Need-go-on-requires Inv-loop μ-loop
 go-on-requires c κs =
     let at = loop (c .before .before .before) in
     let l = at .loop in
-    (start at .pre, omega (arith, l .inv .3 .index, length-take (l .i) (l .current)))
+    ((start at .pre .0, omega (arith, l .inv .3 .index, length-take (l .i) (l .current))), start at .pre .1)
 
 add-i : tie.Need-add-i Inv-loop μ-loop
 add-i c = search needs

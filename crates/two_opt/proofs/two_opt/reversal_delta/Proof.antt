@@ -5,7 +5,7 @@ use lib.ListN.{length, drop}
 use lib.Ieee.{Float}
 use denote.Ref.{now}
 use Rattle.whole.proofs.Bits.{fl-zero}
-use Rattle.distance.specs.Lookup.{lookupF}
+use Rattle.distance.specs.Lookup.{numberF}
 use Rattle.two_opt.specs.Delta.{turnedLegsF, reversalDeltaF}
 use Rattle.two_opt.proofs.TurnedLegs.{turned-legs-turn, turned-legs-end}
 use borrow.Author.Needs.{needs}
@@ -14,7 +14,7 @@ use Rattle.two_opt.proofs.two_opt.reversal_delta.Tie as tie
 
 abbrev Inv-loop : tie.InvT-loop
 Inv-loop segment distances size symmetric sum₀ prev₀ k₀ sum prev k =
-    turnedLegsF (lookupF distances size) sum prev (drop k segment) ≡ turnedLegsF (lookupF distances size) sum₀ prev₀ (drop 1 segment)
+    turnedLegsF (numberF distances size) sum prev (drop k segment) ≡ turnedLegsF (numberF distances size) sum₀ prev₀ (drop 1 segment)
 
 abbrev μ-loop : tie.MeasureT-loop
 μ-loop segment distances size symmetric sum₀ prev₀ k₀ sum prev k = length segment - k
@@ -28,7 +28,7 @@ abbrev odd : tie.At-loop Inv-loop μ-loop → tie.Else1 Inv-loop μ-loop
 odd c = c .before .before
 
 abbrev leg : tie.Start Inv-loop μ-loop → ℕ → ℕ → Float
-leg s = lookupF (now (s .args .distances)) (s .args .size)
+leg s = numberF (now (s .args .distances)) (s .args .size)
 
 returns : tie.Need-returns Inv-loop μ-loop
 unfolding reversalDeltaF
@@ -46,11 +46,11 @@ mul-next c = search needs
 shared-slice-read-next : tie.Need-shared-slice-read-next Inv-loop μ-loop
 shared-slice-read-next c = search needs
 
-get-requires : tie.Need-get-requires Inv-loop μ-loop
-get-requires c κs = search needs
+open-leg-requires : tie.Need-open-leg-requires Inv-loop μ-loop
+open-leg-requires c κs = search needs
 
-get-requires-2 : tie.Need-get-requires-2 Inv-loop μ-loop
-get-requires-2 c κs = search needs
+open-leg-requires-2 : tie.Need-open-leg-requires-2 Inv-loop μ-loop
+open-leg-requires-2 c κs = search needs
 
 add-k : tie.Need-add-k Inv-loop μ-loop
 add-k c = search needs
@@ -63,8 +63,8 @@ loop-again c =
     let turn = c .before .before .before in
     let s = start (odd (turn .before)) in
     let l = turn .before .loop in
-    let back = c .before .get .ensures in
-    let there = c .get2 .ensures in
+    let back = c .before .open-leg .ensures in
+    let there = c .open-leg2 .ensures in
     sym (turned-legs-turn (leg s) (now (s .args .segment)) (l .sum) (l .prev) (l .k) _ _ (turn .loop-test .taken) back there) ∙ l .inv
 
 returns-2 : tie.Need-returns-2 Inv-loop μ-loop
@@ -90,8 +90,8 @@ reversal-delta-spec =
     loop-holds
     mul-next
     shared-slice-read-next
-    get-requires
-    get-requires-2
+    open-leg-requires
+    open-leg-requires-2
     add-k
     loop-less
     loop-again

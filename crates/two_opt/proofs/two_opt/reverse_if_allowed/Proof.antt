@@ -4,7 +4,7 @@ use mathlib.Core.Path.{_≡_, sym, ap, _∙_}
 use lib.ListN.{length-take}
 use denote.Ref.{now}
 use Rattle.basics.proofs.TestLaws.{not-true, not-false}
-use Rattle.distance.specs.Lookup.{lookupF}
+use Rattle.distance.specs.Lookup.{numberF}
 use Rattle.cut_stops.specs.Stops.{numbers, listed}
 use Rattle.two_opt.specs.Rules.{rulesOf}
 use Rattle.improve_base.specs.Prefix.{prefixOf}
@@ -22,12 +22,12 @@ guarded c = start (c .before .before .before)
 
 -- what the guard says of the reversal
 guard : (c : tie.After-is-too-far) → let a = guarded c .args in
-    tooFarF (lookupF (now (a .distances)) (a .size)) (rulesOf (a .rules)) (a .i) (a .j) (now (a .current)) ≡ c .is-too-far .result
+    tooFarF (numberF (now (a .distances)) (a .size)) (rulesOf (a .rules)) (a .i) (a .j) (now (a .current)) ≡ c .is-too-far .result
 guard c =
     let S = guarded c in
     let a = S .args in
-    let told = S .pre .1 .1 in
-    far-asked (lookupF (now (a .distances)) (a .size)) (rulesOf (a .rules)) (a .i) (a .j) (now (a .current)) (a .delta) (told .0) (a .tried .far) (told .1) _ (c .is-too-far .ensures)
+    let told = S .pre .1 .1 .0 in
+    far-asked (numberF (now (a .distances)) (a .size)) (rulesOf (a .rules)) (a .i) (a .j) (now (a .current)) (a .delta) (told .0) (a .tried .far) (told .1) _ (c .is-too-far .ensures)
 
 is-too-far-requires : tie.Need-is-too-far-requires
 is-too-far-requires c κs = search needs
@@ -37,7 +37,7 @@ returns c =
     let S = guarded (c .before) in
     let a = S .args in
     let t = listed (numbers (now (a .codes)) (now (a .figures))) (now (a .distances)) (now (a .times)) (a .size) in
-    (refused t (rulesOf (a .rules)) (a .i) (a .j) (now (a .current)) (a .tried .improved) (guard (c .before) ∙ c .if1 .taken), S .pre .1 .1 .1)
+    (refused t (rulesOf (a .rules)) (a .i) (a .j) (now (a .current)) (a .tried .improved) (guard (c .before) ∙ c .if1 .taken), S .pre .1 .1 .0 .1)
 
 add-end : tie.Need-add-end
 add-end c = search needs
@@ -76,7 +76,7 @@ is-allowed-requires c κs =
     let S = guarded asked-far in
     let a = S .args in
     let long = left-long (a .i) (a .j) (now (a .current)) _ (reversed .reverse .ensures) (S .pre .0 .1) (S .pre .0 .2) in
-    (S .pre .0 .0, omega (arith, long, S .pre .1 .0 .index, length-take (a .i) (now (a .current))))
+    (S .pre .0 .0, (omega (arith, long, S .pre .1 .0 .index, length-take (a .i) (now (a .current))), S .pre .1 .1 .1))
 
 mul-reverse-2 : tie.Need-mul-reverse-2
 mul-reverse-2 c = search needs
@@ -112,7 +112,7 @@ returns-2 c =
     let again = c .before .before .reverse2 .ensures in
     let back = put-back t s (a .i) (a .j) (now (a .current)) (a .tried .improved) _ (reversed .reverse .ensures) (S .pre .0 .1) (S .pre .0 .2) _ again in (
       undone t s (a .i) (a .j) (now (a .current)) (a .tried .improved) _ (reversed .reverse .ensures) near (S .pre .0 .1) (S .pre .0 .2) no _ again,
-      S .pre .1 .1 .1 ∙ ap (farF (s .limits) (lookupF (now (a .distances)) (a .size))) (sym back),
+      S .pre .1 .1 .0 .1 ∙ ap (farF (s .limits) (numberF (now (a .distances)) (a .size))) (sym back),
     )
 
 limited-distance-requires : tie.Need-limited-distance-requires

@@ -9,7 +9,7 @@ use lib.ListN.{length, take, drop}
 use denote.Ref.{now}
 use Rattle.basics.proofs.TestLaws.{both, not-true, not-false}
 use Rattle.basics.specs.Lists.{count}
-use Rattle.distance.specs.Lookup.{lookupF}
+use Rattle.distance.specs.Lookup.{numberF}
 use Rattle.evaluation.specs.Records.{Tables, limitsOf}
 use Rattle.cut_stops.specs.Stops.{numbers, listed}
 use Rattle.two_opt.specs.Rules.{rulesOf}
@@ -30,9 +30,9 @@ Inv-loop current₀ codes figures distances times size rules prefix i known₀ n
     × (triedEachF (listed (numbers codes figures) distances times size) (rulesOf rules) i (count next (length current₀ - next)) (state current (known .improved))
     ≡ triedAllF (listed (numbers codes figures) distances times size) (rulesOf rules) (length current₀) i (state current₀ (known₀ .improved)))
     × (take i current ≡ take i current₀)
-    × (into ≡ intoF (lookupF distances size) i current)
-    × (turned ≡ reversalDeltaF (lookupF distances size) (rules .symmetric) (take (next - i) (drop i current)))
-    × (known .far ≡ farF (limitsOf (rules .limits)) (lookupF distances size) current)
+    × (into ≡ intoF (numberF distances size) i current)
+    × (turned ≡ reversalDeltaF (numberF distances size) (rules .symmetric) (take (next - i) (drop i current)))
+    × (known .far ≡ farF (limitsOf (rules .limits)) (numberF distances size) current)
 
 abbrev μ-loop : tie.MeasureT-loop
 μ-loop current₀ codes figures distances times size rules prefix i known₀ next₀ into₀ turned₀ current known next into turned = length current - next
@@ -68,7 +68,7 @@ returns c =
     let none =
     none-taken t (rulesOf (a .rules)) (a .i) run (a .tried .improved) (n .0)
     (λ rest. not-feasible t (limitsOf (a .rules .limits)) (take (a .i) run) rest (prefixOf (a .prefix)) (n .1) (s .pre .1 .0)) last in
-    (sym none, (s .pre .1 .1, refl))
+    (sym none, (s .pre .1 .1 .0, refl))
 
 add-next : tie.Need-add-next Inv-loop μ-loop
 add-next c = omega arith
@@ -77,39 +77,41 @@ leg-into-requires : tie.Need-leg-into-requires Inv-loop μ-loop
 leg-into-requires c κs = search needs
 
 turned-between-requires : tie.Need-turned-between-requires Inv-loop μ-loop
-turned-between-requires c κs = omega (arith, entry (c .before .before .before .before) .pre .0)
+turned-between-requires c κs = let s = entry (c .before .before .before .before) in (omega (arith, s .pre .0), s .pre .1 .1 .1 .0)
 
 loop-holds : tie.Need-loop-holds Inv-loop μ-loop
 loop-holds c =
     let into = c .before .before in
     let s = entry (into .before .before .before) in
-    (refl, omega arith, rw (add-one (s .args .i)), refl, into .leg-into .ensures, c .turned-between .ensures, s .pre .1 .1)
+    (refl, omega arith, rw (add-one (s .args .i)), refl, into .leg-into .ensures, c .turned-between .ensures, s .pre .1 .1 .0)
 
 add-next-2 : tie.Need-add-next-2 Inv-loop μ-loop
 add-next-2 c = search needs
 
 turned-on-requires : tie.Need-turned-on-requires Inv-loop μ-loop
 turned-on-requires c κs =
-    let l = c .before .before .loop in
-    ((l .inv .1, omega arith), l .inv .5)
+    let at = c .before .before in
+    let l = at .loop in
+    ((l .inv .1, omega arith), (l .inv .5, start at .pre .1 .1 .1 .0))
 
 two-opt-delta-requires : tie.Need-two-opt-delta-requires Inv-loop μ-loop
 two-opt-delta-requires c κs =
     let turn = c .before in
-    let l = turn .before .before .before .loop in
-    ((l .inv .1, omega arith), (l .inv .4, turn .turned-on .ensures))
+    let at = turn .before .before .before in
+    let l = at .loop in
+    ((l .inv .1, omega arith), (l .inv .4, (turn .turned-on .ensures, start at .pre .1 .1 .1 .0)))
 
 gains-requires : tie.Need-gains-requires Inv-loop μ-loop
 gains-requires c κs = search needs
 
 -- what the test says of the reversal
 gain : (c : tie.After-gains Inv-loop μ-loop) → let l = loop (c .before) .loop in let a = start (loop (c .before)) .args in
-    gainsF (lookupF (now (a .distances)) (a .size)) (rulesOf (a .rules)) (a .i) (l .next) (l .current) ≡ c .gains .result
+    gainsF (numberF (now (a .distances)) (a .size)) (rulesOf (a .rules)) (a .i) (l .next) (l .current) ≡ c .gains .result
 gain c =
     let at = loop (c .before) in
     let a = start at .args in
     let l = at .loop in
-    gains-asked (lookupF (now (a .distances)) (a .size)) (rulesOf (a .rules)) (a .i) (l .next) (l .current) _ (c .before .two-opt-delta .ensures) _ (c .gains .ensures)
+    gains-asked (numberF (now (a .distances)) (a .size)) (rulesOf (a .rules)) (a .i) (l .next) (l .current) _ (c .before .two-opt-delta .ensures) _ (c .gains .ensures)
 
 loop-less : tie.Need-loop-less Inv-loop μ-loop
 loop-less c = search needs
@@ -129,19 +131,25 @@ reverse-if-allowed-requires c κs =
     let changed = c .before .before .before in
     let at = loop changed in
     let l = at .loop in
-    ((start at .pre .0 .0, l .inv .1, omega arith), (rw (l .inv .3) (start at .pre .1 .0), (changed .two-opt-delta .ensures, l .inv .6)))
+    ((start at .pre .0 .0, l .inv .1, omega arith), (rw (l .inv .3) (start at .pre .1 .0), ((changed .two-opt-delta .ensures, l .inv .6), start at .pre .1 .1 .1)))
 
 leg-into-requires-2 : tie.Need-leg-into-requires-2 Inv-loop μ-loop
 leg-into-requires-2 c κs =
     let made = c .before .before .before in
-    let l = loop (made .before .before .before .before) .loop in
-    omega (arith, made .reverse-if-allowed .kept .0, l .inv .0, l .inv .1)
+    let changed = made .before .before .before .before in
+    let at = loop changed in
+    let l = at .loop in
+    let more = changed .before .before .before .before .loop-test .taken in
+    (omega (arith, made .reverse-if-allowed .kept .0, l .inv .0, l .inv .1, more), start at .pre .1 .1 .1 .0)
 
 turned-between-requires-2 : tie.Need-turned-between-requires-2 Inv-loop μ-loop
 turned-between-requires-2 c κs =
     let made = c .before .before .before .before .before in
-    let l = loop (made .before .before .before .before) .loop in
-    omega (arith, made .reverse-if-allowed .kept .0, l .inv .0, l .inv .1)
+    let changed = made .before .before .before .before in
+    let at = loop changed in
+    let l = at .loop in
+    let more = changed .before .before .before .before .loop-test .taken in
+    (omega (arith, made .reverse-if-allowed .kept .0, l .inv .0, l .inv .1, more), start at .pre .1 .1 .1 .0)
 
 loop-less-2 : tie.Need-loop-less-2 Inv-loop μ-loop
 loop-less-2 c = search needs

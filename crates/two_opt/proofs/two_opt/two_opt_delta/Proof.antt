@@ -26,14 +26,14 @@ add-end c = search needs
 call-at-requires : tie.Need-call-at-requires
 call-at-requires c κs = search needs
 
-get-requires : tie.Need-get-requires
-get-requires c κs = search needs
+open-leg-requires : tie.Need-open-leg-requires
+open-leg-requires c κs = search needs
 
-get-requires-2 : tie.Need-get-requires-2
-get-requires-2 c κs = search needs
+open-leg-requires-2 : tie.Need-open-leg-requires-2
+open-leg-requires-2 c κs = search needs
 
-get-requires-3 : tie.Need-get-requires-3
-get-requires-3 c κs = search needs
+open-leg-requires-3 : tie.Need-open-leg-requires-3
+open-leg-requires-3 c κs = search needs
 
 returns : tie.Need-returns
 unfolding deltaF
@@ -42,13 +42,13 @@ returns c =
     let ahead = behind .before in
     let s = ahead .before .before .before .before .before in
     rw (
-      c .get3 .ensures,
-      c .before .get2 .ensures,
-      c .before .before .get .ensures,
+      c .open-leg3 .ensures,
+      c .before .open-leg2 .ensures,
+      c .before .before .open-leg .ensures,
       behind .call-at .ensures,
       ahead .place-before .ensures,
       s .pre .1 .0,
-      s .pre .1 .1,
+      s .pre .1 .1 .0,
       add-one (s .args .j),
     )
 
@@ -63,7 +63,7 @@ two-opt-delta-spec =
     place-before-requires
     add-end
     call-at-requires
-    get-requires
-    get-requires-2
-    get-requires-3
+    open-leg-requires
+    open-leg-requires-2
+    open-leg-requires-3
     returns)

@@ -15,10 +15,10 @@ slice-relend-prefix-improve : tie.Need-slice-relend-prefix-improve
 slice-relend-prefix-improve c = search needs
 
 slice-aggregate-improve : tie.Need-slice-aggregate-improve
-slice-aggregate-improve c = let s = c .before .before .before .before .before in sym (length-take-le _ (now (s .args .current)) (s .pre))
+slice-aggregate-improve c = let s = c .before .before .before .before .before in sym (length-take-le _ (now (s .args .current)) (s .pre .0))
 
 improve-requires : tie.Need-improve-requires
-improve-requires c κs = let s = c .before .before .before .before .before in length-take-le _ (now (s .args .current)) (s .pre)
+improve-requires c κs = let s = c .before .before .before .before .before in (length-take-le _ (now (s .args .current)) (s .pre .0), s .pre .1)
 
 same-length : tie.Need-same-length
 same-length c = search needs
@@ -30,7 +30,7 @@ returns c =
     let s = lent .before .before .before .before in
     let a = s .args in
     let done = improved .improve in
-    let long = done .kept .1 .1 .1 .1 .1 .1 .0 ∙ length-take-le _ (now (a .current)) (s .pre) in
+    let long = done .kept .1 .1 .1 .1 .1 .1 .0 ∙ length-take-le _ (now (a .current)) (s .pre .0) in
     let back = given-back (done .last .1 .1 .1 .1 .1 .1 .0) (now (a .current)) (length (now (a .route))) long in
     (done .ensures .0, back ∙ ap (λ (l : List ℕ). written l (now (a .current))) (done .ensures .1))
 

@@ -6,7 +6,7 @@ use lib.ListN.{length}
 use Rattle.evaluation.specs.Records.{lent}
 use Rattle.evaluation.proofs.Reading.{read-record}
 use Rattle.visits.specs.Visiting.{restAtOf, tripOf, visitedOf}
-use Rattle.visits.proofs.Walking.{Underway, set-out, countable, turn, arrive}
+use Rattle.visits.proofs.Walking.{Underway, set-out, countable, call-open, turn, arrive}
 use borrow.Author.Needs.{needs}
 use Rattle.visits.proofs.evaluator.walk.Statement.{statement}
 use Rattle.visits.proofs.evaluator.walk.Tie as tie
@@ -32,7 +32,7 @@ loop-holds c =
     let violations = c .before in
     let visits = violations .before in
     let S = visits .before .before .before .before in
-    set-out _ _ _ _ _ _ (S .pre) (rw (visits .blank-visits .ensures)) (rw (violations .blank-violations .ensures)) (c .start .ensures)
+    set-out _ _ _ _ _ _ (S .pre .0) (S .pre .1) (rw (visits .blank-visits .ensures)) (rw (violations .blank-violations .ensures)) (c .start .ensures)
 
 mul-cid : tie.Need-mul-cid Inv-loop μ-loop
 mul-cid c = search needs
@@ -40,8 +40,10 @@ mul-cid c = search needs
 shared-slice-read-cid : tie.Need-shared-slice-read-cid Inv-loop μ-loop
 shared-slice-read-cid c = search needs
 
-leg-between-requires : tie.Need-leg-between-requires Inv-loop μ-loop
-leg-between-requires c κs = search needs
+open-leg-requires : tie.Need-open-leg-requires Inv-loop μ-loop
+open-leg-requires c κs =
+    let in-loop = c .before in
+    call-open _ _ _ _ _ _ _ _ (in-loop .before .loop .inv) (in-loop .loop-test .taken)
 
 record-index-requires : tie.Need-record-index-requires Inv-loop μ-loop
 record-index-requires c κs = search needs
@@ -116,10 +118,9 @@ loop-again c =
     let a = S .args in
     let index = indexed .record-index .ensures in
     let record-is = read-record (a .t2) (a .distances .now) (a .times .now) (a .size) _ _ _ (S .good .1 .0 .1 .0 .1) (index .0) (index .1) in
-    let leg = driven .leg-between .ensures in
     let call = visited .visit in
     turn _ _ (a .route .now) (x .visits) (x .list) (x .count) (tripOf (x .trip)) (x .i) (x .inv)
-    (visitedOf (call .result)) _ _ _ (in-loop .loop-test .taken) record-is (leg .0) (leg .1) (call .ensures .0)
+    (visitedOf (call .result)) _ _ (in-loop .loop-test .taken) record-is (driven .open-leg .ensures) (call .ensures .0)
     _ (counted .counted .ensures) (call .ensures .1 (x .i) (x .inv .load-most))
 
 returns : tie.Need-returns Inv-loop μ-loop
@@ -141,7 +142,7 @@ walk-spec =
     loop-holds
     mul-cid
     shared-slice-read-cid
-    leg-between-requires
+    open-leg-requires
     record-index-requires
     add-visit
     mul-visit

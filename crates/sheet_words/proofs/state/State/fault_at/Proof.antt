@@ -12,15 +12,15 @@ number-at-requires c κs = search needs
 
 returns : tie.Need-returns
 unfolding faultAt
-returns c called told =
+returns c called facing told differs =
     let a = c .before .before .args in
-    sym (zero-none (faults (stateWith called (a .self)) (a .i) (heldWord (a .w))) refl (sym (c .before .number-at .ensures called told) ∙ c .if1 .taken))
+    sym (zero-none (faults (stateWith called facing (a .self)) (a .i) (heldWord (a .w))) refl (sym (c .before .number-at .ensures called facing told differs) ∙ c .if1 .taken))
 
 returns-2 : tie.Need-returns-2
 unfolding faultAt
-returns-2 c called told =
+returns-2 c called facing told differs =
     let a = c .before .before .args in
-    sym (number-given (faults (stateWith called (a .self)) (a .i) (heldWord (a .w))) (c .before .number-at .result) (c .before .number-at .ensures called told) (c .if1 .left))
+    sym (number-given (faults (stateWith called facing (a .self)) (a .i) (heldWord (a .w))) (c .before .number-at .result) (c .before .number-at .ensures called facing told differs) (c .if1 .left))
 
 pub fault-at-spec : {M : Type 1} → statement M
 fault-at-spec = tie.close (tie.spec number-at-requires returns returns-2)

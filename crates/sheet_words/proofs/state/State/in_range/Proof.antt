@@ -20,6 +20,12 @@ is-demand-requires c κs = search needs
 is-penalty-requires : tie.Need-is-penalty-requires
 is-penalty-requires c κs = search needs
 
+is-leg-requires : tie.Need-is-leg-requires
+is-leg-requires c κs = search needs
+
+is-leg-requires-2 : tie.Need-is-leg-requires-2
+is-leg-requires-2 c κs = search needs
+
 cast-is-call : tie.Need-cast-is-call
 cast-is-call c = search needs
 
@@ -53,27 +59,38 @@ returns-4 c = rw (c .before .match .keys4) (c .is-penalty .ensures)
 
 returns-5 : tie.Need-returns-5
 unfolding inRange
-returns-5 c = rw (c .before .before .before .match .keys5) (c .is-call .ensures)
+returns-5 c = rw (c .before .match .keys5) (c .is-leg .ensures)
 
 returns-6 : tie.Need-returns-6
 unfolding inRange
-returns-6 c = rw (c .match .keys6)
+returns-6 c = rw (c .before .match .keys6) (c .is-leg2 .ensures)
 
 returns-7 : tie.Need-returns-7
 unfolding inRange
-returns-7 c = rw (c .before .match .keys7) (c .second-in-range .ensures)
+returns-7 c = rw (c .before .before .before .match .keys7) (c .is-call .ensures)
 
 returns-8 : tie.Need-returns-8
 unfolding inRange
-returns-8 c =
+returns-8 c = rw (c .match .keys8)
+
+returns-9 : tie.Need-returns-9
+unfolding inRange
+returns-9 c = rw (c .before .match .keys9) (c .second-in-range .ensures)
+
+returns-10 : tie.Need-returns-10
+unfolding inRange
+returns-10 c =
     let k = c .before .before .args .w .kind in
     let r = c .before .match .rest in
+    let upTo0xC = r .0 .0 .0 .0 in
     rw (
       ne-eqb k 0 (r .1),
-      ne-eqb k 1 (r .0 .0 .0 .0 .0 .0 .1),
-      ne-eqb k 2 (r .0 .0 .0 .0 .0 .1),
-      ne-eqb k 7 (r .0 .0 .0 .0 .1),
-      ne-eqb k 11 (r .0 .0 .0 .1),
+      ne-eqb k 1 (upTo0xC .0 .0 .0 .0 .1),
+      ne-eqb k 2 (upTo0xC .0 .0 .0 .1),
+      ne-eqb k 7 (upTo0xC .0 .0 .1),
+      ne-eqb k 11 (upTo0xC .0 .1),
+      ne-eqb k 12 (upTo0xC .1),
+      ne-eqb k 13 (r .0 .0 .0 .1),
       ne-eqb k 14 (r .0 .0 .1),
       ne-eqb k 15 (r .0 .1),
     )
@@ -88,6 +105,8 @@ in-range-spec =
     is-capacity-requires
     is-demand-requires
     is-penalty-requires
+    is-leg-requires
+    is-leg-requires-2
     cast-is-call
     cast-is-call-2
     is-call-requires
@@ -100,4 +119,6 @@ in-range-spec =
     returns-5
     returns-6
     returns-7
-    returns-8)
+    returns-8
+    returns-9
+    returns-10)

@@ -13,7 +13,7 @@ coming-with-requires : tie.Need-coming-with-requires
 coming-with-requires c κs = search needs
 
 returns : tie.Need-returns
-returns c called = rw (c .before .before .row-with .ensures, c .before .places-with .ensures, c .coming-with .ensures)
+returns c called facing = rw (c .before .before .row-with .ensures, c .before .places-with .ensures, c .coming-with .ensures)
 
 pub next-spec : {M : Type 1} → statement M
 next-spec =
