@@ -17,7 +17,7 @@ use Rattle.evaluation.specs.Records.{limitsOf}
 use Rattle.cut_rows.specs.Runs.{Instance, lent}
 use Rattle.improve_base.specs.declared.search.Search.{Search}
 use Rattle.improve_base.specs.Search.{SearchF, searchOf, searchF}
-use Rattle.route_elimination.specs.Insertion.{GivenF, lentGiven}
+use Rattle.place_choice.specs.Insertion.{GivenF, lentGiven}
 use Rattle.route_elimination.specs.Elimination.{eliminatedF, Counts}
 use Rattle.bench_timing.specs.Every.{everyEnds}
 use Rattle.bench_timing.specs.Work.{givenOf, runsLeft}

@@ -20,7 +20,7 @@ use Rattle.split.specs.Bare.{bareOf}
 use Rattle.improve_base.specs.Leg.{shut}
 use Rattle.improve_base.specs.Search.{SearchF, searchF}
 use Rattle.two_opt.specs.TwoOpt.{improvedDistanceF}
-use Rattle.route_elimination.specs.Insertion.{GivenF}
+use Rattle.place_choice.specs.Insertion.{GivenF}
 use Rattle.route_elimination.specs.Elimination.{eliminatedF}
 use Rattle.sheet_loaded.specs.declared.load.Loaded.{Loaded}
 use Rattle.bench_timing.specs.declared.work.Work.{Work}

@@ -18,10 +18,10 @@ use Rattle.evaluation.specs.Image as Evaluation
 use Rattle.evaluation.proofs.ChecksExact.{checks-exact}
 use Rattle.improve_base.specs.Search.{SearchF, searchF, told}
 use Rattle.models.specs.Load.{spaceOf}
-use Rattle.route_elimination.specs.Insertion.{GivenF}
+use Rattle.place_choice.specs.Insertion.{GivenF}
 use Rattle.route_elimination.specs.Elimination.{eliminatedF}
-use Rattle.route_elimination.specs.Image.{Image}
-use Rattle.route_elimination.proofs.EliminationExact.{elimination-exact}
+use Rattle.elimination_exact.specs.Image.{Image}
+use Rattle.elimination_exact.proofs.EliminationExact.{elimination-exact}
 use Rattle.call_improvers.proofs.ImproverAnswers.{Asked, lentWith, tablesIn, meantWith, Matches}
 
 -- what the code is given, by what it is told of the sheet

@@ -12,3 +12,4 @@ pub mod Leading
 pub mod LegExact
 pub mod GainExact
 pub mod RouteExact
+pub mod FarExact

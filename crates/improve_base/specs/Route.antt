@@ -1,9 +1,12 @@
 -- The distance of a run on floats, in the code's order of sums. Definitions only.
 use Prim.Native.Nat.{ℕ}
+use mathlib.Core.Bool.{cond}
 use mathlib.Core.List.{List, [], _∷_}
 use lib.Ieee as Ieee
 use lib.Ieee.{Float, binary64}
+use Rattle.basics.specs.Options.{present}
 use Rattle.whole.specs.Whole.{fl}
+use Rattle.evaluation.specs.Records.{LimitsF}
 
 module _ (leg : ℕ → ℕ → Float) where
   -- from a through the calls and home, on top of what is gone already
@@ -15,3 +18,7 @@ module _ (leg : ℕ → ℕ → Float) where
   unfoldable pub routeDistanceF : List ℕ → Float
   routeDistanceF [] = fl 0
   routeDistanceF (c ∷ cs) = homeF (leg 0 c) c cs
+
+-- reckoned where it is limited
+unfoldable pub farF : LimitsF → (ℕ → ℕ → Float) → List ℕ → Float
+farF limits leg run = cond (present (limits .maxDistance)) (routeDistanceF leg run) (fl 0)

@@ -11,7 +11,7 @@ use Rattle.definitions.specs.RunList.{runsFrom, runsOf, callsOf, endsOf}
 use Rattle.theorems.proofs.RunListLaws.{RiseTo, calls-back, ends-many}
 use Rattle.improve_runs.specs.RunLists.{Runs, runsIn, Sound}
 use Rattle.improve_runs.proofs.Holding.{rises-to, held, calls-are, ends-are}
-use Rattle.route_elimination.specs.Insertion.{GivenF}
+use Rattle.place_choice.specs.Insertion.{GivenF}
 use Rattle.route_elimination.specs.Elimination.{eliminatedF, Counts}
 use Rattle.route_elimination.proofs.Fewer.{eliminated-fewer}
 

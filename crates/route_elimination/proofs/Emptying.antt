@@ -14,7 +14,8 @@ use Rattle.improve_runs.specs.Least.{bySeats}
 use Rattle.improve_base.specs.Route.{routeDistanceF}
 use Rattle.route_elimination.specs.declared.placing.Placed.{Placed}
 use Rattle.route_elimination.specs.declared.placing.Placed.the-variants.{All, NotAll}
-use Rattle.route_elimination.specs.Insertion.{GivenF, PlacedF, legF, demandF, isAll, placedOf, placeAllF}
+use Rattle.place_choice.specs.Insertion.{GivenF, legF, demandF}
+use Rattle.route_elimination.specs.Placing.{PlacedF, isAll, placedOf, placeAllF}
 use Rattle.route_elimination.specs.Elimination.{finiteF, savedF, emptiedF}
 
 -- the run as it is lent, and what it saves

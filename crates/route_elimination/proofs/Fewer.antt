@@ -19,9 +19,10 @@ use Rattle.improve_runs.specs.RunLists.{insertAt, putIn}
 use Rattle.improve_runs.specs.Least.{bySeats}
 use Rattle.improve_runs.proofs.RunParts.{length-put}
 use Rattle.improve_runs.proofs.Sorting.{sort-length}
-use Rattle.route_elimination.specs.declared.insertion.Spot.{Spot}
-use Rattle.route_elimination.specs.declared.tested.Mover.{Mover}
-use Rattle.route_elimination.specs.Insertion.{GivenF, PlacedF, demandF, moverF, putAt, bestF, placeF, placeAllF}
+use Rattle.place_choice.specs.declared.insertion.Spot.{Spot}
+use Rattle.place_choice.specs.declared.tested.Mover.{Mover}
+use Rattle.place_choice.specs.Insertion.{GivenF, demandF, bestF}
+use Rattle.route_elimination.specs.Placing.{PlacedF, moverF, putAt, placeF, placeAllF}
 use Rattle.route_elimination.specs.Elimination.{finiteF, savedF, emptiedF, firstEmptiedF, searchF, searchesF, eliminatedF}
 
 -- the calls of all runs

@@ -18,7 +18,7 @@ use Rattle.improve_runs.specs.Least.{leastAt, byLength}
 use Rattle.improve_runs.proofs.Holding.{held}
 use Rattle.improve_runs.proofs.Least.{none-left, picked-inside, picked, picked-all}
 use Rattle.improve_runs.proofs.Sorting.{count-below}
-use Rattle.route_elimination.specs.Insertion.{GivenF}
+use Rattle.place_choice.specs.Insertion.{GivenF}
 use Rattle.route_elimination.specs.Elimination.{partAt, emptiedF, firstEmptiedF, searchF, searchesF, eliminatedF, Tries}
 use Rattle.route_elimination.proofs.Ordering.{order-is}
 use Rattle.route_elimination.proofs.Fewer.{Fewer, search-fewer, non-empty-fewer}

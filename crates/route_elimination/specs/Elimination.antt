@@ -18,7 +18,8 @@ use Rattle.improve_base.specs.Route.{routeDistanceF}
 use Rattle.improve_runs.specs.RunLists.{Runs, Sound, runsIn, runAt}
 use Rattle.improve_runs.specs.Least.{bySeats}
 use Rattle.route_elimination.specs.declared.route_elimination.Left.{Left}
-use Rattle.route_elimination.specs.Insertion.{GivenF, PlacedF, legF, demandF, placeAllF}
+use Rattle.place_choice.specs.Insertion.{GivenF, legF, demandF}
+use Rattle.route_elimination.specs.Placing.{PlacedF, placeAllF}
 
 -- neither infinite nor NaN
 abbrev pub finiteF : Float → Bool

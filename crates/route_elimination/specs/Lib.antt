@@ -1,8 +1,4 @@
--- Whether a run has room for one more.
-pub mod Loads
--- Where a customer may go, and what it adds there.
-pub mod Insertion
+-- The customers of a run placed.
+pub mod Placing
 -- Elimination on floats.
 pub mod Elimination
--- A sheet of whole numbers, held in floats.
-pub mod Image

@@ -1,9 +1,4 @@
 // Route elimination (local_search/route_elimination.rs): a run goes when the others take its calls for less than it
 // costs.
-pub mod bound;
-pub mod chosen;
-pub mod insertion;
-pub mod loads;
 pub mod placing;
 pub mod route_elimination;
-pub mod tested;

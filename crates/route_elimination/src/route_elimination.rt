@@ -10,11 +10,10 @@ ghost use Rattle.evaluation.specs.Tables.{Asks};
 ghost use Rattle.cut_stops.specs.Stops.{numbers, Long, recordsIn};
 ghost use Rattle.improve_base.specs.Leg.{AllOpen};
 ghost use Rattle.improve_runs.specs.RunLists.{room, Sound, runs, runsIn};
-ghost use Rattle.route_elimination.specs.Insertion.{givenIn, lentGiven};
+ghost use Rattle.place_choice.specs.Insertion.{givenIn, lentGiven};
 ghost use Rattle.route_elimination.specs.Elimination.{finiteF, partAt, Tries, emptiedF, eliminatedF, Eliminates, lists, Leaves};
 use crate::placing::all_placed;
 use crate::placing::place_all;
-use crate::tested::Given;
 use cut_stops::stops::ALL_CODES;
 use cut_stops::stops::ALL_FIGURES;
 use cut_table::held::number;
@@ -34,6 +33,7 @@ use improve_runs::runs::take_over;
 use improve_runs::runs::without_run;
 use models::customer::Customer;
 use models::load::Space;
+use place_choice::tested::Given;
 use whole::infinity;
 
 // How many calls and runs are left.

@@ -11,7 +11,7 @@ use borrow.Author.Tests.{lt-ltb, le-ltb, ltb-true, leb-true}
 use Rattle.basics.proofs.TestLaws.{and-left, and-right}
 use Rattle.definitions.specs.Domain.{mostCalls}
 use Rattle.definitions.specs.Refusals.{endsFall}
-use Rattle.route_elimination.specs.Insertion.{GivenF}
+use Rattle.place_choice.specs.Insertion.{GivenF}
 use Rattle.test_runs.specs.Along.{follows, Short}
 use Rattle.test_lists.specs.Answers.{answerWords, isCounted, counted, behind, EndsAt, listAlike}
 use Rattle.test_lists.proofs.Whole.{read-whole}

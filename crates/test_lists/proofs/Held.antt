@@ -14,7 +14,7 @@ use Rattle.evaluation.specs.Records.{LimitsF}
 use Rattle.cut_stops.specs.Stops.{Below64}
 use Rattle.cut_exact.proofs.Exact.{below-64}
 use Rattle.improve_base.specs.Search.{searchF}
-use Rattle.route_elimination.specs.Insertion.{GivenF}
+use Rattle.place_choice.specs.Insertion.{GivenF}
 use Rattle.sheet_loaded.specs.declared.load.Loaded.{Loaded}
 use Rattle.sheet_loaded.specs.Loaded.{Arrays, Holds}
 use Rattle.sheet_loaded.proofs.Loading.{calls-are}

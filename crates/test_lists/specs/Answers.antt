@@ -17,8 +17,8 @@ use Rattle.models.specs.Image.{flCustomer}
 use Rattle.evaluation.specs.Image.{flLimits}
 use Rattle.sheet_read.specs.Parts.{depots}
 use Rattle.improve_base.specs.Search.{searchF}
-use Rattle.route_elimination.specs.Insertion.{GivenF}
 use Rattle.cut_rows.specs.Runs.{Instance}
+use Rattle.place_choice.specs.Insertion.{GivenF}
 use Rattle.split_tw.specs.Answer.{ResultF}
 use Rattle.split_tw.specs.SplitTw.{splitTwF}
 use Rattle.split.specs.Bare.{bareOf}

@@ -4,7 +4,7 @@ use mathlib.Core.Bool.{false}
 use Rattle.basics.proofs.TestLaws.{or-right}
 use Rattle.improve_base.specs.Leg.{AllOpen, shut}
 use Rattle.improve_base.proofs.OpenLegs.{both-open}
-use Rattle.route_elimination.specs.Insertion.{GivenF}
+use Rattle.place_choice.specs.Insertion.{GivenF}
 use Rattle.test_runs.specs.Runs.{pays, unimproved}
 
 pub taken-open : (G : GivenF) → unimproved G ≡ false → AllOpen (G .tables .distances) × AllOpen (G .tables .times)

@@ -17,7 +17,7 @@ use Rattle.visits.specs.Building.{buildRouteF}
 use Rattle.improve_base.specs.Leg.{AllOpen, shut}
 use Rattle.improve_base.specs.Search.{searchF}
 use Rattle.two_opt.specs.TwoOpt.{improvedF, improvedDistanceF}
-use Rattle.route_elimination.specs.Insertion.{GivenF}
+use Rattle.place_choice.specs.Insertion.{GivenF}
 use Rattle.route_elimination.specs.Elimination.{eliminatedF}
 use Rattle.sheet_loaded.specs.declared.load.Loaded.{Loaded}
 use Rattle.test_runs.specs.declared.runs.Topic.{Topic}

@@ -18,7 +18,8 @@ use Rattle.two_opt.specs.Rules.{RulesF}
 use Rattle.improve_base.specs.Prefix.{PrefixF, feasibleFromF, Leads}
 use Rattle.improve_base.proofs.Leading.{asked}
 use Rattle.two_opt.specs.Delta.{deltaF}
-use Rattle.two_opt.specs.TwoOpt.{State, state, gainsF, farF, tooFarF, allowedF, reversedF}
+use Rattle.improve_base.specs.Route.{farF}
+use Rattle.two_opt.specs.TwoOpt.{State, state, gainsF, tooFarF, allowedF, reversedF}
 
 -- ---- the stretch inside the lent list
 

@@ -46,7 +46,8 @@ use Rattle.two_opt.specs.Delta.{deltaF}
 use Rattle.two_opt.specs.TwoOpt.{State, state, mostPasses, allowedF, gainsF, tooFarF, reversedF, triedF, triedEachF, triedAllF, passFromF, passF, passesF, improvedF, improvedDistanceF}
 use Rattle.two_opt.proofs.Trying.{length-turned}
 use Rattle.two_opt.proofs.DeltaExact.{gain-exact, far-exact}
-use Rattle.two_opt.proofs.FarExact.{far-infeasible, guard-exact}
+use Rattle.improve_base.proofs.FarExact.{guard-exact}
+use Rattle.two_opt.proofs.FarExact.{far-infeasible}
 
 -- the numbers k, k + 1 and so on, n of them, are from k on and below k + n
 counted : (k n : ℕ) → All (λ (j : ℕ). (k ≤ j) × (j < k + n)) (count k n)

@@ -5,16 +5,14 @@ use mathlib.Core.List.{List, [], _∷_}
 use lib.ListN.{length}
 use lib.Ieee as Ieee
 use lib.Ieee.{Float, binary64}
-use Rattle.basics.specs.Options.{present}
 use Rattle.basics.specs.Lists.{count}
 use Rattle.definitions.specs.TwoOpt.{turned}
-use Rattle.whole.specs.Whole.{fl}
 use Rattle.models.specs.Limits.{withinF}
-use Rattle.evaluation.specs.Records.{Tables, LimitsF}
+use Rattle.evaluation.specs.Records.{Tables}
 use Rattle.evaluation.specs.Route.{feasibleF}
 use Rattle.improve_base.specs.Leg.{distanceF}
 use Rattle.improve_base.specs.Search.{SearchF}
-use Rattle.improve_base.specs.Route.{routeDistanceF}
+use Rattle.improve_base.specs.Route.{routeDistanceF, farF}
 use Rattle.two_opt.specs.Rules.{RulesF, rulesF}
 use Rattle.two_opt.specs.Delta.{deltaF}
 
@@ -34,10 +32,6 @@ mostPasses = 1290000000
 -- turning the calls from i up to and with j gains enough to count
 abbrev pub gainsF : (ℕ → ℕ → Float) → RulesF → ℕ → ℕ → List ℕ → Bool
 gainsF leg s i j run = Ieee.lt (deltaF leg (s .symmetric) i j run) (Ieee.neg (s .floor))
-
--- the distance of a run, reckoned where it is limited
-unfoldable pub farF : LimitsF → (ℕ → ℕ → Float) → List ℕ → Float
-farF limits leg run = cond (present (limits .maxDistance)) (routeDistanceF leg run) (fl 0)
 
 -- with the calls from i up to and with j turned, a run is longer than its limit
 unfoldable pub tooFarF : (ℕ → ℕ → Float) → RulesF → ℕ → ℕ → List ℕ → Bool

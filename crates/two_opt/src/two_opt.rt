@@ -2,21 +2,20 @@
 // allowed, it is taken. Only sheets without lateness pay and without closed legs come here.
 ghost use mathlib.Core.Path.{_≡_};
 ghost use Prim.Native.Nat.{suc, _+_, _-_, _<_, _≤_};
-ghost use mathlib.Core.Bool.{true, cond, not, _&&_};
+ghost use mathlib.Core.Bool.{true, cond, _&&_};
 ghost use lib.ListN.{length, take, drop};
 ghost use Rattle.definitions.specs.Room.{written};
 ghost use lib.Ieee as Ieee;
-ghost use Rattle.models.specs.Limits.{withinF};
-ghost use Rattle.models.specs.Records.{limitOf};
 ghost use Rattle.distance.specs.Lookup.{numberF};
 ghost use Rattle.evaluation.specs.Records.{limitsOf, lent};
 ghost use Rattle.cut_stops.specs.Stops.{numbers, Long, listed};
 ghost use Rattle.improve_base.specs.Leg.{AllOpen};
+ghost use Rattle.improve_base.specs.Route.{farF};
 ghost use Rattle.improve_base.specs.Search.{searchOf};
 ghost use Rattle.improve_base.specs.Prefix.{prefixOf, failedF, indexF, feasibleFromF, Leads};
 ghost use Rattle.two_opt.specs.Delta.{intoF, reversalDeltaF, deltaF};
 ghost use Rattle.two_opt.specs.Rules.{rulesOf};
-ghost use Rattle.two_opt.specs.TwoOpt.{state, farF, reversedF, triedAllF, passF, mostPasses, passesF, improvedF, improvedDistanceF};
+ghost use Rattle.two_opt.specs.TwoOpt.{state, reversedF, triedAllF, passF, mostPasses, passesF, improvedF, improvedDistanceF};
 use crate::reverse::reverse;
 use crate::rules::Rules;
 use crate::rules::rules_of;
@@ -32,11 +31,11 @@ use improve_base::prefix::go_on;
 use improve_base::prefix::has_failed;
 use improve_base::prefix::set_out;
 use improve_base::records::list_records;
+use improve_base::route::is_too_far;
+use improve_base::route::limited_distance;
 use improve_base::route::route_distance;
 use improve_base::search::Search;
 use models::customer::Customer;
-use models::limits::Limit;
-use models::limits::RouteLimits;
 
 // What turning the segment changes in the length of its own legs: nothing where the distances are symmetric, else each
 // leg back less the leg there.
@@ -151,26 +150,6 @@ pub fn gains(rules: Rules, delta: f64) -> bool
     ensures { λ r. ⌜ r ≡ Ieee.lt delta (Ieee.neg (rules .floor)) ⌝ }
 {
     delta < -rules.floor
-}
-
-// The distance of a run, where it is limited.
-pub fn limited_distance(limits: RouteLimits, route: &[usize], distances: &[f64], size: usize) -> f64
-    requires { ⌜ AllOpen (now distances) ⌝ }
-    ensures { λ r. ⌜ r ≡ farF (limitsOf limits) (numberF (now (distances .entry)) size) (now (route .entry)) ⌝ }
-{
-    let max = limits.max_distance;
-    match max {
-        Limit::Unlimited => 0.0,
-        Limit::At(_) => route_distance(route, distances, size),
-    }
-}
-
-// Whether a run of this distance is longer than its limit.
-pub fn is_too_far(limits: RouteLimits, far: f64) -> bool
-    ensures { λ r. ⌜ r ≡ not (withinF (limitOf (limits .«max_distance»)) far) ⌝ }
-{
-    let max = limits.max_distance;
-    !max.allows(far)
 }
 
 // The search on a run: whether a reversal is taken, and the distance of the run, where it is limited.

@@ -13,7 +13,7 @@ use Rattle.definitions.specs.Elimination.{nonEmpty}
 use Rattle.improve_runs.specs.RunLists.{room, Runs, runs, runsIn, Sound, Keeps}
 use Rattle.improve_runs.proofs.Holding.{held}
 use Rattle.improve_runs.proofs.Changing.{all-rise, lengths-are}
-use Rattle.route_elimination.specs.Insertion.{GivenF, givenIn}
+use Rattle.place_choice.specs.Insertion.{GivenF, givenIn}
 use Rattle.route_elimination.specs.Elimination.{searchF}
 use Rattle.route_elimination.proofs.Searching.{Trying, trying-first, trying-all, Pick, Turn, tried-all, tried-pick, tried-turn, Searching, searching-first, searching-over, searching-less, searching-again}
 use borrow.Author.Needs.{needs}

@@ -18,7 +18,7 @@ use Rattle.evaluation.specs.Tables.{Asks}
 use Rattle.improve_runs.specs.RunLists.{Runs, runs, runsIn, Sound}
 use Rattle.improve_runs.proofs.Holding.{lent-runs}
 use Rattle.route_elimination.specs.Elimination.{eliminatedF}
-use Rattle.route_elimination.specs.Insertion.{GivenF, givenOf, lentGiven}
+use Rattle.place_choice.specs.Insertion.{GivenF, givenOf, lentGiven}
 use Rattle.route_elimination.proofs.Answering.{Answered, answered}
 use borrow.Author.Needs.{needs}
 use Rattle.route_elimination.proofs.route_elimination.eliminate_routes.Statement.{statement}

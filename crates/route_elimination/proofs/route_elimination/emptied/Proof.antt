@@ -17,7 +17,8 @@ use Rattle.improve_runs.specs.RunLists.{Runs, runs, runsIn, Sound, runAt}
 use Rattle.improve_runs.proofs.Changing.{run-bound, run-lent, end-is}
 use Rattle.route_elimination.specs.declared.placing.Placed.{Placed}
 use Rattle.route_elimination.specs.declared.placing.Placed.the-variants.{All, NotAll}
-use Rattle.route_elimination.specs.Insertion.{GivenF, givenIn, isAll, placedOf}
+use Rattle.place_choice.specs.Insertion.{GivenF, givenIn}
+use Rattle.route_elimination.specs.Placing.{isAll, placedOf}
 use Rattle.route_elimination.specs.Elimination.{partAt, savedF, finiteF}
 use Rattle.route_elimination.proofs.Emptying.{saved-is, movedF, moved-is, not-finite, found, answered-runs, answered-sound}
 use borrow.Author.Needs.{needs}

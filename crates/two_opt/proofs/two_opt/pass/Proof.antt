@@ -13,7 +13,8 @@ use Rattle.cut_stops.specs.Stops.{numbers, listed}
 use Rattle.two_opt.specs.Rules.{rulesOf}
 use Rattle.improve_base.specs.Prefix.{prefixOf, Leads}
 use Rattle.improve_base.proofs.Leading.{leads-start, leads-next}
-use Rattle.two_opt.specs.TwoOpt.{state, farF, triedAllF, passFromF, passF}
+use Rattle.improve_base.specs.Route.{farF}
+use Rattle.two_opt.specs.TwoOpt.{state, triedAllF, passFromF, passF}
 use Rattle.two_opt.proofs.Passing.{first-more, first-done}
 use borrow.Author.Needs.{needs}
 use Rattle.two_opt.proofs.two_opt.pass.Statement.{statement}

@@ -8,7 +8,8 @@ use Rattle.distance.specs.Lookup.{numberF}
 use Rattle.cut_stops.specs.Stops.{numbers, listed}
 use Rattle.two_opt.specs.Rules.{rulesOf}
 use Rattle.improve_base.specs.Prefix.{prefixOf}
-use Rattle.two_opt.specs.TwoOpt.{farF, tooFarF}
+use Rattle.improve_base.specs.Route.{farF}
+use Rattle.two_opt.specs.TwoOpt.{tooFarF}
 use Rattle.two_opt.proofs.Trying.{made, put-back, undone, refused, left-long, allowed-from, far-asked}
 use borrow.Author.Needs.{needs}
 use Rattle.two_opt.proofs.two_opt.reverse_if_allowed.Statement.{statement}

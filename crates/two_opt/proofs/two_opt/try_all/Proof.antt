@@ -16,7 +16,8 @@ use Rattle.two_opt.specs.Rules.{rulesOf}
 use Rattle.improve_base.specs.Prefix.{prefixOf}
 use Rattle.improve_base.proofs.Leading.{not-feasible}
 use Rattle.two_opt.specs.Delta.{intoF, reversalDeltaF}
-use Rattle.two_opt.specs.TwoOpt.{state, gainsF, farF, triedEachF, triedAllF}
+use Rattle.improve_base.specs.Route.{farF}
+use Rattle.two_opt.specs.TwoOpt.{state, gainsF, triedEachF, triedAllF}
 use Rattle.two_opt.proofs.Trying.{kept, gains-asked}
 use Rattle.two_opt.proofs.Passing.{none-taken, each-passed, each-made, each-done}
 use borrow.Author.Needs.{needs}

@@ -1,0 +1,2 @@
+-- A sheet of whole numbers, held in floats.
+pub mod Image
