@@ -53,6 +53,9 @@
  * how many calls stand up to there. Calls 4 2 7 with ends 1 3 are the runs 4 and 2 7. A break place is the number of a call in its own run, from 1,
  * or 0 for no break.
  *
+ * Customers, run ends, break places and positions are stored in one byte each, which is the number itself: 1 to 63 for a customer and for a position in
+ * the sheet's calls, up to 128 for a run end and for a break place. So what one function has written another can be given as it is.
+ *
  * ---- Refusals
  *
  * Each function returns 0, or the number of a refusal. These are faults of the sheet:
@@ -70,21 +73,27 @@
  *
  *   13 a list too short: each that lizsomdur_plan writes needs room for 63; each that the other functions write, as much as the given list of its
  *      kind; and lizsomdur_mark needs a break place for each run (what it is given beyond that is not read)
- *    1 more than 128 calls, or a call that is not from 1 to places - 1
- *    5 more than 128 run ends, one below the one before it, or a last one (without any: 0) that is not the number of calls; in lizsomdur_mark also a
- *      run without calls, a break place beyond its run, or one that is not 0 on a sheet without a break
+ *    1 more than 128 calls, or a call that is not from 1 to places - 1 (a byte from 64 to 255 never is)
+ *    5 more than 128 run ends, one below the one before it, or a last one (without any: 0) that is not the number of calls (so none may be above that
+ *      number); in lizsomdur_mark also a run without calls, a break place beyond its run, or one that is not 0 on a sheet without a break
  *    4 lateness pay on a sheet for lizsomdur_reverse or lizsomdur_eliminate
  *   23 a closed leg on a sheet for one of these two, whether the runs use it or not
  *
  * lizsomdur_plan tests its lists first: with 13 it sets `word` to 0, whatever the sheet is. The other three test the sheet first, then their lists in
  * the order above; a fault of the lists leaves `word` as it was. On a refusal nothing but `word` is written. When 0 is returned, `word` stays as it
- * was, and nothing is written into a list beyond what the answer has.
+ * was, and nothing is written into a list beyond what the answer counts: each byte behind that stays as it was.
  *
  * ---- Memory
  *
  * No pointer may be NULL, not even with a length of 0. Whatever a function writes, lists and single numbers, may overlap neither what it reads nor
  * anything else that it writes. All doubles hold whole numbers, exactly. The functions keep no state and may be called from any number of threads;
  * they take no memory but the stack, of which 512 kB is enough.
+ *
+ * ---- Version
+ *
+ * LIZSOMDUR_VERSION is that of this header. Its first number changes where a program that calls the library has to be changed, the second where
+ * something is added, the third with everything else; docs/CHANGELOG.md says what is new in each. No name in the archive has the version, so the linker
+ * can't tell: link the archive that is built from the same source as this header.
  */
 #ifndef LIZSOMDUR_H
 #define LIZSOMDUR_H
@@ -95,6 +104,12 @@
 #ifdef __cplusplus
 extern "C" {
 #endif
+
+/* The version of this header: its numbers, and the same as text. */
+#define LIZSOMDUR_VERSION_MAJOR 1
+#define LIZSOMDUR_VERSION_MINOR 0
+#define LIZSOMDUR_VERSION_PATCH 0
+#define LIZSOMDUR_VERSION "1.0.0"
 
 /* The most calls that a sheet has, and so the most runs of its plan: the room that each list of lizsomdur_plan needs. */
 #define LIZSOMDUR_TOUR 63
@@ -124,11 +139,11 @@ extern "C" {
  * totals        cost and distance
  */
 uint32_t lizsomdur_plan(const uint8_t *sheet, size_t sheet_length,
-                        size_t *served, size_t served_length,
-                        size_t *run_ends, size_t run_ends_length,
-                        size_t *break_places, size_t break_places_length,
+                        uint8_t *served, size_t served_length,
+                        uint8_t *run_ends, size_t run_ends_length,
+                        uint8_t *break_places, size_t break_places_length,
                         double *break_starts, size_t break_starts_length,
-                        size_t *dropped, size_t dropped_length,
+                        uint8_t *dropped, size_t dropped_length,
                         size_t counts[3], double totals[2], size_t *word);
 
 /* Verdicts, and the values that each has. Runs, places and positions are numbered from 1. */
@@ -157,9 +172,9 @@ enum {
  * values        its values; those behind them stay as they were
  */
 uint32_t lizsomdur_mark(const uint8_t *sheet, size_t sheet_length,
-                        const size_t *calls, size_t calls_length,
-                        const size_t *ends, size_t ends_length,
-                        const size_t *places, size_t places_length,
+                        const uint8_t *calls, size_t calls_length,
+                        const uint8_t *ends, size_t ends_length,
+                        const uint8_t *places, size_t places_length,
                         size_t *word, uint32_t *verdict, double values[5]);
 
 /* Shortens one run: turns stretches of its calls around, as long as one is found that lowers the distance and makes a run that keeps windows, limits
@@ -169,8 +184,8 @@ uint32_t lizsomdur_mark(const uint8_t *sheet, size_t sheet_length,
  * distance      that of the run so made; 0 for a run without calls
  */
 uint32_t lizsomdur_reverse(const uint8_t *sheet, size_t sheet_length,
-                           const size_t *run, size_t run_length,
-                           size_t *improved, size_t improved_length,
+                           const uint8_t *run, size_t run_length,
+                           uint8_t *improved, size_t improved_length,
                            size_t *word, double *distance);
 
 /* Empties runs: puts all calls of a run into the others, as long as one is found for which that lowers the cost and where each run that takes a call
@@ -181,10 +196,10 @@ uint32_t lizsomdur_reverse(const uint8_t *sheet, size_t sheet_length,
  * counts        how many calls and runs these are
  */
 uint32_t lizsomdur_eliminate(const uint8_t *sheet, size_t sheet_length,
-                             const size_t *calls, size_t calls_length,
-                             const size_t *ends, size_t ends_length,
-                             size_t *left_calls, size_t left_calls_length,
-                             size_t *left_ends, size_t left_ends_length,
+                             const uint8_t *calls, size_t calls_length,
+                             const uint8_t *ends, size_t ends_length,
+                             uint8_t *left_calls, size_t left_calls_length,
+                             uint8_t *left_ends, size_t left_ends_length,
                              size_t *word, size_t counts[2]);
 
 #ifdef __cplusplus

@@ -1,5 +1,5 @@
 /* Calls the four functions as lizsomdur.h declares them, on one sheet with everything that a sheet may have but a table of times, and prints what they
- * answer: calls.expected says what that is.
+ * answer and each byte that they write beyond that: calls.expected says what that is.
  */
 #include <stdio.h>
 #include <string.h>
@@ -31,6 +31,12 @@ enum { CALLS = 5, FORD = 39 };
 /* What a sheet has beside the rest. */
 enum { WINDOWS = 1, CLOSED = 2 };
 
+/* What stands in every list of bytes before a call, which no answer has, and how many such bytes stand behind a list that is lent. */
+enum { OLD = 0xAA, BEHIND = 8 };
+
+/* The room of the improvers' lists: for one call more than they may be given. */
+enum { ROOM = LIZSOMDUR_CALLS + 1 };
+
 static uint8_t sheet[4 * (LENGTH(START) + CALLS + 1)];
 static size_t sheet_length;
 
@@ -40,7 +46,7 @@ static void write_word(uint32_t word) {
 }
 
 /* The sheet with these calls, with windows and penalty or without, and with the ford closed or open. */
-static void write_sheet(const size_t *calls, size_t count, int has) {
+static void write_sheet(const uint8_t *calls, size_t count, int has) {
     sheet_length = 0;
     for (size_t k = 0; k < LENGTH(START); k++)
         if (has & CLOSED && k == FORD)
@@ -48,15 +54,22 @@ static void write_sheet(const size_t *calls, size_t count, int has) {
         else if (has & WINDOWS || START[k] >> 28 < 9 || START[k] >> 28 > 0xB)
             write_word(START[k]);
     for (size_t k = 0; k < count; k++)
-        write_word(0xE0000000 | (uint32_t)calls[k]);
+        write_word(0xE0000000 | calls[k]);
     write_word(0xF0000000 | (uint32_t)(sheet_length / 4));
 }
 
-static void print_list(const char *name, const size_t *list, size_t count) {
+static void print_list(const char *name, const uint8_t *list, size_t count) {
     printf("%s", name);
     for (size_t k = 0; k < count; k++)
-        printf(" %zu", list[k]);
+        printf(" %u", (unsigned)list[k]);
     printf("\n");
+}
+
+/* Tells each byte of a list and behind it that is not as it was, beyond the count. */
+static void look_behind(const char *name, const uint8_t *list, size_t count, size_t room) {
+    for (size_t k = count; k < room; k++)
+        if (list[k] != OLD)
+            printf("  %s: byte %zu is written\n", name, k);
 }
 
 static void print_doubles(const char *name, const double *list, size_t count) {
@@ -67,19 +80,26 @@ static void print_doubles(const char *name, const double *list, size_t count) {
 }
 
 static void plan(void) {
-    size_t served[LIZSOMDUR_TOUR], ends[LIZSOMDUR_TOUR], places[LIZSOMDUR_TOUR], dropped[LIZSOMDUR_TOUR], counts[3], word = 99;
-    double starts[LIZSOMDUR_TOUR], totals[2];
-    uint32_t number = lizsomdur_plan(sheet, sheet_length, served, LIZSOMDUR_TOUR, ends, LIZSOMDUR_TOUR, places, LIZSOMDUR_TOUR,
-                                     starts, LIZSOMDUR_TOUR, dropped, LIZSOMDUR_TOUR, counts, totals, &word);
+    enum { TOUR = LIZSOMDUR_TOUR, ALL = TOUR + BEHIND };
+    uint8_t served[ALL], ends[ALL], places[ALL], dropped[ALL], *lists[] = {served, ends, places, dropped};
+    size_t counts[3] = {0, 0, 0}, word = 99;
+    double starts[TOUR], totals[2];
+    for (size_t k = 0; k < LENGTH(lists); k++)
+        memset(lists[k], OLD, ALL);
+    uint32_t number = lizsomdur_plan(sheet, sheet_length, served, TOUR, ends, TOUR, places, TOUR, starts, TOUR, dropped, TOUR, counts, totals, &word);
     printf("plan: %u word %zu\n", (unsigned)number, word);
-    if (number != 0)
-        return;
-    print_list("  served", served, counts[0]);
-    print_list("  ends", ends, counts[1]);
-    print_list("  break places", places, counts[1]);
-    print_doubles("  break starts", starts, counts[1]);
-    print_list("  dropped", dropped, counts[2]);
-    print_doubles("  cost and distance", totals, 2);
+    if (number == 0) {
+        print_list("  served", served, counts[0]);
+        print_list("  ends", ends, counts[1]);
+        print_list("  break places", places, counts[1]);
+        print_doubles("  break starts", starts, counts[1]);
+        print_list("  dropped", dropped, counts[2]);
+        print_doubles("  cost and distance", totals, 2);
+    }
+    look_behind("served", served, counts[0], ALL);
+    look_behind("ends", ends, counts[1], ALL);
+    look_behind("break places", places, counts[1], ALL);
+    look_behind("dropped", dropped, counts[2], ALL);
 }
 
 /* What the header calls a verdict, and how many values it says that one has. */
@@ -105,7 +125,7 @@ static void print_verdict(uint32_t verdict, const double *values) {
 }
 
 /* A tour, and a cutting of the same calls or, with `other` not 0, of that call in place of the first. `closed` is CLOSED or 0. */
-struct cutting { size_t tour[CALLS], count, other, ends[CALLS], places[CALLS], runs; int closed; };
+struct cutting { uint8_t tour[CALLS], count, other, ends[CALLS], places[CALLS], runs; int closed; };
 
 static const struct cutting CUTTINGS[] = {
     {{2, 1}, 2, 3, {2}, {0}, 1, 0},
@@ -124,16 +144,12 @@ static const struct cutting CUTTINGS[] = {
     {{1, 5}, 2, 0, {1, 2}, {0, 1}, 2, CLOSED},
 };
 
-static void mark(const struct cutting *cutting) {
-    size_t calls[CALLS], word = 99;
+/* The mark of some runs on the sheet as it stands. */
+static void mark_runs(const uint8_t *calls, size_t count, const uint8_t *ends, const uint8_t *places, size_t runs) {
+    size_t word = 99;
     uint32_t verdict = 0;
     double values[5];
-    memcpy(calls, cutting->tour, sizeof calls);
-    if (cutting->other != 0)
-        calls[0] = cutting->other;
-    write_sheet(cutting->tour, cutting->count, WINDOWS | cutting->closed);
-    uint32_t number = lizsomdur_mark(sheet, sheet_length, calls, cutting->count, cutting->ends, cutting->runs, cutting->places, cutting->runs,
-                                     &word, &verdict, values);
+    uint32_t number = lizsomdur_mark(sheet, sheet_length, calls, count, ends, runs, places, runs, &word, &verdict, values);
     printf("mark: %u word %zu ", (unsigned)number, word);
     if (number == 0)
         print_verdict(verdict, values);
@@ -141,36 +157,93 @@ static void mark(const struct cutting *cutting) {
         printf("refused\n");
 }
 
-static void reverse(const size_t *run, size_t count) {
-    size_t improved[CALLS], word = 99;
-    double distance = 0;
-    uint32_t number = lizsomdur_reverse(sheet, sheet_length, run, count, improved, CALLS, &word, &distance);
-    printf("reverse: %u word %zu\n", (unsigned)number, word);
-    if (number != 0)
-        return;
-    print_list("  improved", improved, count);
-    print_doubles("  distance", &distance, 1);
+static void mark(const struct cutting *cutting) {
+    uint8_t calls[CALLS];
+    memcpy(calls, cutting->tour, sizeof calls);
+    if (cutting->other != 0)
+        calls[0] = cutting->other;
+    write_sheet(cutting->tour, cutting->count, WINDOWS | cutting->closed);
+    mark_runs(calls, cutting->count, cutting->ends, cutting->places, cutting->runs);
 }
 
-static void eliminate(const size_t *calls, size_t count, const size_t *ends, size_t runs) {
-    size_t left_calls[CALLS], left_ends[CALLS], counts[2], word = 99;
-    uint32_t number = lizsomdur_eliminate(sheet, sheet_length, calls, count, ends, runs, left_calls, CALLS, left_ends, CALLS, &word, counts);
+static void reverse(const uint8_t *run, size_t count) {
+    uint8_t improved[ROOM + BEHIND];
+    size_t word = 99;
+    double distance = 0;
+    memset(improved, OLD, sizeof improved);
+    uint32_t number = lizsomdur_reverse(sheet, sheet_length, run, count, improved, ROOM, &word, &distance);
+    printf("reverse: %u word %zu\n", (unsigned)number, word);
+    if (number == 0) {
+        print_list("  improved", improved, count);
+        print_doubles("  distance", &distance, 1);
+    }
+    look_behind("improved", improved, number == 0 ? count : 0, sizeof improved);
+}
+
+static void eliminate(const uint8_t *calls, size_t count, const uint8_t *ends, size_t runs) {
+    uint8_t left_calls[ROOM + BEHIND], left_ends[ROOM + BEHIND];
+    size_t counts[2] = {0, 0}, word = 99;
+    memset(left_calls, OLD, sizeof left_calls);
+    memset(left_ends, OLD, sizeof left_ends);
+    uint32_t number = lizsomdur_eliminate(sheet, sheet_length, calls, count, ends, runs, left_calls, ROOM, left_ends, ROOM, &word, counts);
     printf("eliminate: %u word %zu\n", (unsigned)number, word);
-    if (number != 0)
-        return;
-    print_list("  calls", left_calls, counts[0]);
-    print_list("  ends", left_ends, counts[1]);
+    if (number == 0) {
+        print_list("  calls", left_calls, counts[0]);
+        print_list("  ends", left_ends, counts[1]);
+    }
+    look_behind("calls", left_calls, counts[0], sizeof left_calls);
+    look_behind("ends", left_ends, counts[1], sizeof left_ends);
 }
 
 /* Both improvers on the sheet as it stands. */
 static void improve(void) {
-    const size_t run[] = {1, 4, 2}, calls[] = {1, 2, 5, 3}, ends[] = {1, 2, 3, 4};
+    const uint8_t run[] = {1, 4, 2}, calls[] = {1, 2, 5, 3}, ends[] = {1, 2, 3, 4};
     reverse(run, LENGTH(run));
     eliminate(calls, LENGTH(calls), ends, LENGTH(ends));
 }
 
+/* The calls 1 and 2 as one run, with a byte in place of the second, of the run's end or of its break place that may not stand there. Were only a part
+ * of the byte read, some would be right.
+ */
+static void wrong_bytes(void) {
+    const uint8_t calls[] = {1, 2}, end = 2, place = 0;
+    const uint8_t no_customers[] = {0, 6, 64, 66, 130, 255}, no_ends[] = {1, 3, 66, 130, 255}, no_places[] = {3, 66, 130, 255};
+    for (size_t k = 0; k < LENGTH(no_customers); k++) {
+        const uint8_t wrong[] = {1, no_customers[k]};
+        mark_runs(wrong, LENGTH(wrong), &end, &place, 1);
+        reverse(wrong, LENGTH(wrong));
+        eliminate(wrong, LENGTH(wrong), &end, 1);
+    }
+    for (size_t k = 0; k < LENGTH(no_ends); k++) {
+        mark_runs(calls, LENGTH(calls), &no_ends[k], &place, 1);
+        eliminate(calls, LENGTH(calls), &no_ends[k], 1);
+    }
+    for (size_t k = 0; k < LENGTH(no_places); k++)
+        mark_runs(calls, LENGTH(calls), &end, &no_places[k], 1);
+}
+
+/* The most calls that there may be: as one run with its break at the last, and the same with one call more. */
+static void longest(void) {
+    uint8_t calls[LIZSOMDUR_CALLS + 1];
+    for (size_t k = 0; k < LENGTH(calls); k++)
+        calls[k] = (uint8_t)(1 + k % CALLS);
+    for (uint8_t end = LIZSOMDUR_CALLS; end <= LIZSOMDUR_CALLS + 1; end++) {
+        mark_runs(calls, end, &end, &end, 1);
+        reverse(calls, end);
+        eliminate(calls, end, &end, 1);
+    }
+}
+
+/* That the header says its version twice alike. */
+static void version(void) {
+    char numbers[32];
+    snprintf(numbers, sizeof numbers, "%d.%d.%d", LIZSOMDUR_VERSION_MAJOR, LIZSOMDUR_VERSION_MINOR, LIZSOMDUR_VERSION_PATCH);
+    printf("version: text and numbers %s\n", strcmp(numbers, LIZSOMDUR_VERSION) == 0 ? "agree" : "differ");
+}
+
 int main(void) {
-    const size_t calls[] = {1, 5, 3, 4, 2};
+    const uint8_t calls[] = {1, 5, 3, 4, 2};
+    version();
     write_sheet(calls, LENGTH(calls), WINDOWS);
     plan();
     improve();
@@ -178,6 +251,8 @@ int main(void) {
         mark(&CUTTINGS[k]);
     write_sheet(calls, LENGTH(calls), 0);
     improve();
+    wrong_bytes();
+    longest();
     write_sheet(calls, LENGTH(calls), CLOSED);
     plan();
     improve();

@@ -8,17 +8,17 @@
 /* A byte more than the longest sheet that is accepted. */
 static uint8_t sheet[34573];
 
-static void print_run(const size_t *served, size_t from, size_t to, size_t place, double start) {
+static void print_run(const uint8_t *served, size_t from, size_t to, unsigned place, double start) {
     printf("run");
     for (size_t k = from; k < to; k++)
-        printf(" %zu", served[k]);
+        printf(" %u", (unsigned)served[k]);
     if (place != 0)
-        printf(", break at call %zu from %.0f", place, start);
+        printf(", break at call %u from %.0f", place, start);
     printf("\n");
 }
 
 int main(void) {
-    size_t served[LIZSOMDUR_TOUR], ends[LIZSOMDUR_TOUR], places[LIZSOMDUR_TOUR], dropped[LIZSOMDUR_TOUR];
+    uint8_t served[LIZSOMDUR_TOUR], ends[LIZSOMDUR_TOUR], places[LIZSOMDUR_TOUR], dropped[LIZSOMDUR_TOUR];
     double starts[LIZSOMDUR_TOUR], totals[2], values[5];
     size_t counts[3], word = 0;
     uint32_t verdict;
@@ -33,10 +33,10 @@ int main(void) {
     for (size_t r = 0; r < counts[1]; r++)
         print_run(served, r == 0 ? 0 : ends[r - 1], ends[r], places[r], starts[r]);
     for (size_t k = 0; k < counts[2]; k++)
-        printf("dropped position %zu\n", dropped[k]);
+        printf("dropped position %u\n", (unsigned)dropped[k]);
     printf("cost %.0f distance %.0f\n", totals[0], totals[1]);
 
-    size_t whole_end = counts[0], no_break = 0;
+    uint8_t whole_end = (uint8_t)counts[0], no_break = 0;
     if (whole_end == 0)
         return 0;
     number = lizsomdur_mark(sheet, length, served, counts[0], &whole_end, 1, &no_break, 1, &word, &verdict, values);

@@ -2,7 +2,7 @@
 use crate::sheet::Sheet;
 use std::cmp::Ordering;
 
-/// Runs to be marked: the calls of all of them, then the end and the break place of each. Any numbers may stand there.
+/// Runs to be marked: the calls of all of them, then the end and the break place of each. Any bytes may stand there.
 #[derive(Clone)]
 pub struct Cutting {
     pub calls: Vec<usize>,

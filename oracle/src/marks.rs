@@ -112,8 +112,10 @@ fn answer(file: &[u8], cutting: &Cutting) -> String {
     }
 }
 
+/// The library takes the numbers of these lists in bytes.
 fn lines(cutting: &Cutting) -> String {
     let lists = [&cutting.calls, &cutting.ends, &cutting.places];
+    assert!(lists.iter().all(|list| list.iter().all(|&n| n < 256)));
     lists.map(|list| line(list)).concat()
 }
 

@@ -6,6 +6,9 @@ use crate::word::value;
 /// One more than a list of calls or of run ends may have.
 const TOO_MANY: usize = 129;
 
+/// The largest number that a byte holds.
+const LARGEST: usize = 255;
+
 /// The lists of a cutting of this sheet with one thing changed, or two.
 pub fn spoil(source: &mut Source, sheet: &[u32], cutting: &mut Cutting) {
     for _ in 0..1 + source.below(2) {
@@ -22,12 +25,12 @@ fn many(source: &mut Source) -> usize {
     TOO_MANY - 2 + source.below(4) as usize
 }
 
-/// The largest number, or one whose lower half is the given one.
-fn huge(source: &mut Source, number: usize) -> usize {
-    if source.one_in(2) {
-        usize::MAX
-    } else {
-        (1 << 32) | number
+/// The largest number of a byte, or one that differs from the given one in its seventh or eighth bit alone.
+fn other(source: &mut Source, number: usize) -> usize {
+    match source.below(4) {
+        0 | 1 => LARGEST,
+        2 => number ^ 0x40,
+        _ => number ^ 0x80,
     }
 }
 
@@ -40,7 +43,7 @@ fn spoil_calls(source: &mut Source, places: usize, cutting: &mut Cutting) {
     match source.below(6) {
         0 => calls[at] = 0,
         1 => calls[at] = places,
-        2 => calls[at] = huge(source, calls[at]),
+        2 => calls[at] = other(source, calls[at]),
         3 | 4 => {
             calls.resize(many(source), calls[at]);
             if let Some(end) = ends.last_mut() {
@@ -59,11 +62,11 @@ fn spoil_ends(source: &mut Source, cutting: &mut Cutting) {
     };
     match source.below(6) {
         0 => {
-            ends[at] = ends[at]
-                .saturating_add(source.below(3) as usize)
+            ends[at] = (ends[at] + source.below(3) as usize)
                 .saturating_sub(1)
+                .min(LARGEST)
         }
-        1 => ends[at] = huge(source, ends[at]),
+        1 => ends[at] = other(source, ends[at]),
         2 => ends.swap(at, at.saturating_sub(1)),
         3 => {
             ends.insert(at, ends[at]);
@@ -82,7 +85,7 @@ fn spoil_places(source: &mut Source, cutting: &mut Cutting) {
     let places = &mut cutting.places;
     match (source.index(places), source.below(4)) {
         (Some(at), 0 | 1) => places.truncate(at),
-        (Some(at), 2) => places[at] = huge(source, places[at]),
+        (Some(at), 2) => places[at] = other(source, places[at]),
         _ => places.resize(places.len() + 1 + source.below(3) as usize, TOO_MANY),
     }
 }

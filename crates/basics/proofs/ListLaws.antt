@@ -81,3 +81,8 @@ module _ {A : Type 0} (P : A → Type 0) where
   all-drop zero l a = a
   all-drop (suc n) [] a = tt
   all-drop (suc n) (x ∷ l) a = all-drop n l (a .1)
+
+pub take-map : {A B : Type 0} (g : A → B) (n : ℕ) (l : List A) → take n (map g l) ≡ map g (take n l)
+take-map g zero l = refl
+take-map g (suc n) [] = refl
+take-map {B = B} g (suc n) (x ∷ l) = ap (λ (r : List B). g x ∷ r) (take-map g n l)

@@ -139,7 +139,7 @@ module _ (arc : List ℕ → Option Arc) (P : Priced arc) where
 
 -- ---- the plan
 
-parts-few : {all held dropped : List ℕ} → Parts all held dropped → length held ≤ length all
+pub parts-few : {all held dropped : List ℕ} → Parts all held dropped → length held ≤ length all
 parts-few ended = omega arith
 parts-few (kept x P) = let h = parts-few P in omega arith
 parts-few (gone x P) = let h = parts-few P in omega arith

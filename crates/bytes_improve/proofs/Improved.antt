@@ -2,6 +2,7 @@
 use Prim.Native.Nat.{ℕ}
 use mathlib.Core.Path.{_≡_, ap, _∙_}
 use mathlib.Core.List.{List, [], _∷_}
+use mathlib.Core.Option.{some}
 use lib.ListN.{length}
 use lib.Ieee.{Float}
 use Rattle.definitions.specs.Sheet.{Sheet}
@@ -9,7 +10,8 @@ use Rattle.definitions.specs.Answers as Call
 use Rattle.definitions.specs.Lent.{reversing, eliminating}
 use Rattle.definitions.specs.RunList.{runsOf}
 use Rattle.definitions.specs.Answers.{front, Improved, Eliminated, twoOpt, eliminate, twoOptOf}
-use Rattle.definitions.specs.Room.{written}
+use Rattle.definitions.specs.Bytes.{stored}
+use Rattle.bounds.proofs.InBytes.{InBytes, reversal-in-bytes, elimination-calls-in-bytes, elimination-ends-in-bytes}
 use Rattle.whole.specs.Value.{value}
 use Rattle.models.specs.declared.customer.Customer.{Customer}
 use Rattle.models.specs.declared.head.Head.{Head}
@@ -21,6 +23,7 @@ use Rattle.call_improvers.specs.Eliminating as Checked
 use Rattle.call_improvers.specs.Eliminating.{eliminationIn, Eliminates}
 use Rattle.sheet_loaded.specs.Held.{InMemory}
 use Rattle.bytes_improve.specs.Improve.{Runs, reversedOn, eliminatedOn, RunLeft, RunsLeft}
+use Rattle.bytes_shared.specs.Lent.{lentWith}
 use Rattle.bytes_shared.proofs.OnSheet.{first, gathered, answered}
 
 module _ (s : Sheet) (tour : List ℕ) (head : Head) (array : List Customer) (distances times : List Float) (H : InMemory s tour head array distances times) where
@@ -42,7 +45,7 @@ module _ (s : Sheet) (tour : List ℕ) (head : Head) (array : List Customer) (di
     reversed-on =
         record {
           answer = said (R .answer) ∙ ap reversedIn same-reversed;
-          calls-left = said (R .calls-left) ∙ ap (λ (a : Call.Answer Improved). written (front (λ x. x .calls) a) old) same-reversed;
+          calls-left = said (R .calls-left) ∙ ap (λ (a : Call.Answer Improved). stored (front (λ x. x .calls) a) old) same-reversed;
         }
 
   -- ---- the elimination
@@ -62,6 +65,21 @@ module _ (s : Sheet) (tour : List ℕ) (head : Head) (array : List Customer) (di
     eliminated-on =
         record {
           answer = said (E .answer) ∙ ap eliminationIn same-left;
-          calls-left = said (E .calls-left) ∙ ap (λ (a : Call.Answer Eliminated). written (front (λ x. x .calls) a) (old .calls)) same-left;
-          ends-left = said (E .ends-left) ∙ ap (λ (a : Call.Answer Eliminated). written (front (λ x. x .ends) a) (old .ends)) same-left;
+          calls-left = said (E .calls-left) ∙ ap (λ (a : Call.Answer Eliminated). stored (front (λ x. x .calls) a) (old .calls)) same-left;
+          ends-left = said (E .ends-left) ∙ ap (λ (a : Call.Answer Eliminated). stored (front (λ x. x .ends) a) (old .ends)) same-left;
         }
+
+-- ---- each number that they leave is one that a byte holds
+
+pub reversed-in-bytes : (s : Sheet) (run lent : List ℕ) → InBytes (front (λ x. x .calls) (reversedOn s run lent))
+unfolding reversedOn
+reversed-in-bytes s run lent = reversal-in-bytes some (lentWith s [] run [] [] (length lent ∷ []))
+
+module _ (s : Sheet) (given lent : Runs) where
+  pub left-calls-in-bytes : InBytes (front (λ x. x .calls) (eliminatedOn s given lent))
+  unfolding eliminatedOn
+  left-calls-in-bytes = elimination-calls-in-bytes some (lentWith s [] (given .calls) (given .ends) [] (length (lent .calls) ∷ length (lent .ends) ∷ []))
+
+  pub left-ends-in-bytes : InBytes (front (λ x. x .ends) (eliminatedOn s given lent))
+  unfolding eliminatedOn
+  left-ends-in-bytes = elimination-ends-in-bytes some (lentWith s [] (given .calls) (given .ends) [] (length (lent .calls) ∷ length (lent .ends) ∷ []))

@@ -7,7 +7,7 @@ use lib.ListN.{length}
 use Rattle.definitions.specs.Sheet.{Sheet}
 use Rattle.definitions.specs.Reader.{sheet, read}
 use Rattle.definitions.specs.Answers.{Answer, front, Improved, Eliminated, twoOptOf, eliminateOf}
-use Rattle.definitions.specs.Room.{written}
+use Rattle.definitions.specs.Bytes.{stored}
 use Rattle.call_improvers.specs.declared.reversing.Reversed.{Reversed}
 use Rattle.call_improvers.specs.declared.eliminating.Elimination.{Elimination}
 use Rattle.call_improvers.specs.Reversing.{reversedIn}
@@ -37,12 +37,12 @@ eliminatedOn s given lent =
 
 pub record RunLeft (a : Answer Improved) (old : List ℕ) (r : Reversed) (new : List ℕ) : Type 0 where
   pub answer : r ≡ reversedIn a
-  pub calls-left : new ≡ written (front (λ x. x .calls) a) old
+  pub calls-left : new ≡ stored (front (λ x. x .calls) a) old
 
 pub record RunsLeft (a : Answer Eliminated) (old : Runs) (r : Elimination) (new : Runs) : Type 0 where
   pub answer : r ≡ eliminationIn a
-  pub calls-left : new .calls ≡ written (front (λ x. x .calls) a) (old .calls)
-  pub ends-left : new .ends ≡ written (front (λ x. x .ends) a) (old .ends)
+  pub calls-left : new .calls ≡ stored (front (λ x. x .calls) a) (old .calls)
+  pub ends-left : new .ends ≡ stored (front (λ x. x .ends) a) (old .ends)
 
 -- ---- that, on the sheet that the bytes are
 

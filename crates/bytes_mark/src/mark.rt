@@ -1,5 +1,6 @@
 // The mark on an accepted sheet: its bytes are read into arrays, and the runs given are marked against the plan of its
 // tour.
+ghost use Rattle.definitions.specs.Bytes.{numbersOf};
 ghost use Rattle.sheet_loaded.specs.Held.{Found};
 ghost use Rattle.bytes_mark.specs.Mark.{givenRuns, SheetMarked};
 use call_cuts::marking::Marking;
@@ -7,17 +8,18 @@ use cut_table::cells::MOST_CUT;
 use sheet_loaded::load::load;
 use sheet_read::read::Contents;
 
-// The marker's answer for the runs given; `breaks` has a break place for each run, from 1, or 0 for none.
+// The marker's answer for the runs given, in bytes; `breaks` has a break place for each run, from 1, or 0 for none.
 pub fn mark_sheet(
     bytes: &[u8],
     found: Contents,
-    calls: &[usize],
-    ends: &[usize],
-    breaks: &[usize],
+    calls: &[u8],
+    ends: &[u8],
+    breaks: &[u8],
 ) -> Marking
     requires { ⌜ Found (now bytes) found ⌝ }
     ensures { λ r.
-        let given = givenRuns (now (calls .entry)) (now (ends .entry)) (now (breaks .entry)) in
+        let given = givenRuns (numbersOf (now (calls .entry))) (numbersOf (now (ends .entry)))
+        (numbersOf (now (breaks .entry))) in
         ⌜ SheetMarked (now (bytes .entry)) given r ⌝ }
 {
     let mut distances = [0.0; 4096];

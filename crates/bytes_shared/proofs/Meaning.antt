@@ -7,6 +7,7 @@ use mathlib.Core.Option.{Option, none, some, Option·map}
 use lib.ListN.{length-map, take}
 use Rattle.basics.specs.Options.{present}
 use Rattle.basics.specs.Lists.{isEmpty, any}
+use Rattle.basics.proofs.ListLaws.{take-map}
 use Rattle.definitions.specs.Domain.{isPenalty, isNumber, isClosed, closedApart, isLeg}
 use Rattle.definitions.specs.Sheet.{WindowOf, BreakOf, CustomerOf, SheetOf, Sheet, records, mapWindow, mapBreak, mapCustomer, mapSheet, soft, anySoft}
 use Rattle.definitions.specs.Lent.{Lent, whole, wholeSheet, Call}
@@ -16,11 +17,6 @@ use Rattle.definitions.specs.Answers.{unlessRefused, answer}
 -- ---- maps
 
 module _ {A B : Type 0} (g : A → B) where
-  pub take-map : (n : ℕ) (l : List A) → take n (map g l) ≡ map g (take n l)
-  take-map zero l = refl
-  take-map (suc n) [] = refl
-  take-map (suc n) (x ∷ l) = ap (λ (r : List B). g x ∷ r) (take-map n l)
-
   any-map : (p : A → Bool) (q : B → Bool) → ((x : A) → q (g x) ≡ p x) → (l : List A) → any q (map g l) ≡ any p l
   any-map p q h [] = refl
   any-map p q h (x ∷ l) = ap₂ _||_ (h x) (any-map p q h l)

@@ -7,6 +7,7 @@ use mathlib.Core.Option.{some}
 use lib.ListN.{length, length-map, take}
 use lib.Seq.{take-all}
 use lib.Ieee.{Float}
+use Rattle.basics.proofs.ListLaws.{take-map}
 use Rattle.definitions.specs.Sheet.{SheetOf, Sheet}
 use Rattle.definitions.specs.Lent.{Call}
 use Rattle.definitions.specs.Answers.{answer}
@@ -19,7 +20,6 @@ use Rattle.models.specs.Image.{flCustomer, flSheet}
 use Rattle.refuse_order.specs.Lent.{sheetOf, lentOf, Gathered}
 use Rattle.sheet_loaded.specs.Held.{InMemory}
 use Rattle.bytes_shared.specs.Lent.{lentWith}
-use Rattle.bytes_shared.proofs.Meaning.{take-map}
 use Rattle.bytes_shared.proofs.InFloats.{whole-answer}
 
 module _ (s : Sheet) (tour : List ℕ) (head : Head) (array : List Customer) (distances times : List Float) (H : InMemory s tour head array distances times) where

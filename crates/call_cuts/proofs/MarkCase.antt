@@ -1,16 +1,20 @@
 -- On an accepted sheet the mark as the code has it, against the planner's cut of the tour, holds that of the sheet that is meant. Assumes nothing.
 use Prim.Native.Nat.{ℕ, _≤_}
+use native.Mathlib.Omega.{arith}
 use mathlib.Core.Path.{_≡_, ap, _∙_}
 use mathlib.Core.List.{List, []}
+use lib.ListN.{length, take}
 use lib.Ieee.{Float}
 use Rattle.definitions.specs.Sheet.{Sheet}
 use Rattle.definitions.specs.Clock.{arc}
 use Rattle.definitions.specs.Drop.{splitTw}
+use Rattle.definitions.specs.Run.{Run}
 use Rattle.definitions.specs.Lent.{Lent, marking}
 use Rattle.definitions.specs.RunList.{runsOf}
 use Rattle.definitions.specs.Marker as Whole
 use Rattle.definitions.specs.Marker.{withPlaces}
 use Rattle.theorems.proofs.Accepted.{Accepted}
+use Rattle.theorems.proofs.GivenRuns.{with-first, runs-many}
 use Rattle.bounds.proofs.Inside.{sized, few-calls}
 use Rattle.bounds.proofs.CostBoundLaws.{arc-priced, plan-fits}
 use Rattle.whole.specs.Value.{value}
@@ -18,23 +22,21 @@ use Rattle.whole.specs.Whole.{limit}
 use Rattle.models.specs.declared.customer.Customer.{Customer}
 use Rattle.refuse_order.specs.Lent.{Gathered}
 use Rattle.split_tw.specs.Answer.{ResultF}
-use Rattle.cut_rows.specs.Runs.{lent}
 use Rattle.split_tw.specs.SplitTw.{splitTwF}
 use Rattle.cut_exact.proofs.Image.{flResult}
 use Rattle.marker.specs.declared.verdict.Verdict as Code
-use Rattle.marker.specs.RunMark.{groundOf}
+use Rattle.marker.specs.RunMark.{Ground, groundOf}
 use Rattle.marker.specs.Marks.{markF}
 use Rattle.marker.specs.Image.{Image, flVerdict}
 use Rattle.marker.proofs.MarkExact.{mark-exact}
-use Rattle.call_cuts.specs.Marking.{markLent}
+use Rattle.call_cuts.specs.Stored.{timedOf}
+use Rattle.call_cuts.specs.Marking.{markLent, markedF}
 use Rattle.call_cuts.proofs.CutAnswers.{Asked, meantWith, Matches}
 use Rattle.call_cuts.proofs.SplitCase.{timed-holds, split-tw-holds}
 
 -- the planner's cut, as the code reckons it
-abbrev pub cutF : Asked → ResultF
-cutF Q =
-    let h = Q .head in
-    splitTwF (lent (Q .array) (Q .distances) (Q .times) (h .places) (h .capacity) (h .«fixed_cost») (h .limits)) (Q .tour)
+abbrev cutF : Asked → ResultF
+cutF Q = splitTwF (timedOf (Q .head) (Q .array) (Q .distances) (Q .times)) (Q .tour)
 
 -- the runs that are marked, with their break places
 pub record Given : Type 0 where
@@ -46,9 +48,9 @@ pub record Given : Type 0 where
 abbrev pub marked : Asked → Given → Sheet → Whole.Verdict
 marked Q R s = Whole.mark s (Q .tour) (withPlaces (runsOf (R .calls) (R .ends)) (R .places))
 
--- as the code reckons it, against these served calls and their cost
-abbrev pub markBy : Asked → Given → List ℕ → Float → Code.Verdict
-markBy Q R served cost = markF (groundOf (Q .array) (Q .distances) (Q .times) (Q .head)) served cost (R .calls) (R .ends) (R .places)
+-- as the code reckons it, with these break places
+abbrev pub markBy : Asked → Given → List ℕ → Code.Verdict
+markBy Q R places = markedF (Q .head) (Q .array) (Q .distances) (Q .times) (Q .tour) (R .calls) (R .ends) places
 
 abbrev pub lentWith : Asked → Given → List Customer → Lent Float
 lentWith Q R cs = markLent (Q .head) cs (Q .distances) (Q .times) (Q .tour) (R .calls) (R .ends) (R .places)
@@ -61,7 +63,10 @@ module _ (Q : Asked) (R : Given) (customers : List Customer) (G : Gathered custo
   cut-holds : cutF Q ≡ flResult (splitTw s (Q .tour))
   cut-holds = split-tw-holds marking Q (R .calls) (R .ends) (R .places) [] customers G accepted held
 
-  ground-holds : Image s (groundOf (Q .array) (Q .distances) (Q .times) (Q .head))
+  abbrev ground : Ground
+  ground = groundOf (Q .array) (Q .distances) (Q .times) (Q .head)
+
+  ground-holds : Image s ground
   ground-holds =
       let h = timed-holds marking Q (R .calls) (R .ends) (R .places) [] customers G accepted held in
       record { tables-hold = h .tables-hold; capacity-holds = h .capacity-holds; fixed-holds = h .fixed-holds; limits-hold = h .limits-hold }
@@ -70,8 +75,11 @@ module _ (Q : Asked) (R : Given) (customers : List Customer) (G : Gathered custo
   unfolding splitTw
   paid = let S = sized s (accepted .within) in plan-fits (arc s) (arc-priced s S) (Q .tour) (few-calls s (Q .tour) (accepted .tour)) s S .0
 
-  pub mark-holds : markBy Q R (cutF Q .served) (cutF Q .cost) ≡ flVerdict (marked Q R s)
-  mark-holds =
-      ap (λ (x : ResultF). markBy Q R (x .served) (x .cost)) cut-holds
-      ∙ mark-exact s (accepted .within) (groundOf (Q .array) (Q .distances) (Q .times) (Q .head)) ground-holds (splitTw s (Q .tour)) paid
-      (R .calls) (accepted .calls) (R .ends) (accepted .runs .ends) (accepted .runs .some-call) (R .places)
+  -- with the first of the places, one for each run
+  pub mark-holds : (n : ℕ) → length (R .ends) ≤ n → markBy Q R (take n (R .places)) ≡ flVerdict (marked Q R s)
+  mark-holds n many =
+      ap (λ (x : ResultF). markF ground (x .served) (x .cost) (R .calls) (R .ends) (take n (R .places))) cut-holds
+      ∙ mark-exact s (accepted .within) ground ground-holds (splitTw s (Q .tour)) paid
+      (R .calls) (accepted .calls) (R .ends) (accepted .runs .ends) (accepted .runs .some-call) (take n (R .places))
+      ∙ ap (λ (runs : List Run). flVerdict (Whole.mark s (Q .tour) runs))
+      (with-first (runsOf (R .calls) (R .ends)) (R .places) n (omega (arith, many, runs-many 0 (R .calls) (R .ends))))

@@ -12,14 +12,14 @@ use Rattle.theorems.proofs.Accepted.{Accepted}
 use Rattle.whole.specs.Value.{value}
 use Rattle.models.specs.declared.customer.Customer.{Customer}
 use Rattle.refuse_order.specs.Lent.{sheetOf, lentOf, Gathered}
-use Rattle.cut_rows.specs.Runs.{Instance, lent}
-use Rattle.split.specs.Split.{bareLent}
+use Rattle.cut_rows.specs.Runs.{Instance}
 use Rattle.split_tw.specs.SplitTw.{splitTwF}
 use Rattle.cut_exact.proofs.Image.{flResult}
 use Rattle.cut_exact.proofs.SplitTwExact.{ImageTw}
 use Rattle.cut_exact.proofs.BareImage.{bare-image}
 use Rattle.cut_exact.proofs.Exact.{split-exact, split-tw-exact}
 use Rattle.call_shared.proofs.Accepting.{limits-held, tables-hold}
+use Rattle.call_cuts.specs.Stored.{plainOf, timedOf}
 use Rattle.call_cuts.proofs.CutAnswers.{Asked, meantWith, Matches}
 
 module _ (k : Call) (Q : Asked) (calls ends breaks rooms : List ℕ) (customers : List Customer)
@@ -31,10 +31,10 @@ module _ (k : Call) (Q : Asked) (calls ends breaks rooms : List ℕ) (customers 
 
   -- what is lent to either
   abbrev plain : Instance
-  plain = let h = Q .head in bareLent (Q .array) (Q .distances) (Q .times) (h .places) (h .capacity) (h .«fixed_cost»)
+  plain = plainOf (Q .head) (Q .array) (Q .distances) (Q .times)
 
   abbrev timed : Instance
-  timed = let h = Q .head in lent (Q .array) (Q .distances) (Q .times) (h .places) (h .capacity) (h .«fixed_cost») (h .limits)
+  timed = timedOf (Q .head) (Q .array) (Q .distances) (Q .times)
 
   -- the sheet that is meant stands in it
   pub timed-holds : ImageTw s timed

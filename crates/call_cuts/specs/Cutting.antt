@@ -1,12 +1,12 @@
 -- What the cutting of a tour answers over what it is lent: the enum's case for each case of the complete answer of crates/definitions, the
--- written lists by their lengths, cost and distance held in floats. Definitions only.
+-- lists, which are stored in bytes, by their lengths, cost and distance held in floats. Definitions only.
 use Prim.Native.Nat.{ℕ}
 use mathlib.Core.List.{List, [], _∷_}
 use lib.ListN.{length}
 use lib.Ieee.{Float}
 use Rattle.definitions.specs.Drop.{Result}
 use Rattle.definitions.specs.Lent.{Lent}
-use Rattle.definitions.specs.Room.{written}
+use Rattle.definitions.specs.Bytes.{stored}
 use Rattle.definitions.specs.Answers.{Answer, refused, gives, front, splitOf, splitTwOf}
 use Rattle.whole.specs.Whole.{fl}
 use Rattle.whole.specs.Value.{value}
@@ -60,6 +60,6 @@ cutIn (gives x) = Cases.Cut (countsOf x)
 pub record Cuts (answered : List Customer → Answer Result) (count : ℕ) (array : List Customer) (served ends dropped : List ℕ)
     (r : Cut) (served' ends' dropped' : List ℕ) : Type 0 where
   pub answer : Answers (λ cs. cutIn (answered cs)) count array r
-  pub served-left : Answers (λ cs. written (front (λ x. x .served) (answered cs)) served) count array served'
-  pub ends-left : Answers (λ cs. written (front (λ x. x .ends) (answered cs)) ends) count array ends'
-  pub dropped-left : Answers (λ cs. written (front (λ x. x .dropped) (answered cs)) dropped) count array dropped'
+  pub served-left : Answers (λ cs. stored (front (λ x. x .served) (answered cs)) served) count array served'
+  pub ends-left : Answers (λ cs. stored (front (λ x. x .ends) (answered cs)) ends) count array ends'
+  pub dropped-left : Answers (λ cs. stored (front (λ x. x .dropped) (answered cs)) dropped) count array dropped'

@@ -10,7 +10,12 @@ use Rattle.whole.specs.Value.{value}
 use Rattle.models.specs.declared.customer.Customer.{Customer}
 use Rattle.models.specs.declared.head.Head.{Head}
 use Rattle.refuse_order.specs.Lent.{sheetOf, lentOf}
+use Rattle.split_tw.specs.SplitTw.{splitTwF}
+use Rattle.marker.specs.declared.verdict.Verdict as Code
+use Rattle.marker.specs.RunMark.{groundOf}
+use Rattle.marker.specs.Marks.{markF}
 use Rattle.marker.specs.Image.{flVerdict}
+use Rattle.call_cuts.specs.Stored.{timedOf}
 use Rattle.call_cuts.specs.declared.marking.Marking.{Marking}
 use Rattle.call_cuts.specs.declared.marking.Marking.the-variants.{Refused, Verdict}
 
@@ -25,3 +30,11 @@ markIn (gives verdict) = Verdict (flVerdict verdict)
 -- with whatever customers
 abbrev pub markFor : Head → List Float → List Float → (tour calls ends places : List ℕ) → List Customer → Marking
 markFor head distances times tour calls ends places cs = markIn (markOf value (markLent head cs distances times tour calls ends places))
+
+-- ---- as the code reckons it
+
+-- on floats: the mark against the planner's own cut of the tour
+abbrev pub markedF : Head → List Customer → List Float → List Float → (tour calls ends places : List ℕ) → Code.Verdict
+markedF head customers distances times tour calls ends places =
+    let cut = splitTwF (timedOf head customers distances times) tour in
+    markF (groundOf customers distances times head) (cut .served) (cut .cost) calls ends places

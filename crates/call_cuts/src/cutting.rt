@@ -1,6 +1,8 @@
 // The cutting of a tour on an array of customers: refused by number with nothing written, or the counts
-// of the lists that are written.
+// of the lists that are written, in bytes.
 ghost use Rattle.call_cuts.specs.Cutting.{splitFor, splitTwFor, Cuts};
+use crate::stored::split_stored;
+use crate::stored::split_tw_stored;
 use models::customer::Customer;
 use models::head::Head;
 use refuse_order::by_call::refuse_cutting;
@@ -20,9 +22,9 @@ pub fn split(
     distances: &[f64],
     times: &[f64],
     tour: &[usize],
-    served: &mut [usize],
-    run_ends: &mut [usize],
-    dropped: &mut [usize],
+    served: &mut [u8],
+    run_ends: &mut [u8],
+    dropped: &mut [u8],
 ) -> Cut
     ensures { λ r.
         let old = now (served .entry) in
@@ -46,14 +48,12 @@ pub fn split(
     if number != 0 {
         return Cut::Refused(number);
     }
-    let counts = split::split::split(
-        tour,
+    let counts = split_stored(
+        head,
         all,
         distances,
         times,
-        head.places,
-        head.capacity,
-        head.fixed_cost,
+        tour,
         &mut *served,
         &mut *run_ends,
         &mut *dropped,
@@ -69,9 +69,9 @@ pub fn split_tw(
     distances: &[f64],
     times: &[f64],
     tour: &[usize],
-    served: &mut [usize],
-    run_ends: &mut [usize],
-    dropped: &mut [usize],
+    served: &mut [u8],
+    run_ends: &mut [u8],
+    dropped: &mut [u8],
 ) -> Cut
     ensures { λ r.
         let old = now (served .entry) in
@@ -95,15 +95,12 @@ pub fn split_tw(
     if number != 0 {
         return Cut::Refused(number);
     }
-    let counts = split_tw::split_tw::split_tw(
-        tour,
+    let counts = split_tw_stored(
+        head,
         all,
         distances,
         times,
-        head.places,
-        head.capacity,
-        head.fixed_cost,
-        head.limits,
+        tour,
         &mut *served,
         &mut *run_ends,
         &mut *dropped,

@@ -2,3 +2,4 @@
 // Refused by number with nothing written, or the answer.
 pub mod cutting;
 pub mod marking;
+pub mod stored;

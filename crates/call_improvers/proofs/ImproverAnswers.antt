@@ -1,14 +1,15 @@
 -- The answer of an improver, whichever it is, from what it is told of the sheet that is meant. Assumes nothing.
-use Prim.Native.Nat.{ℕ}
+use Prim.Native.Nat.{ℕ, min}
 use mathlib.Core.Path.{_≡_, ap, _∙_}
 use mathlib.Core.Bool.{true}
 use mathlib.Core.List.{List, [], map}
-use lib.ListN.{length}
+use lib.ListN.{length, take}
 use lib.Ieee.{Float}
 use Rattle.basics.proofs.TestLaws.{not-false}
 use Rattle.definitions.specs.Domain.{isPlaces}
 use Rattle.definitions.specs.Sheet.{Sheet, own}
 use Rattle.definitions.specs.Lent.{Lent, Call}
+use Rattle.definitions.specs.Room.{written}
 use Rattle.definitions.specs.Answers.{Answer, refused, gives, answer}
 use Rattle.theorems.proofs.Accepted.{Accepted}
 use Rattle.bounds.proofs.Inside.{sized}
@@ -18,6 +19,7 @@ use Rattle.models.specs.Records.{customerOf}
 use Rattle.models.specs.declared.customer.Customer.{Customer}
 use Rattle.models.specs.declared.head.Head.{Head}
 use Rattle.lending.specs.Padding.{padded}
+use Rattle.byte_lists.proofs.Widened.{zeros}
 use Rattle.refuse_order.specs.Lent.{sheetFor, lentFor}
 use Rattle.refuse_order.specs.Order.{Refuses, Images}
 use Rattle.evaluation.specs.Records.{Tables, LimitsF, lent, limitsOf}
@@ -27,7 +29,7 @@ use Rattle.improve_base.specs.Search.{SearchF, searchF, told}
 use Rattle.improve_base.proofs.LegExact.{tables-open}
 use Rattle.call_shared.specs.Answers.{Answers}
 use Rattle.call_shared.proofs.Accepting.{lentSheet, meant, limits-held, tables-hold}
-use Rattle.call_shared.proofs.CallAnswers.{accepted, refused-call, accepted-call}
+use Rattle.call_shared.proofs.CallAnswers.{accepted-here, calls-read, refused-call, accepted-call}
 use Rattle.call_shared.proofs.Padded.{gathered-from}
 
 -- what an improver is asked: the array of records in place of the customers lent, their number, and the calls
@@ -73,8 +75,12 @@ module _ (k : Call) (Q : Asked) (ends rooms : List ℕ) (number : ℕ) (refuses 
   -- what is lent with the array's own customers is accepted, so that the lists are as the improver needs them
   pub improver-accepted : number ≡ 0 → length (Q .array) ≡ 64 → Accepted value k (lentWith Q ends rooms (padded (Q .count) (Q .array)))
   improver-accepted z full =
-      accepted k (Q .head) (Q .array) (Q .count) (Q .distances) (Q .times) [] (Q .calls) ends [] rooms number refuses z
-      (padded (Q .count) (Q .array)) (gathered-from (Q .array) full (Q .count))
+      accepted-here k (Q .head) (Q .array) (Q .count) (Q .distances) (Q .times) [] (Q .calls) ends [] rooms number refuses z full
+
+  -- its calls all stand in an array that they are read into
+  pub improver-read : number ≡ 0 → length (Q .array) ≡ 64 → (held : List ℕ) (n : ℕ) → n ≡ min (length (Q .calls)) (length zeros)
+      → held ≡ written (take (length zeros) (Q .calls)) zeros → take n held ≡ Q .calls
+  improver-read = calls-read k (Q .head) (Q .array) (Q .count) (Q .distances) (Q .times) [] (Q .calls) ends [] rooms number refuses
 
   -- and its tables close no leg
   pub improver-open : k .improves ≡ true → Imaged Q number → number ≡ 0 → length (Q .array) ≡ 64 → Open Q

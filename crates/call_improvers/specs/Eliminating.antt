@@ -1,11 +1,11 @@
 -- What route elimination answers over what it is lent: the enum's case for each case of the complete answer of crates/definitions, the
--- written lists by their lengths. Definitions only.
+-- lists, which are stored in bytes, by their lengths. Definitions only.
 use Prim.Native.Nat.{ℕ}
 use mathlib.Core.List.{List, [], _∷_}
 use lib.ListN.{length}
 use lib.Ieee.{Float}
 use Rattle.definitions.specs.Lent.{Lent}
-use Rattle.definitions.specs.Room.{written}
+use Rattle.definitions.specs.Bytes.{stored}
 use Rattle.definitions.specs.Answers.{Answer, refused, gives, front, Eliminated, eliminateOf}
 use Rattle.whole.specs.Value.{value}
 use Rattle.models.specs.declared.customer.Customer.{Customer}
@@ -42,5 +42,5 @@ pub record Eliminates
     (answered : List Customer → Answer Eliminated) (count : ℕ) (array : List Customer)
     (leftCalls leftEnds : List ℕ) (r : Elimination) (leftCalls' leftEnds' : List ℕ) : Type 0 where
   pub answer : Answers (λ cs. eliminationIn (answered cs)) count array r
-  pub calls-left : Answers (λ cs. written (front (λ x. x .calls) (answered cs)) leftCalls) count array leftCalls'
-  pub ends-left : Answers (λ cs. written (front (λ x. x .ends) (answered cs)) leftEnds) count array leftEnds'
+  pub calls-left : Answers (λ cs. stored (front (λ x. x .calls) (answered cs)) leftCalls) count array leftCalls'
+  pub ends-left : Answers (λ cs. stored (front (λ x. x .ends) (answered cs)) leftEnds) count array leftEnds'

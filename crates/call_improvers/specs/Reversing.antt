@@ -1,11 +1,11 @@
 -- What the reversal of stretches answers over what it is lent: the enum's case for each case of the complete answer of crates/definitions,
--- the written list by its length, the distance held in a float. Definitions only.
+-- the list, which is stored in bytes, by its length, the distance held in a float. Definitions only.
 use Prim.Native.Nat.{ℕ}
 use mathlib.Core.List.{List, [], _∷_}
 use lib.ListN.{length}
 use lib.Ieee.{Float}
 use Rattle.definitions.specs.Lent.{Lent}
-use Rattle.definitions.specs.Room.{written}
+use Rattle.definitions.specs.Bytes.{stored}
 use Rattle.definitions.specs.Answers.{Answer, refused, gives, front, Improved, twoOptOf}
 use Rattle.whole.specs.Whole.{fl}
 use Rattle.whole.specs.Value.{value}
@@ -38,4 +38,4 @@ pub record Reverses
     (answered : List Customer → Answer Improved) (count : ℕ) (array : List Customer)
     (improved : List ℕ) (r : Reversed) (improved' : List ℕ) : Type 0 where
   pub answer : Answers (λ cs. reversedIn (answered cs)) count array r
-  pub calls-left : Answers (λ cs. written (front (λ x. x .calls) (answered cs)) improved) count array improved'
+  pub calls-left : Answers (λ cs. stored (front (λ x. x .calls) (answered cs)) improved) count array improved'

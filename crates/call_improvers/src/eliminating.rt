@@ -1,7 +1,12 @@
-// Route elimination on an array of customers: refused by number with nothing written, or the runs that are left.
+// Route elimination on an array of customers: refused by number with nothing written, or the runs that are left, in
+// bytes.
+ghost use Rattle.definitions.specs.Bytes.{numbersOf};
 ghost use Rattle.call_improvers.specs.Eliminating.{eliminateFor, Eliminates};
+use byte_lists::narrow;
+use byte_lists::widen;
 use improve_base::search::search_of;
 use models::customer::Customer;
+use models::domain::MOST_CALLS;
 use models::head::Head;
 use refuse_order::by_call::refuse_eliminating;
 use route_elimination::route_elimination::Left;
@@ -18,16 +23,16 @@ pub fn eliminate_routes(
     n: usize,
     distances: &[f64],
     times: &[f64],
-    calls: &[usize],
-    ends: &[usize],
-    left_calls: &mut [usize],
-    left_ends: &mut [usize],
+    calls: &[u8],
+    ends: &[u8],
+    left_calls: &mut [u8],
+    left_ends: &mut [u8],
 ) -> Elimination
     ensures { λ r.
         let leftCalls = now («left_calls» .entry) in
         let leftEnds = now («left_ends» .entry) in
         let answered = eliminateFor head (now (distances .entry)) (now (times .entry))
-        (now (calls .entry)) (now (ends .entry)) leftCalls leftEnds in
+        (numbersOf (now (calls .entry))) (numbersOf (now (ends .entry))) leftCalls leftEnds in
         ⌜ Eliminates answered n all leftCalls leftEnds r (now («left_calls» .exit)) (now («left_ends» .exit)) ⌝ }
 {
     let number = refuse_eliminating(
@@ -45,9 +50,15 @@ pub fn eliminate_routes(
         return Elimination::Refused(number);
     }
     let search = search_of(all, head.places, head.limits);
+    let mut call_numbers = [0usize; MOST_CALLS];
+    let many = widen(calls, &mut call_numbers);
+    let mut end_numbers = [0usize; MOST_CALLS];
+    let runs = widen(ends, &mut end_numbers);
+    let mut kept_calls = [0usize; MOST_CALLS];
+    let mut kept_ends = [0usize; MOST_CALLS];
     let left = route_elimination::route_elimination::eliminate_routes(
-        calls,
-        ends,
+        &call_numbers[..many],
+        &end_numbers[..runs],
         all,
         distances,
         times,
@@ -55,8 +66,10 @@ pub fn eliminate_routes(
         head.capacity,
         head.fixed_cost,
         search,
-        &mut *left_calls,
-        &mut *left_ends,
+        &mut kept_calls,
+        &mut kept_ends,
     );
+    narrow(&kept_calls, left.calls, &mut *left_calls);
+    narrow(&kept_ends, left.runs, &mut *left_ends);
     Elimination::Left(left)
 }

@@ -8,8 +8,7 @@ use mathlib.Core.Option.{Option, none, some}
 use lib.ListN.{length, take, length-map}
 use lib.Ieee.{Float}
 use Rattle.basics.proofs.TestLaws.{not-false}
-use Rattle.bounds.proofs.Inside.{few-calls}
-use Rattle.definitions.specs.Domain.{mostCalls, isPlaces}
+use Rattle.definitions.specs.Domain.{isPlaces}
 use Rattle.definitions.specs.Load.{Load, noLoad}
 use Rattle.definitions.specs.Sheet.{SheetOf, Sheet}
 use Rattle.definitions.specs.Run.{Label, start, firstClosed}
@@ -24,8 +23,8 @@ use Rattle.theorems.proofs.Violations.{violations-room}
 use Rattle.models.specs.declared.customer.Customer.{Customer}
 use Rattle.models.specs.declared.head.Head.{Head}
 use Rattle.models.specs.Load.{spaceOf}
-use Rattle.lending.specs.Padding.{padded}
 use Rattle.lending.proofs.Lists.{written-room}
+use Rattle.byte_lists.proofs.Widened.{zeros}
 use Rattle.refuse_order.specs.Lent.{sheetOf}
 use Rattle.refuse_order.specs.Order.{Refuses, Images}
 use Rattle.evaluation.specs.Records.{LimitsF, Tables, lent, limitsOf}
@@ -39,9 +38,8 @@ use Rattle.call_runs.specs.declared.visiting.Route.the-variants as Cases
 use Rattle.call_runs.specs.Evaluating.{startIn}
 use Rattle.call_runs.specs.Visiting.{visitLent, routeAnswer, figuresOf, figuresIn, refusedBy, givenBy, Lists, ListsFrom}
 use Rattle.call_shared.proofs.Accepting.{accepts, given-exact, meant, limits-held, tables-hold}
-use Rattle.call_shared.proofs.CallAnswers.{accepted, refused-call}
+use Rattle.call_shared.proofs.CallAnswers.{accepted, calls-read, refused-call}
 use Rattle.call_runs.proofs.EvalCase.{start-in}
-use Rattle.call_shared.proofs.Padded.{gathered-from}
 
 -- ---- a route that the code holds
 
@@ -113,12 +111,9 @@ module _
     abbrev answered : List Customer → Answer Whole.Route
     answered = routeAnswer head distances times run visits violations
 
-    -- an accepted run is not too long
-    pub run-room : number ≡ 0 → length array ≡ 64 → length run ≤ mostCalls
-    run-room z full =
-        let cs = padded count array in
-        let a = accepted visiting head array count distances times [] run [] [] (visits ∷ violations ∷ []) number refuses z cs (gathered-from array full count) in
-        few-calls (meant head cs distances times) run (a .calls)
+    -- an accepted run stands whole in an array that it is read into
+    pub run-read : number ≡ 0 → length array ≡ 64 → (held : List ℕ) (n : ℕ) → n ≡ min (length run) (length zeros) → held ≡ written (take (length zeros) run) zeros → take n held ≡ run
+    run-read = calls-read visiting head array count distances times [] run [] [] (visits ∷ violations ∷ []) number refuses
 
     pub refused-lists : (number ≡ 0 → ⊥) → (r : Listed) → r ≡ refusedBy number → ListsFrom answered visits violations count array r
     refused-lists h r e cs G =

@@ -1,10 +1,12 @@
 // The evaluations of a run on an array of customers: refused by number, or the answer.
 ghost use Rattle.call_runs.specs.Evaluating.{feasibleAnswer, costAnswer, evalAnswer};
 ghost use Rattle.call_shared.specs.Answers.{Answers};
+use byte_lists::widen;
 use evaluation::route;
 use evaluation::route::Evaluated;
 use evaluation::route::RouteEval;
 use models::customer::Customer;
+use models::domain::MOST_CALLS;
 use models::head::Head;
 use refuse_order::by_call::refuse_evaluating;
 
@@ -32,7 +34,7 @@ pub fn route_feasible(
     n: usize,
     distances: &[f64],
     times: &[f64],
-    run: &[usize],
+    run: &[u8],
 ) -> Feasible
     ensures { λ r.
         let d = now (distances .entry) in
@@ -43,7 +45,16 @@ pub fn route_feasible(
     if number != 0 {
         return Feasible::Refused(number);
     }
-    let feasible = route::route_feasible(run, all, distances, times, head.places, head.limits);
+    let mut calls = [0usize; MOST_CALLS];
+    let k = widen(run, &mut calls);
+    let feasible = route::route_feasible(
+        &calls[..k],
+        all,
+        distances,
+        times,
+        head.places,
+        head.limits,
+    );
     Feasible::Answer(feasible)
 }
 
@@ -54,7 +65,7 @@ pub fn effective_cost(
     n: usize,
     distances: &[f64],
     times: &[f64],
-    run: &[usize],
+    run: &[u8],
 ) -> Cost
     ensures { λ r.
         let d = now (distances .entry) in
@@ -65,7 +76,9 @@ pub fn effective_cost(
     if number != 0 {
         return Cost::Refused(number);
     }
-    let cost = route::effective_cost(run, all, distances, times, head.places, head.limits);
+    let mut calls = [0usize; MOST_CALLS];
+    let k = widen(run, &mut calls);
+    let cost = route::effective_cost(&calls[..k], all, distances, times, head.places, head.limits);
     Cost::Answer(cost)
 }
 
@@ -76,7 +89,7 @@ pub fn route_eval(
     n: usize,
     distances: &[f64],
     times: &[f64],
-    run: &[usize],
+    run: &[u8],
 ) -> Evaluation
     ensures { λ r.
         let d = now (distances .entry) in
@@ -87,7 +100,9 @@ pub fn route_eval(
     if number != 0 {
         return Evaluation::Refused(number);
     }
-    match route::route_eval(run, all, distances, times, head.places, head.limits) {
+    let mut calls = [0usize; MOST_CALLS];
+    let k = widen(run, &mut calls);
+    match route::route_eval(&calls[..k], all, distances, times, head.places, head.limits) {
         Evaluated::NotAllowed => Evaluation::NotAllowed,
         Evaluated::Allowed(e) => Evaluation::Allowed(e),
     }

@@ -2,8 +2,10 @@
 // that are to be written.
 ghost use mathlib.Core.Path.{_≡_};
 ghost use Rattle.call_runs.specs.Visiting.{routeAnswer, givenBy, refusedBy, ListsFrom};
+use byte_lists::widen;
 use evaluation::route::Start;
 use models::customer::Customer;
+use models::domain::MOST_CALLS;
 use models::head::Head;
 use models::load::Load;
 use refuse_order::by_call::refuse_visiting;
@@ -88,7 +90,7 @@ pub fn build_route(
     n: usize,
     distances: &[f64],
     times: &[f64],
-    run: &[usize],
+    run: &[u8],
     visits: usize,
     violations: usize,
 ) -> Listed
@@ -102,8 +104,10 @@ pub fn build_route(
     if number != 0 {
         return refused(number);
     }
+    let mut calls = [0usize; MOST_CALLS];
+    let k = widen(run, &mut calls);
     let built = evaluator::build_route(
-        run,
+        &calls[..k],
         all,
         distances,
         times,

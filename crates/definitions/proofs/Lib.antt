@@ -21,5 +21,7 @@ pub mod RangeCases
 pub mod WheelchairCases
 -- Legs without a road.
 pub mod RoadCases
+-- Numbers in bytes.
+pub mod ByteCases
 -- Laws of loads.
 pub mod LoadLaws

@@ -30,6 +30,7 @@ pub mod Words
 pub mod Encoding
 pub mod Refusal
 pub mod Room
+pub mod Bytes
 pub mod Reader
 -- What the other calls are lent, and when they refuse.
 pub mod Lent

@@ -3,13 +3,20 @@ use Prim.Native.Nat.{ℕ}
 use mathlib.Core.Path.{_≡_, refl, sym, ap, subst, _∙_}
 use mathlib.Core.Bool.{Bool, true, false}
 use mathlib.Core.List.{List}
+use lib.ListN.{length}
 use Rattle.definitions.specs.Sheet.{Sheet}
 use Rattle.definitions.specs.Reader.{sheet, read}
 use Rattle.definitions.specs.Answers as Call
+use Rattle.definitions.specs.Bytes.{stored, readBack}
+use Rattle.bounds.proofs.InBytes.{InBytes, bytes-read-back}
 use Rattle.sheet_read.specs.Summary as Summary
 use Rattle.sheet_read.specs.Summary.{summaryOf}
 use Rattle.sheet_loaded.proofs.Reading.{refused-is}
-use Rattle.exports.specs.Answer.{Answer, refusedAt, refused, gives, Outputs, outputs, Kept, byCall, onReading, unlessShort}
+use Rattle.exports.specs.Answer.{Answer, refusedAt, refused, gives, Outputs, outputs, Kept, ReadsBack, byCall, onReading, unlessShort}
+
+-- numbers that a byte holds are read back
+pub reads-back : (numbers old new : List ℕ) → InBytes numbers → new ≡ stored numbers old → ReadsBack numbers old new
+reads-back numbers old new h e = record { left = e; read-back = ap (readBack (length numbers)) e ∙ bytes-read-back numbers old h }
 
 module _ {A L : Type 0} (Written : A → (old new : L) → Type 0) (old : Outputs L) where
   -- an answer that is known to be another keeps what that keeps

@@ -1,13 +1,14 @@
 -- What the improvers' calls keep: refused by the reader, refused by the call, or the runs that are left. Assumes nothing.
 use Prim.Native.Nat.{ℕ}
 use native.Mathlib.Omega.{arith}
-use mathlib.Core.Path.{_≡_, refl, sym, ap, _∙_}
+use mathlib.Core.Path.{_≡_, refl, sym, ap, subst, _∙_}
 use mathlib.Core.List.{List, [], _∷_}
 use Rattle.definitions.specs.Sheet.{Sheet}
 use Rattle.definitions.specs.Reader.{sheet, read}
 use Rattle.definitions.specs.Answers as Call
 use Rattle.definitions.specs.Answers.{front, Improved, Eliminated}
-use Rattle.definitions.specs.Room.{written}
+use Rattle.definitions.specs.Bytes.{stored}
+use Rattle.bounds.proofs.InBytes.{InBytes}
 use Rattle.sheet_read.specs.Summary as Summary
 use Rattle.sheet_read.specs.Summary.{summaryOf}
 use Rattle.route_elimination.specs.declared.route_elimination.Left.{Left}
@@ -19,9 +20,10 @@ use Rattle.call_improvers.specs.declared.eliminating.Elimination.the-variants a
 use Rattle.call_improvers.specs.Reversing.{improvedRunOf, reversedIn}
 use Rattle.call_improvers.specs.Eliminating.{leftOf, eliminationIn}
 use Rattle.bytes_improve.specs.Improve.{Runs, runs, reversedOn, eliminatedOn, RunLeft, RunsLeft}
+use Rattle.bytes_improve.proofs.Improved.{reversed-in-bytes, left-calls-in-bytes, left-ends-in-bytes}
 use Rattle.exports.specs.Answer.{Outputs, outputs}
 use Rattle.exports.specs.Improve.{ReverseLists, reverseOutputs, reverseAnswer, ReverseWritten, ReverseKept, EliminateLists, eliminateOutputs, eliminateAnswer, EliminateWritten, EliminateKept}
-use Rattle.exports.proofs.Answering.{kept-unread, kept-refused, kept-given}
+use Rattle.exports.proofs.Answering.{reads-back, kept-unread, kept-refused, kept-given}
 
 -- ---- reversal
 
@@ -42,8 +44,8 @@ module _ (bytes run : List ℕ) (old : Outputs ReverseLists) where
   reverse-unread number word e = kept-unread ReverseWritten old bytes reversing number word e
 
   module _ (s : Sheet) (tour : List ℕ) (e : read bytes ≡ sheet s tour) (r : Reversed) (calls : List ℕ) (L : RunLeft (reversing s tour) (old .room .calls) r calls) where
-    calls-by : (a : Call.Answer Improved) → reversing s tour ≡ a → calls ≡ written (front (λ x. x .calls) a) (old .room .calls)
-    calls-by a h = L .calls-left ∙ ap (λ (b : Call.Answer Improved). written (front (λ x. x .calls) b) (old .room .calls)) h
+    calls-by : (a : Call.Answer Improved) → reversing s tour ≡ a → calls ≡ stored (front (λ x. x .calls) a) (old .room .calls)
+    calls-by a h = L .calls-left ∙ ap (λ (b : Call.Answer Improved). stored (front (λ x. x .calls) b) (old .room .calls)) h
 
     pub reverse-refused : (number : ℕ) → r ≡ Reverseds.Refused number → ReverseKept bytes run old number (reverseOutputs (old .word) calls (old .room .distance))
     unfolding reverseAnswer
@@ -57,9 +59,13 @@ module _ (bytes run : List ℕ) (old : Outputs ReverseLists) where
     unfolding reverseAnswer
     reverse-given x h =
         let y = reverse-given-in (reversing s tour) x (sym h ∙ L .answer) in
+        let small = subst (λ (a : Call.Answer Improved). InBytes (front (λ z. z .calls) a)) (y .1) (reversed-in-bytes s run (old .room .calls)) in
         let new = reverseOutputs (old .word) calls (x .distance) .room in
         let w : ReverseWritten (y .0) (old .room) new =
-        record { calls = calls-by (Call.gives (y .0)) (y .1); distance = ap (λ (z : ImprovedRun). z .distance) (y .2) } in
+        record {
+          calls = reads-back (y .0 .calls) (old .room .calls) calls small (calls-by (Call.gives (y .0)) (y .1));
+          distance = ap (λ (z : ImprovedRun). z .distance) (y .2);
+        } in
         kept-given ReverseWritten old bytes reversing s tour e new (y .0) (y .1) w
 
 -- ---- elimination
@@ -81,11 +87,11 @@ module _ (bytes : List ℕ) (given : Runs) (old : Outputs EliminateLists) where
   eliminate-unread number word e = kept-unread EliminateWritten old bytes eliminating number word e
 
   module _ (s : Sheet) (tour : List ℕ) (e : read bytes ≡ sheet s tour) (r : Elimination) (left : Runs) (L : RunsLeft (eliminating s tour) (old .room .left) r left) where
-    left-calls-by : (a : Call.Answer Eliminated) → eliminating s tour ≡ a → left .calls ≡ written (front (λ x. x .calls) a) (old .room .left .calls)
-    left-calls-by a h = L .calls-left ∙ ap (λ (b : Call.Answer Eliminated). written (front (λ x. x .calls) b) (old .room .left .calls)) h
+    left-calls-by : (a : Call.Answer Eliminated) → eliminating s tour ≡ a → left .calls ≡ stored (front (λ x. x .calls) a) (old .room .left .calls)
+    left-calls-by a h = L .calls-left ∙ ap (λ (b : Call.Answer Eliminated). stored (front (λ x. x .calls) b) (old .room .left .calls)) h
 
-    left-ends-by : (a : Call.Answer Eliminated) → eliminating s tour ≡ a → left .ends ≡ written (front (λ x. x .ends) a) (old .room .left .ends)
-    left-ends-by a h = L .ends-left ∙ ap (λ (b : Call.Answer Eliminated). written (front (λ x. x .ends) b) (old .room .left .ends)) h
+    left-ends-by : (a : Call.Answer Eliminated) → eliminating s tour ≡ a → left .ends ≡ stored (front (λ x. x .ends) a) (old .room .left .ends)
+    left-ends-by a h = L .ends-left ∙ ap (λ (b : Call.Answer Eliminated). stored (front (λ x. x .ends) b) (old .room .left .ends)) h
 
     pub eliminate-refused : (number : ℕ) → r ≡ Eliminations.Refused number → EliminateKept bytes given old number (eliminateOutputs (old .word) left (old .room .counts))
     unfolding eliminateAnswer
@@ -101,7 +107,14 @@ module _ (bytes : List ℕ) (given : Runs) (old : Outputs EliminateLists) where
     eliminate-given x h =
         let y = eliminate-given-in (eliminating s tour) x (sym h ∙ L .answer) in
         let a = Call.gives (y .0) in
+        let lent = old .room .left in
+        let small-calls = subst (λ (b : Call.Answer Eliminated). InBytes (front (λ z. z .calls) b)) (y .1) (left-calls-in-bytes s given lent) in
+        let small-ends = subst (λ (b : Call.Answer Eliminated). InBytes (front (λ z. z .ends) b)) (y .1) (left-ends-in-bytes s given lent) in
         let new = eliminateOutputs (old .word) left (x .calls ∷ x .runs ∷ []) .room in
         let w : EliminateWritten (y .0) (old .room) new =
-        record { calls = left-calls-by a (y .1); ends = left-ends-by a (y .1); counts = ap (λ (z : Left). z .calls ∷ z .runs ∷ []) (y .2) } in
+        record {
+          calls = reads-back (y .0 .calls) (lent .calls) (left .calls) small-calls (left-calls-by a (y .1));
+          ends = reads-back (y .0 .ends) (lent .ends) (left .ends) small-ends (left-ends-by a (y .1));
+          counts = ap (λ (z : Left). z .calls ∷ z .runs ∷ []) (y .2);
+        } in
         kept-given EliminateWritten old bytes eliminating s tour e new (y .0) (y .1) w

@@ -4,22 +4,26 @@ use mathlib.Core.Path.{_≡_, refl, sym, _∙_}
 use mathlib.Core.Bool.{Bool, true, false}
 use mathlib.Core.List.{List, [], _∷_}
 use lib.Dec.{ltb}
-use lib.Ieee.{Float}
 use borrow.Author.Tests.{ltb-false}
 use Rattle.basics.specs.Tests.{Falses}
 use Rattle.basics.proofs.TestLaws.{falses}
 use Rattle.cut_theory.specs.Tab.{mostCut}
 use Rattle.definitions.specs.Sheet.{Sheet}
+use Rattle.definitions.specs.Words.{wordsOf, leftOver}
 use Rattle.definitions.specs.Reader.{sheet, read}
+use Rattle.definitions.specs.Drop.{splitTw}
 use Rattle.definitions.specs.Room.{short}
 use Rattle.definitions.specs.Answers as Call
+use Rattle.round_trip.proofs.OnlySheets.{only-sheets}
+use Rattle.bounds.proofs.Inside.{few-calls}
+use Rattle.bounds.proofs.InBytes.{CutInBytes, calls-in-bytes, split-tw-in-bytes}
 use Rattle.sheet_read.specs.Summary as Summary
 use Rattle.sheet_read.specs.Summary.{summaryOf}
 use Rattle.split_tw.specs.declared.answer.SplitResult.{SplitResult}
-use Rattle.sheet_plan.specs.Plan.{Plan, plan, countsOf, totalsOf, PlanLists, Left}
+use Rattle.sheet_plan.specs.Plan.{Plan, plan, PlanLists, LeftInBytes}
 use Rattle.exports.specs.Answer.{Answer, Outputs, outputs, onReading}
 use Rattle.exports.specs.Plan.{PlanRoom, planNeeds, roomsOf, PlanWritten, PlanKept}
-use Rattle.exports.proofs.Answering.{kept-short, kept-roomy, kept-unread, kept-given}
+use Rattle.exports.proofs.Answering.{reads-back, kept-short, kept-roomy, kept-unread, kept-given}
 
 -- lists that are not too short have the room
 pub roomy : (a b c d e : ℕ) (t : Bool) → t ≡ short planNeeds (a ∷ b ∷ c ∷ d ∷ e ∷ []) → t ≡ false → (mostCut ≤ a) × (mostCut ≤ b) × (mostCut ≤ c) × (mostCut ≤ d) × (mostCut ≤ e)
@@ -45,21 +49,33 @@ module _ (bytes : List ℕ) (old : Outputs PlanRoom) (t : Bool) (told : t ≡ sh
 
     -- the plan: all but the word is written
     module _ (s : Sheet) (tour : List ℕ) (e : read bytes ≡ sheet s tour) where
-      pub plan-given : {r : SplitResult} {new : PlanLists} → Left (plan s tour) r (old .room .lists) new
-          → PlanKept bytes old 0 (outputs (old .word) (record { lists = new; counts = r .served ∷ r .runs ∷ r .dropped ∷ []; totals = r .cost ∷ r .distance ∷ [] }))
-      plan-given {r} {new} L =
-          let p = plan s tour in
-          let room : PlanRoom = record { lists = new; counts = r .served ∷ r .runs ∷ r .dropped ∷ []; totals = r .cost ∷ r .distance ∷ [] } in
-          let counted : room .counts ≡ countsOf p = rw (L .cut .served-count, L .cut .runs-count, L .cut .dropped-count) refl in
-          let totalled : room .totals ≡ totalsOf p = rw (L .cut .cost-is, L .cut .distance-is) refl in
-          let w : PlanWritten p (old .room) room =
-          record {
-            served = L .cut .served-left;
-            ends = L .cut .ends-left;
-            breaks = L .places-left;
-            starts = L .starts-left;
-            dropped = L .cut .dropped-left;
-            counts = counted;
-            totals = totalled;
-          } in
-          kept-roomy PlanWritten old on-sheet (short planNeeds (roomsOf (old .room .lists))) t told h (kept-given PlanWritten old bytes planOf s tour e room p refl w)
+      -- each number of the cut is one that a byte holds
+      small : CutInBytes (splitTw s tour)
+      unfolding read
+      small =
+          let I = only-sheets (wordsOf bytes) (leftOver bytes) s tour e in
+          split-tw-in-bytes tour (calls-in-bytes s (I .within) tour (I .calls)) (few-calls s tour (I .calls)) s
+
+      module _ {r : SplitResult} {new : PlanLists} (L : LeftInBytes (plan s tour) r (old .room .lists) new) where
+        abbrev room : PlanRoom
+        room = record { lists = new; counts = r .served ∷ r .runs ∷ r .dropped ∷ []; totals = r .cost ∷ r .distance ∷ [] }
+
+        written : PlanWritten (plan s tour) (old .room) room
+        unfolding plan
+        written =
+            let x = splitTw s tour in
+            let lists = old .room .lists in
+            record {
+              served = reads-back (x .served) (lists .cut .served) (new .cut .served) (small .served) (L .served-left);
+              ends = reads-back (x .ends) (lists .cut .ends) (new .cut .ends) (small .ends) (L .ends-left);
+              breaks = reads-back (x .places) (lists .places) (new .places) (small .places) (L .places-left);
+              starts = L .starts-left;
+              dropped = reads-back (x .dropped) (lists .cut .dropped) (new .cut .dropped) (small .dropped) (L .dropped-left);
+              counts = L .counts;
+              totals = L .totals;
+            }
+
+        pub plan-given : PlanKept bytes old 0 (outputs (old .word) room)
+        plan-given =
+            kept-roomy PlanWritten old on-sheet (short planNeeds (roomsOf (old .room .lists))) t told h
+            (kept-given PlanWritten old bytes planOf s tour e room (plan s tour) refl written)

@@ -3,9 +3,11 @@ use Prim.Native.Nat.{ℕ}
 use mathlib.Core.Path.{_≡_}
 use mathlib.Core.Bool.{Bool, true, false}
 use mathlib.Core.List.{List}
+use lib.ListN.{length}
 use Rattle.definitions.specs.Sheet.{Sheet}
 use Rattle.definitions.specs.Reader as Reader
 use Rattle.definitions.specs.Answers as Call
+use Rattle.definitions.specs.Bytes.{stored, readBack}
 
 -- refused at a word, as the reader refuses the bytes; refused by the call; or its result
 pub data Answer (A : Type 0) : Type 0 where
@@ -55,6 +57,11 @@ pub record Kept {A L : Type 0} (Written : A → (old new : L) → Type 0) (answe
   pub word : new .word ≡ wordOf answered (old .word)
   pub untouched : IfRefused answered (new .room ≡ old .room)
   pub written : IfGiven answered (λ x. Written x (old .room) (new .room))
+
+-- numbers in bytes at the front of a list, with what stands behind them as it was: reading them back gives the same numbers
+pub record ReadsBack (numbers old new : List ℕ) : Type 0 where
+  pub left : new ≡ stored numbers old
+  pub read-back : readBack (length numbers) new ≡ numbers
 
 -- ---- the answer on the sheet that bytes are
 

@@ -6,10 +6,9 @@ use lib.ListN.{length}
 use lib.Ieee.{Float}
 use Rattle.whole.specs.Whole.{fl}
 use Rattle.definitions.specs.Reader.{read}
-use Rattle.definitions.specs.Room.{written}
 use Rattle.definitions.specs.Answers.{Improved, Eliminated}
 use Rattle.bytes_improve.specs.Improve.{Runs, reversedOn, eliminatedOn}
-use Rattle.exports.specs.Answer.{Answer, Outputs, outputs, Kept, onReading}
+use Rattle.exports.specs.Answer.{Answer, Outputs, outputs, Kept, ReadsBack, onReading}
 
 -- ---- reversal
 
@@ -26,7 +25,7 @@ unfoldable pub reverseAnswer : (bytes run : List ℕ) → ReverseLists → Answe
 reverseAnswer bytes run lent = onReading (λ s tour. reversedOn s run (lent .calls)) (read bytes)
 
 pub record ReverseWritten (x : Improved) (old new : ReverseLists) : Type 0 where
-  pub calls : new .calls ≡ written (x .calls) (old .calls)
+  pub calls : ReadsBack (x .calls) (old .calls) (new .calls)
   pub distance : new .distance ≡ fl (x .distance)
 
 abbrev pub ReverseKept : (bytes run : List ℕ) (old : Outputs ReverseLists) (r : ℕ) (new : Outputs ReverseLists) → Type 0
@@ -47,8 +46,8 @@ unfoldable pub eliminateAnswer : (bytes : List ℕ) (given : Runs) → Eliminate
 eliminateAnswer bytes given lent = onReading (λ s tour. eliminatedOn s given (lent .left)) (read bytes)
 
 pub record EliminateWritten (x : Eliminated) (old new : EliminateLists) : Type 0 where
-  pub calls : new .left .calls ≡ written (x .calls) (old .left .calls)
-  pub ends : new .left .ends ≡ written (x .ends) (old .left .ends)
+  pub calls : ReadsBack (x .calls) (old .left .calls) (new .left .calls)
+  pub ends : ReadsBack (x .ends) (old .left .ends) (new .left .ends)
   pub counts : new .counts ≡ length (x .calls) ∷ length (x .ends) ∷ []
 
 abbrev pub EliminateKept : (bytes : List ℕ) (given : Runs) (old : Outputs EliminateLists) (r : ℕ) (new : Outputs EliminateLists) → Type 0

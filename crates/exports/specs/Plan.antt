@@ -10,7 +10,7 @@ use Rattle.definitions.specs.Reader.{read}
 use Rattle.definitions.specs.Room.{short, written}
 use Rattle.definitions.specs.Answers as Call
 use Rattle.sheet_plan.specs.Plan.{Plan, plan, countsOf, totalsOf, PlanLists, planLists}
-use Rattle.exports.specs.Answer.{Answer, Outputs, outputs, Kept, onReading, unlessShort}
+use Rattle.exports.specs.Answer.{Answer, Outputs, outputs, Kept, ReadsBack, onReading, unlessShort}
 
 -- the plan's lists; how many calls are served, runs made and calls dropped; cost and distance
 pub record PlanRoom : Type 0 where
@@ -38,13 +38,13 @@ planAnswer bytes lent = unlessShort (short planNeeds (roomsOf (lent .lists))) (o
 
 -- ---- the contract
 
--- a plan at the front of the lists, with its counts and totals
+-- a plan at the front of the lists, in bytes but for the starts, with its counts and totals
 pub record PlanWritten (p : Plan) (old new : PlanRoom) : Type 0 where
-  pub served : new .lists .cut .served ≡ written (p .cut .served) (old .lists .cut .served)
-  pub ends : new .lists .cut .ends ≡ written (p .cut .ends) (old .lists .cut .ends)
-  pub breaks : new .lists .places ≡ written (p .cut .places) (old .lists .places)
+  pub served : ReadsBack (p .cut .served) (old .lists .cut .served) (new .lists .cut .served)
+  pub ends : ReadsBack (p .cut .ends) (old .lists .cut .ends) (new .lists .cut .ends)
+  pub breaks : ReadsBack (p .cut .places) (old .lists .places) (new .lists .places)
   pub starts : new .lists .starts ≡ written (map fl (p .starts)) (old .lists .starts)
-  pub dropped : new .lists .cut .dropped ≡ written (p .cut .dropped) (old .lists .cut .dropped)
+  pub dropped : ReadsBack (p .cut .dropped) (old .lists .cut .dropped) (new .lists .cut .dropped)
   pub counts : new .counts ≡ countsOf p
   pub totals : new .totals ≡ totalsOf p
 

@@ -1,4 +1,5 @@
-// The improvers' calls.
+// The improvers' calls. Each customer and run end has a byte.
+ghost use Rattle.definitions.specs.Bytes.{numbersOf};
 ghost use Rattle.bytes_improve.specs.Improve.{runs};
 ghost use Rattle.exports.specs.Improve.{reverseOutputs, ReverseKept, eliminateOutputs, EliminateKept};
 use bytes_improve::improve::eliminate_sheet;
@@ -14,15 +15,15 @@ use sheet_read::read::read;
 #[no_mangle]
 pub extern "C" fn lizsomdur_reverse(
     sheet: &[u8],
-    run: &[usize],
-    improved: &mut [usize],
+    run: &[u8],
+    improved: &mut [u8],
     word: &mut usize,
     distance: &mut f64,
 ) -> u32
     ensures { λ r.
         let old = reverseOutputs (now (word .entry)) (now (improved .entry)) (now (distance .entry)) in
         let new = reverseOutputs (now (word .exit)) (now (improved .exit)) (now (distance .exit)) in
-        ⌜ ReverseKept (now (sheet .entry)) (now (run .entry)) old r new ⌝ }
+        ⌜ ReverseKept (now (sheet .entry)) (numbersOf (now (run .entry))) old r new ⌝ }
 {
     match read(sheet) {
         Reading::Refused(number, at) => {
@@ -45,15 +46,15 @@ pub extern "C" fn lizsomdur_reverse(
 #[no_mangle]
 pub extern "C" fn lizsomdur_eliminate(
     sheet: &[u8],
-    calls: &[usize],
-    ends: &[usize],
-    left_calls: &mut [usize],
-    left_ends: &mut [usize],
+    calls: &[u8],
+    ends: &[u8],
+    left_calls: &mut [u8],
+    left_ends: &mut [u8],
     word: &mut usize,
     counts: &mut [usize; 2],
 ) -> u32
     ensures { λ r.
-        let given = runs (now (calls .entry)) (now (ends .entry)) in
+        let given = runs (numbersOf (now (calls .entry))) (numbersOf (now (ends .entry))) in
         let left = runs (now («left_calls» .entry)) (now («left_ends» .entry)) in
         let old = eliminateOutputs (now (word .entry)) left (now (counts .entry)) in
         let left = runs (now («left_calls» .exit)) (now («left_ends» .exit)) in

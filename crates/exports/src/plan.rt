@@ -5,7 +5,7 @@ ghost use Rattle.definitions.specs.Room.{short};
 ghost use Rattle.exports.specs.Plan.{planNeeds, planOutputs, PlanKept};
 use cut_table::cells::MOST_CUT;
 use refuse_lists::lengths;
-use sheet_plan::plan::plan_sheet;
+use sheet_plan::stored::plan_sheet;
 use sheet_read::read::Reading;
 use sheet_read::read::read;
 
@@ -20,17 +20,17 @@ fn too_short(served: usize, ends: usize, breaks: usize, starts: usize, dropped: 
 
 // The plan of the sheet that the bytes are. At the front of the lists, each of which needs room for 63, stand the
 // customers served, the run ends, the number of the call, from 1, at which each run takes its break, or 0, when that
-// break starts, or 0.0, and the positions of the dropped calls. `counts` has how many calls are served, runs made and
-// calls dropped, `totals` cost and distance. The answer is 0, or the number of a refusal: then its word alone is
-// written.
+// break starts, or 0.0, and the positions of the dropped calls; all but the starts have a byte each. `counts` has how
+// many calls are served, runs made and calls dropped, `totals` cost and distance. The answer is 0, or the number of a
+// refusal: then its word alone is written.
 #[no_mangle]
 pub extern "C" fn lizsomdur_plan(
     sheet: &[u8],
-    served: &mut [usize],
-    run_ends: &mut [usize],
-    break_places: &mut [usize],
+    served: &mut [u8],
+    run_ends: &mut [u8],
+    break_places: &mut [u8],
     break_starts: &mut [f64],
-    dropped: &mut [usize],
+    dropped: &mut [u8],
     counts: &mut [usize; 3],
     totals: &mut [f64; 2],
     word: &mut usize,

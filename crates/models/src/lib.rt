@@ -1,4 +1,5 @@
 // Customers and vehicles: windows, loads, breaks and limits, counts, the head of a sheet, and the range of its numbers.
+pub mod byte;
 pub mod count;
 pub mod customer;
 pub mod domain;

@@ -3,16 +3,17 @@ use Prim.Native.Nat.{ℕ, _≤_}
 use mathlib.Core.Path.{_≡_, refl, sym, subst}
 use mathlib.Core.List.{List, [], _∷_}
 use mathlib.Core.Option.{Option, none, some}
-use lib.ListN.{length, take, drop}
-use lib.Seq.{take-append-seam}
+use lib.ListN.{length}
 use Rattle.bounds.proofs.Inside.{sized, few-calls}
+use Rattle.bounds.proofs.InBytes.{InBytes, bytes-read-back, calls-in-bytes, CutInBytes, split-in-bytes, split-tw-in-bytes}
 use Rattle.bounds.proofs.CostBoundLaws.{arc-priced, plain-priced, plan-fits}
+use Rattle.definitions.specs.Domain.{mostCalls}
 use Rattle.definitions.specs.Sheet.{Sheet}
 use Rattle.definitions.specs.Clock.{arc}
 use Rattle.definitions.specs.Drop.{Result, plainArc, split, splitTw}
 use Rattle.definitions.specs.Lent.{cutting}
 use Rattle.definitions.specs.Refusals.{refusalOf, Within, WithinCalls}
-use Rattle.definitions.specs.Room.{written}
+use Rattle.definitions.specs.Bytes.{stored, readBack}
 use Rattle.definitions.specs.Answers.{Answer, front, unlessRefused, answer}
 use Rattle.definitions.specs.Clauses.{bare, Clauses}
 use Rattle.theorems.proofs.Accepted.{accepted-within}
@@ -25,25 +26,29 @@ use Rattle.call_cuts.specs.declared.cutting.Cut.{Cut}
 use Rattle.call_cuts.specs.Cutting.{cutIn}
 use Rattle.planner.specs.Calls.{LentSheet, meant}
 use Rattle.planner.specs.Cutting.{CutOutput, cutOutput, cutOn, cutAnswer, CutContract}
+use Rattle.planner.proofs.InBytes.{stored-same}
 
--- ---- they are kept of what stands at the front of the lists
+-- ---- they are kept of what is read back from the lists
 
 abbrev firsts : List ℕ → List ℕ → List ℕ
-firsts new old = take (length new) (written new old)
+firsts new old = readBack (length new) (stored new old)
 
-first-are : (new old : List ℕ) → firsts new old ≡ new
-first-are new old = take-append-seam new (drop (length new) old)
-
-module _ (s : Sheet) (tour served ends dropped : List ℕ) (x : Result) (kept : Clauses s tour (x .served) (x .ends) (x .dropped) (x .cost)) where
+module _ (s : Sheet) (tour served ends dropped : List ℕ) (x : Result) (small : CutInBytes x) (kept : Clauses s tour (x .served) (x .ends) (x .dropped) (x .cost)) where
   front-kept : Clauses s tour (firsts (x .served) served) (firsts (x .ends) ends) (firsts (x .dropped) dropped) (x .cost)
-  front-kept = rw (first-are (x .served) served, first-are (x .ends) ends, first-are (x .dropped) dropped) kept
+  front-kept =
+      rw (
+        bytes-read-back (x .served) served (small .served),
+        bytes-read-back (x .ends) ends (small .ends),
+        bytes-read-back (x .dropped) dropped (small .dropped),
+      ) kept
 
 -- ---- the two ways to cut
 
--- a way to cut keeps demand 3 of what it looks at of a sheet, and on a sheet within the limits a float holds its cost
+-- a way to cut keeps demand 3 of what it looks at of a sheet, and on a sheet within the limits a float holds its cost and bytes its lists
 pub record Keeps (cut : Sheet → List ℕ → Result) (looksAt : Sheet → Sheet) : Type 0 where
   pub clauses : (s : Sheet) (tour : List ℕ) → let x = cut s tour in Clauses (looksAt s) tour (x .served) (x .ends) (x .dropped) (x .cost)
   pub cost-small : (s : Sheet) → Within s → (tour : List ℕ) → WithinCalls s tour → cut s tour .cost ≤ limit
+  pub in-bytes : (tour : List ℕ) → InBytes tour → length tour ≤ mostCalls → (s : Sheet) → CutInBytes (cut s tour)
 
 pub split-keeps : Keeps split bare
 unfolding split
@@ -51,6 +56,7 @@ split-keeps =
     record {
       clauses = split-kept;
       cost-small = λ s W tour T. let S = sized s W in plan-fits (plainArc s) (plain-priced s S) tour (few-calls s tour T) s S .0;
+      in-bytes = split-in-bytes;
     }
 
 pub split-tw-keeps : Keeps splitTw (λ s. s)
@@ -59,6 +65,7 @@ split-tw-keeps =
     record {
       clauses = split-tw-kept;
       cost-small = λ s W tour T. let S = sized s W in plan-fits (arc s) (arc-priced s S) tour (few-calls s tour T) s S .0;
+      in-bytes = split-tw-in-bytes;
     }
 
 -- ---- what a call that answers so keeps
@@ -70,14 +77,14 @@ module _ (cut : Sheet → List ℕ → Result) (looksAt : Sheet → Sheet) (keep
   abbrev answered : Answer Result
   answered = cutAnswer cut q tour old
 
-  -- the lists, with an answer written into them
+  -- the lists, with an answer stored in them
   abbrev pub left : Answer Result → CutOutput
   left a =
-      cutOutput (written (front (λ y. y .served) a) (old .served)) (written (front (λ y. y .ends) a) (old .ends))
-      (written (front (λ y. y .dropped) a) (old .dropped))
+      cutOutput (stored (front (λ y. y .served) a) (old .served)) (stored (front (λ y. y .ends) a) (old .ends))
+      (stored (front (λ y. y .dropped) a) (old .dropped))
 
   kept-by : (refusal : Option ℕ) → refusalOf value cutting (cutOn q tour old) ≡ refusal → answered ≡ unlessRefused refusal x
-      → (refusal ≡ none → x .cost ≤ limit) → CutContract cut looksAt q tour old (cutIn answered) (left answered)
+      → (refusal ≡ none → (x .cost ≤ limit) × CutInBytes x) → CutContract cut looksAt q tour old (cutIn answered) (left answered)
   kept-by (some number) is by small =
       rw by record {
         result = rw by refl;
@@ -96,13 +103,14 @@ module _ (cut : Sheet → List ℕ → Result) (looksAt : Sheet → Sheet) (keep
         partition = tt;
       }
   kept-by none is by small =
-      let K = front-kept (looksAt (meant q)) tour (old .served) (old .ends) (old .dropped) x (keeps .clauses (meant q) tour) in
-      let means = value-fl (x .cost) (small refl) in
+      let bytes = small refl .1 in
+      let K = front-kept (looksAt (meant q)) tour (old .served) (old .ends) (old .dropped) x bytes (keeps .clauses (meant q) tour) in
+      let means = value-fl (x .cost) (small refl .0) in
       rw by record {
         result = rw by refl;
-        served-left = rw by refl;
-        ends-left = rw by refl;
-        dropped-left = rw by refl;
+        served-left = rw by (stored-same (x .served) (old .served) (bytes .served));
+        ends-left = rw by (stored-same (x .ends) (old .ends) (bytes .ends));
+        dropped-left = rw by (stored-same (x .dropped) (old .dropped) (bytes .dropped));
         refused = sym is;
         untouched = tt;
         legal = K .legal;
@@ -120,4 +128,8 @@ module _ (cut : Sheet → List ℕ → Result) (looksAt : Sheet → Sheet) (keep
   kept is left-is =
       subst (λ (z : Cut × CutOutput). CutContract cut looksAt q tour old (z .0) (z .1)) (λ i. (sym is i, sym left-is i))
       (kept-by (refusalOf value cutting (cutOn q tour old)) refl refl
-      (λ e. let a = accepted-within value cutting (cutOn q tour old) e in keeps .cost-small (meant q) (a .within) tour (a .tour)))
+      (λ e.
+      let a = accepted-within value cutting (cutOn q tour old) e in (
+        keeps .cost-small (meant q) (a .within) tour (a .tour),
+        keeps .in-bytes tour (calls-in-bytes (meant q) (a .within) tour (a .tour)) (few-calls (meant q) tour (a .tour)) (meant q),
+      )))

@@ -4,8 +4,9 @@ pub mod Answers
 pub mod CallWalk
 pub mod LentLists
 pub mod PublicCall
--- What a contract says of a refusal.
+-- What a contract says of a refusal, and of lists in bytes.
 pub mod Refusing
+pub mod InBytes
 -- The evaluations of a run.
 pub mod RunLists
 pub mod RunCalls

@@ -9,6 +9,7 @@ use Rattle.definitions.specs.Sheet.{Sheet}
 use Rattle.definitions.specs.Drop.{Result, split, splitTw}
 use Rattle.definitions.specs.Lent.{Lent, cutting}
 use Rattle.definitions.specs.Room.{written}
+use Rattle.definitions.specs.Bytes.{numbersOf}
 use Rattle.definitions.specs.Answers.{Answer, front, answer}
 use Rattle.definitions.specs.Clauses.{Legal, Sum, Least, Tied, Drops, Served, Partition, bare}
 use Rattle.whole.specs.Value.{value}
@@ -33,15 +34,16 @@ IfCut (Cases.Cut counts) P = P counts
 abbrev pub Means : Float → (ℕ → Type 0) → Type 0
 Means x P = (n : ℕ) × (value x ≡ some n) × P n
 
--- ---- the lists that are written: served customers, run ends, dropped positions
+-- ---- the numbers in the lists that are written: served customers, run ends, dropped positions
 
 pub record CutOutput : Type 0 where
   pub served : List ℕ
   pub ends : List ℕ
   pub dropped : List ℕ
 
+-- which are lent in bytes
 abbrev pub cutOutput : (served ends dropped : List ℕ) → CutOutput
-cutOutput served ends dropped = record { served = served; ends = ends; dropped = dropped }
+cutOutput served ends dropped = record { served = numbersOf served; ends = numbersOf ends; dropped = numbersOf dropped }
 
 -- as much of each as is counted
 abbrev pub counted : SplitResult → CutOutput → CutOutput

@@ -7,6 +7,7 @@ use lib.ListN.{length}
 use lib.Ieee.{Float}
 use Rattle.definitions.specs.Lent.{Lent, eliminating}
 use Rattle.definitions.specs.Room.{written}
+use Rattle.definitions.specs.Bytes.{numbersOf}
 use Rattle.definitions.specs.Answers.{Answer, Eliminated, front, eliminateOf}
 use Rattle.whole.specs.Value.{value}
 use Rattle.call_improvers.specs.declared.eliminating.Elimination.{Elimination}
@@ -19,13 +20,14 @@ abbrev pub eliminationRefusal : Elimination → Option ℕ
 eliminationRefusal (Cases.Refused number) = some number
 eliminationRefusal (Cases.Left left) = none
 
--- the lists that are written: the calls and the run ends that are left
+-- the numbers in the lists that are written: the calls and the run ends that are left
 pub record EliminationOutput : Type 0 where
   pub calls : List ℕ
   pub ends : List ℕ
 
+-- which are lent in bytes
 abbrev pub eliminationOutput : (calls ends : List ℕ) → EliminationOutput
-eliminationOutput calls ends = record { calls = calls; ends = ends }
+eliminationOutput calls ends = record { calls = numbersOf calls; ends = numbersOf ends }
 
 module _ (q : LentSheet) (calls ends : List ℕ) (old : EliminationOutput) where
   -- all that is lent, with the lengths of the lists that are written

@@ -9,16 +9,16 @@ use models::customer::Customer;
 use models::head::Head;
 
 // A tour cut at least cost by loads and closed legs alone: the served customers, the run ends and the dropped
-// positions are written at the front of the lent lists.
+// positions are written at the front of the lent lists, a byte each.
 pub fn split(
     head: Head,
     customers: &[Customer],
     distances: &[f64],
     times: &[f64],
     tour: &[usize],
-    served: &mut [usize],
-    run_ends: &mut [usize],
-    dropped: &mut [usize],
+    served: &mut [u8],
+    run_ends: &mut [u8],
+    dropped: &mut [u8],
 ) -> Cut
     ensures { λ r.
         let sheet = lentSheet head (now (customers .entry)) (now (distances .entry)) (now (times .entry)) in
@@ -42,16 +42,16 @@ pub fn split(
 }
 
 // A tour cut at least cost by all that a run is held to: the served customers, the run ends and the dropped positions
-// are written at the front of the lent lists.
+// are written at the front of the lent lists, a byte each.
 pub fn split_tw(
     head: Head,
     customers: &[Customer],
     distances: &[f64],
     times: &[f64],
     tour: &[usize],
-    served: &mut [usize],
-    run_ends: &mut [usize],
-    dropped: &mut [usize],
+    served: &mut [u8],
+    run_ends: &mut [u8],
+    dropped: &mut [u8],
 ) -> Cut
     ensures { λ r.
         let sheet = lentSheet head (now (customers .entry)) (now (distances .entry)) (now (times .entry)) in

@@ -1,5 +1,6 @@
 // Route elimination as a public call: the customers are gathered into an array, on which the call is checked and
 // answered.
+ghost use Rattle.definitions.specs.Bytes.{numbersOf};
 ghost use Rattle.planner.specs.Calls.{lentSheet};
 ghost use Rattle.planner.specs.Eliminating.{eliminationOutput, EliminationContract};
 use call_improvers::eliminating::Elimination;
@@ -9,22 +10,22 @@ use models::customer::Customer;
 use models::head::Head;
 
 // The runs that are left once each run that can be emptied is: their calls and run ends are written at the front of the
-// lent lists.
+// lent lists. Runs are taken and given in bytes.
 pub fn eliminate_routes(
     head: Head,
     customers: &[Customer],
     distances: &[f64],
     times: &[f64],
-    calls: &[usize],
-    ends: &[usize],
-    left_calls: &mut [usize],
-    left_ends: &mut [usize],
+    calls: &[u8],
+    ends: &[u8],
+    left_calls: &mut [u8],
+    left_ends: &mut [u8],
 ) -> Elimination
     ensures { λ r.
         let sheet = lentSheet head (now (customers .entry)) (now (distances .entry)) (now (times .entry)) in
         let old = eliminationOutput (now («left_calls» .entry)) (now («left_ends» .entry)) in
         let new = eliminationOutput (now («left_calls» .exit)) (now («left_ends» .exit)) in
-        ⌜ EliminationContract sheet (now (calls .entry)) (now (ends .entry)) old r new ⌝ }
+        ⌜ EliminationContract sheet (numbersOf (now (calls .entry))) (numbersOf (now (ends .entry))) old r new ⌝ }
 {
     let n = count(customers);
     let all = gathered(customers);

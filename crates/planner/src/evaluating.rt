@@ -1,5 +1,6 @@
 // The evaluations of a run as public calls: the customers are gathered into an array, on which the call is checked and
-// answered.
+// answered. The run is lent in bytes.
+ghost use Rattle.definitions.specs.Bytes.{numbersOf};
 ghost use Rattle.planner.specs.Calls.{lentSheet};
 ghost use Rattle.planner.specs.Evaluating.{FeasibleContract, CostContract, EvalContract};
 use call_runs::evaluating::Cost;
@@ -16,11 +17,11 @@ pub fn route_feasible(
     customers: &[Customer],
     distances: &[f64],
     times: &[f64],
-    run: &[usize],
+    run: &[u8],
 ) -> Feasible
     ensures { λ r.
         let sheet = lentSheet head (now (customers .entry)) (now (distances .entry)) (now (times .entry)) in
-        ⌜ FeasibleContract sheet (now (run .entry)) r ⌝ }
+        ⌜ FeasibleContract sheet (numbersOf (now (run .entry))) r ⌝ }
 {
     let n = count(customers);
     let all = gathered(customers);
@@ -33,11 +34,11 @@ pub fn effective_cost(
     customers: &[Customer],
     distances: &[f64],
     times: &[f64],
-    run: &[usize],
+    run: &[u8],
 ) -> Cost
     ensures { λ r.
         let sheet = lentSheet head (now (customers .entry)) (now (distances .entry)) (now (times .entry)) in
-        ⌜ CostContract sheet (now (run .entry)) r ⌝ }
+        ⌜ CostContract sheet (numbersOf (now (run .entry))) r ⌝ }
 {
     let n = count(customers);
     let all = gathered(customers);
@@ -50,11 +51,11 @@ pub fn route_eval(
     customers: &[Customer],
     distances: &[f64],
     times: &[f64],
-    run: &[usize],
+    run: &[u8],
 ) -> Evaluation
     ensures { λ r.
         let sheet = lentSheet head (now (customers .entry)) (now (distances .entry)) (now (times .entry)) in
-        ⌜ EvalContract sheet (now (run .entry)) r ⌝ }
+        ⌜ EvalContract sheet (numbersOf (now (run .entry))) r ⌝ }
 {
     let n = count(customers);
     let all = gathered(customers);

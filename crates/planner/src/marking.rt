@@ -1,4 +1,5 @@
 // The marker as a public call: the customers are gathered into an array, on which the call is checked and answered.
+ghost use Rattle.definitions.specs.Bytes.{numbersOf};
 ghost use Rattle.planner.specs.Calls.{lentSheet};
 ghost use Rattle.planner.specs.Marking.{MarkContract};
 use call_cuts::marking::Marking;
@@ -8,20 +9,21 @@ use models::customer::Customer;
 use models::head::Head;
 
 // A cutting with break places, marked against the planner's of the tour; `calls` and `ends` are its runs, and `breaks`
-// has a break place for each.
+// has a break place for each, all in bytes.
 pub fn mark(
     head: Head,
     customers: &[Customer],
     distances: &[f64],
     times: &[f64],
     tour: &[usize],
-    calls: &[usize],
-    ends: &[usize],
-    breaks: &[usize],
+    calls: &[u8],
+    ends: &[u8],
+    breaks: &[u8],
 ) -> Marking
     ensures { λ r.
         let sheet = lentSheet head (now (customers .entry)) (now (distances .entry)) (now (times .entry)) in
-        ⌜ MarkContract sheet (now (tour .entry)) (now (calls .entry)) (now (ends .entry)) (now (breaks .entry)) r ⌝ }
+        ⌜ MarkContract sheet (now (tour .entry)) (numbersOf (now (calls .entry))) (numbersOf (now (ends .entry)))
+        (numbersOf (now (breaks .entry))) r ⌝ }
 {
     let n = count(customers);
     let all = gathered(customers);

@@ -1,5 +1,6 @@
 // The visits of a run as a public call: the customers are gathered into an array, on which the call is checked and the
 // run built; its visits and violations are written at the front of the lent lists.
+ghost use Rattle.definitions.specs.Bytes.{numbersOf};
 ghost use Rattle.planner.specs.Calls.{lentSheet};
 ghost use Rattle.planner.specs.Visiting.{routeOutput, Writes, VisitContract};
 use call_runs::visiting::Listed;
@@ -25,14 +26,14 @@ fn write(listed: Listed, visits: &mut [Visit], violations: &mut [Violation]) -> 
     listed.route
 }
 
-// A run with its visits, its totals and what it violates: the visits and the violations are written at the front of the
-// lent lists.
+// A run, lent in bytes, with its visits, its totals and what it violates: the visits and the violations are written at
+// the front of the lent lists.
 pub fn build_route(
     head: Head,
     customers: &[Customer],
     distances: &[f64],
     times: &[f64],
-    run: &[usize],
+    run: &[u8],
     visits: &mut [Visit],
     violations: &mut [Violation],
 ) -> Route
@@ -40,7 +41,7 @@ pub fn build_route(
         let sheet = lentSheet head (now (customers .entry)) (now (distances .entry)) (now (times .entry)) in
         let old = routeOutput (now (visits .entry)) (now (violations .entry)) in
         let new = routeOutput (now (visits .exit)) (now (violations .exit)) in
-        ⌜ VisitContract sheet (now (run .entry)) old r new ⌝ }
+        ⌜ VisitContract sheet (numbersOf (now (run .entry))) old r new ⌝ }
 {
     let n = count(customers);
     let all = gathered(customers);

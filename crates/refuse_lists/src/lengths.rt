@@ -28,8 +28,8 @@ pub fn short(needs: &[usize], rooms: &[usize]) -> bool
 pub fn results_short(
     results: Results,
     tour: &[usize],
-    calls: &[usize],
-    ends: &[usize],
+    calls: &[u8],
+    ends: &[u8],
     rooms: &[usize],
 ) -> bool
     ensures { λ r.
@@ -64,9 +64,9 @@ pub fn too_short(
     customers: usize,
     kind: Kind,
     tour: &[usize],
-    calls: &[usize],
-    ends: &[usize],
-    breaks: &[usize],
+    calls: &[u8],
+    ends: &[u8],
+    breaks: &[u8],
     rooms: &[usize],
 ) -> bool
     ensures { λ r.

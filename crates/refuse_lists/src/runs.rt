@@ -1,18 +1,19 @@
-// Refusal 5: run ends and break places.
+// Refusal 5: run ends and break places, which are lent in bytes.
 ghost use mathlib.Core.Path.{_≡_};
 ghost use mathlib.Core.Bool.{cond};
 ghost use Prim.Native.Nat.{_-_};
 ghost use Rattle.definitions.specs.Refusals.{endsFall, emptyRun, breakBeyond};
 ghost use Rattle.refuse_lists.specs.Needs.{runsOddOf};
 use crate::kind::Kind;
+use models::byte::number_of;
 use models::count::fewer;
 use models::domain::MOST_CALLS;
 
 // An end below the one before it, or the last is not the number of calls.
-pub fn ends_fall(ends: &[usize], calls: usize) -> bool
+pub fn ends_fall(ends: &[u8], calls: usize) -> bool
     ensures { λ r. ⌜ r ≡ endsFall 0 (now (ends .entry)) calls ⌝ }
 {
-    let mut p = 0;
+    let mut p = 0u8;
     let mut i = 0;
     while i < ends.len() {
         let e = ends[i];
@@ -22,13 +23,13 @@ pub fn ends_fall(ends: &[usize], calls: usize) -> bool
         p = e;
         i += 1;
     }
-    p != calls
+    number_of(p) != calls
 }
 
-pub fn empty_run(ends: &[usize]) -> bool
+pub fn empty_run(ends: &[u8]) -> bool
     ensures { λ r. ⌜ r ≡ emptyRun 0 (now (ends .entry)) ⌝ }
 {
-    let mut p = 0;
+    let mut p = 0u8;
     let mut i = 0;
     while i < ends.len() {
         let e = ends[i];
@@ -42,7 +43,7 @@ pub fn empty_run(ends: &[usize]) -> bool
 }
 
 // The last break place of the run from p to e; on a sheet without a break there is none but 0.
-pub fn last_place(rest: bool, p: usize, e: usize) -> usize
+pub fn last_place(rest: bool, p: u8, e: u8) -> u8
     ensures { λ r. ⌜ r ≡ cond rest (e - p) 0 ⌝ }
 {
     if !rest {
@@ -55,11 +56,11 @@ pub fn last_place(rest: bool, p: usize, e: usize) -> usize
 }
 
 // A break place beyond its run, or on a sheet without a break.
-pub fn break_beyond(rest: bool, ends: &[usize], breaks: &[usize]) -> bool
+pub fn break_beyond(rest: bool, ends: &[u8], breaks: &[u8]) -> bool
     ensures { λ r. ⌜ r ≡ breakBeyond rest 0 (now (ends .entry)) (now (breaks .entry)) ⌝ }
 {
     let n = fewer(ends.len(), breaks.len());
-    let mut p = 0;
+    let mut p = 0u8;
     let mut i = 0;
     while i < n {
         let e = ends[i];
@@ -73,7 +74,7 @@ pub fn break_beyond(rest: bool, ends: &[usize], breaks: &[usize]) -> bool
 }
 
 // All of refusal 5.
-pub fn runs_odd(kind: Kind, rest: bool, calls: usize, ends: &[usize], breaks: &[usize]) -> bool
+pub fn runs_odd(kind: Kind, rest: bool, calls: usize, ends: &[u8], breaks: &[u8]) -> bool
     ensures { λ r. ⌜ r ≡ runsOddOf kind rest calls (now (ends .entry)) (now (breaks .entry)) ⌝ }
 {
     let many = kind.takes_ends & (MOST_CALLS < ends.len());

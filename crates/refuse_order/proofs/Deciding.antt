@@ -12,6 +12,7 @@ use Rattle.basics.proofs.TestLaws.{by-test, or-left, not-false}
 use Rattle.basics.specs.Tests.{either}
 use Rattle.basics.specs.Options.{present, valueOr}
 use Rattle.basics.specs.Lists.{any, All}
+use Rattle.basics.proofs.ListLaws.{take-map}
 use Rattle.definitions.specs.Domain.{isPlaces, isLeg}
 use Rattle.definitions.specs.Sheet.{SheetOf, records, own, mapSheet, anySoft}
 use Rattle.definitions.specs.Lent.{Lent, whole, wholeSheet, Call}
@@ -48,11 +49,6 @@ unfolding byRows badHead outOfRange badSheet
 by-rows l even = rw (all-rows (l .sheet) even (unfit value isLeg)) (simp or-assoc)
 
 -- ---- the array in place of the customers lent
-
-take-map : {A B : Type 0} (g : A → B) (n : ℕ) (l : List A) → take n (map g l) ≡ map g (take n l)
-take-map g zero l = refl
-take-map g (suc n) [] = refl
-take-map {B} g (suc n) (x ∷ l) = ap (λ (r : List B). g x ∷ r) (take-map g n l)
 
 module _ (customers : List Customer) (count : ℕ) (array : List Customer) (G : Gathered customers count array) where
   -- the first records are the same

@@ -1,4 +1,5 @@
 // The refusal of each call. What a call does not take is empty, and a result list is given by its length.
+// Runs, run ends and break places are lent in bytes.
 ghost use mathlib.Core.List.{[], _∷_};
 ghost use Rattle.definitions.specs.Lent.{cutting, evaluating, visiting, marking, reversing, eliminating};
 ghost use Rattle.refuse_order.specs.Lent.{sheetFor, lentFor};
@@ -27,7 +28,7 @@ pub fn refuse_cutting(
         ⌜ Refuses cutting lent count customers r ⌝ }
     ensures image { λ r. ⌜ Images (sheetFor head (now (distances .entry)) (now (times .entry))) count customers r ⌝ }
 {
-    let none: [usize; 0] = [];
+    let none: [u8; 0] = [];
     let rooms = [served, run_ends, dropped];
     let kind = Kind {
         takes_ends: false,
@@ -57,7 +58,7 @@ pub fn refuse_evaluating(
     count: usize,
     distances: &[f64],
     times: &[f64],
-    run: &[usize],
+    run: &[u8],
 ) -> u32
     ensures refused { λ r.
         let s = sheetFor head (now (distances .entry)) (now (times .entry)) in
@@ -65,7 +66,9 @@ pub fn refuse_evaluating(
         ⌜ Refuses evaluating lent count customers r ⌝ }
     ensures image { λ r. ⌜ Images (sheetFor head (now (distances .entry)) (now (times .entry))) count customers r ⌝ }
 {
-    let none: [usize; 0] = [];
+    let tour: [usize; 0] = [];
+    let none: [u8; 0] = [];
+    let rooms: [usize; 0] = [];
     let kind = Kind {
         takes_ends: false,
         marks: false,
@@ -79,11 +82,11 @@ pub fn refuse_evaluating(
         count,
         distances,
         times,
-        &none,
+        &tour,
         run,
         &none,
         &none,
-        &none,
+        &rooms,
     )
 }
 
@@ -94,7 +97,7 @@ pub fn refuse_visiting(
     count: usize,
     distances: &[f64],
     times: &[f64],
-    run: &[usize],
+    run: &[u8],
     visits: usize,
     violations: usize,
 ) -> u32
@@ -104,7 +107,8 @@ pub fn refuse_visiting(
         ⌜ Refuses visiting lent count customers r ⌝ }
     ensures image { λ r. ⌜ Images (sheetFor head (now (distances .entry)) (now (times .entry))) count customers r ⌝ }
 {
-    let none: [usize; 0] = [];
+    let tour: [usize; 0] = [];
+    let none: [u8; 0] = [];
     let rooms = [visits, violations];
     let kind = Kind {
         takes_ends: false,
@@ -119,7 +123,7 @@ pub fn refuse_visiting(
         count,
         distances,
         times,
-        &none,
+        &tour,
         run,
         &none,
         &none,
@@ -135,9 +139,9 @@ pub fn refuse_marking(
     distances: &[f64],
     times: &[f64],
     tour: &[usize],
-    calls: &[usize],
-    ends: &[usize],
-    breaks: &[usize],
+    calls: &[u8],
+    ends: &[u8],
+    breaks: &[u8],
 ) -> u32
     ensures refused { λ r.
         let s = sheetFor head (now (distances .entry)) (now (times .entry)) in
@@ -145,7 +149,7 @@ pub fn refuse_marking(
         ⌜ Refuses marking lent count customers r ⌝ }
     ensures image { λ r. ⌜ Images (sheetFor head (now (distances .entry)) (now (times .entry))) count customers r ⌝ }
 {
-    let none: [usize; 0] = [];
+    let rooms: [usize; 0] = [];
     let kind = Kind {
         takes_ends: true,
         marks: true,
@@ -163,7 +167,7 @@ pub fn refuse_marking(
         calls,
         ends,
         breaks,
-        &none,
+        &rooms,
     )
 }
 
@@ -174,7 +178,7 @@ pub fn refuse_reversing(
     count: usize,
     distances: &[f64],
     times: &[f64],
-    run: &[usize],
+    run: &[u8],
     result: usize,
 ) -> u32
     ensures refused { λ r.
@@ -183,7 +187,8 @@ pub fn refuse_reversing(
         ⌜ Refuses reversing lent count customers r ⌝ }
     ensures image { λ r. ⌜ Images (sheetFor head (now (distances .entry)) (now (times .entry))) count customers r ⌝ }
 {
-    let none: [usize; 0] = [];
+    let tour: [usize; 0] = [];
+    let none: [u8; 0] = [];
     let rooms = [result];
     let kind = Kind {
         takes_ends: false,
@@ -198,7 +203,7 @@ pub fn refuse_reversing(
         count,
         distances,
         times,
-        &none,
+        &tour,
         run,
         &none,
         &none,
@@ -213,8 +218,8 @@ pub fn refuse_eliminating(
     count: usize,
     distances: &[f64],
     times: &[f64],
-    calls: &[usize],
-    ends: &[usize],
+    calls: &[u8],
+    ends: &[u8],
     result_calls: usize,
     result_ends: usize,
 ) -> u32
@@ -224,7 +229,8 @@ pub fn refuse_eliminating(
         ⌜ Refuses eliminating lent count customers r ⌝ }
     ensures image { λ r. ⌜ Images (sheetFor head (now (distances .entry)) (now (times .entry))) count customers r ⌝ }
 {
-    let none: [usize; 0] = [];
+    let tour: [usize; 0] = [];
+    let none: [u8; 0] = [];
     let rooms = [result_calls, result_ends];
     let kind = Kind {
         takes_ends: true,
@@ -239,7 +245,7 @@ pub fn refuse_eliminating(
         count,
         distances,
         times,
-        &none,
+        &tour,
         calls,
         ends,
         &none,

@@ -25,9 +25,9 @@ pub fn refusal(
     distances: &[f64],
     times: &[f64],
     tour: &[usize],
-    calls: &[usize],
-    ends: &[usize],
-    breaks: &[usize],
+    calls: &[u8],
+    ends: &[u8],
+    breaks: &[u8],
     rooms: &[usize],
 ) -> u32
     ensures refused { λ r.

@@ -61,7 +61,7 @@ pub fn out_of_range(
     distances: &[f64],
     times: &[f64],
     tour: &[usize],
-    calls: &[usize],
+    calls: &[u8],
 ) -> bool
     ensures { λ r.
         let s = sheetOf head customers (now (distances .entry)) (now (times .entry)) in
@@ -92,13 +92,7 @@ pub fn pairs_fall(head: Head, customers: [Customer; 64]) -> bool
     break_falls(rest) | any_applies(Test::Falling, customers, head.places)
 }
 
-pub fn runs_uneven(
-    kind: Kind,
-    head: Head,
-    calls: &[usize],
-    ends: &[usize],
-    breaks: &[usize],
-) -> bool
+pub fn runs_uneven(kind: Kind, head: Head, calls: &[u8], ends: &[u8], breaks: &[u8]) -> bool
     ensures { λ r.
         let rest = present (restOf (head .limits .rest)) in
         ⌜ r ≡ runsOddOf kind rest (length (now (calls .entry))) (now (ends .entry)) (now (breaks .entry)) ⌝ }

@@ -7,3 +7,5 @@ pub mod PlanRoom
 pub mod BreakTurns
 pub mod BreaksFound
 pub mod Planning
+-- The plan stored in bytes.
+pub mod PlanStored

@@ -1,7 +1,7 @@
 -- The cut of a sheet that is held and the breaks of its runs, as the plan leaves them in the lists. Assumes nothing.
 use Prim.Native.Nat.{ℕ, _≤_}
 use native.Mathlib.Omega.{arith}
-use mathlib.Core.Path.{_≡_, sym, ap, subst, _∙_}
+use mathlib.Core.Path.{_≡_, sym, ap, _∙_}
 use mathlib.Core.List.{List, map}
 use lib.Ieee.{Float}
 use lib.ListN.{length, take, length-map}
@@ -73,10 +73,6 @@ module _ (s : Sheet) (tour : List ℕ) (head : Head) (customers : List Customer)
           places-left = p ∙ ap (λ (l : List ℕ). written l (before .places)) places-are;
           starts-left = q ∙ ap (λ (l : List Float). written l (before .starts)) starts-are;
         }
-
--- a plan of the calls that are the tour
-pub of-tour : (s : Sheet) {l tour : List ℕ} {r : SplitResult} {old new : PlanLists} → l ≡ tour → Left (plan s l) r old new → Left (plan s tour) r old new
-of-tour s {r = r} {old = old} {new = new} e L = subst (λ (l : List ℕ). Left (plan s l) r old new) e L
 
 -- ---- what callers of `plan_held` ask for
 

@@ -12,6 +12,7 @@ use Rattle.definitions.specs.Clock.{startOf}
 use Rattle.definitions.specs.Drop.{Result, splitTw}
 use Rattle.definitions.specs.Marker.{withPlaces}
 use Rattle.definitions.specs.Room.{written}
+use Rattle.definitions.specs.Bytes.{stored}
 use Rattle.definitions.specs.RunList.{runsOf}
 use Rattle.split_tw.specs.declared.answer.SplitResult.{SplitResult}
 use Rattle.sheet_plan.specs.Cut.{CutLists, cutLists, CutLeft}
@@ -57,3 +58,13 @@ pub record Left (p : Plan) (r : SplitResult) (old new : PlanLists) : Type 0 wher
   pub starts-count : r .runs ≡ length (map fl (p .starts))
   pub places-left : new .places ≡ written (p .cut .places) (old .places)
   pub starts-left : new .starts ≡ written (map fl (p .starts)) (old .starts)
+
+-- the same where its lists, but for the starts, are in bytes
+pub record LeftInBytes (p : Plan) (r : SplitResult) (old new : PlanLists) : Type 0 where
+  pub counts : r .served ∷ r .runs ∷ r .dropped ∷ [] ≡ countsOf p
+  pub totals : r .cost ∷ r .distance ∷ [] ≡ totalsOf p
+  pub served-left : new .cut .served ≡ stored (p .cut .served) (old .cut .served)
+  pub ends-left : new .cut .ends ≡ stored (p .cut .ends) (old .cut .ends)
+  pub places-left : new .places ≡ stored (p .cut .places) (old .places)
+  pub starts-left : new .starts ≡ written (map fl (p .starts)) (old .starts)
+  pub dropped-left : new .cut .dropped ≡ stored (p .cut .dropped) (old .cut .dropped)

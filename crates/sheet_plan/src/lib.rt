@@ -2,3 +2,4 @@
 pub mod breaks;
 pub mod cut;
 pub mod plan;
+pub mod stored;

@@ -1,18 +1,11 @@
-// The plan of a sheet, written to lists: its tour is cut, and the breaks of the runs are found.
-ghost use mathlib.Core.Path.{_≡_};
-ghost use mathlib.Core.List.{List};
-ghost use Prim.Native.Nat.{ℕ};
+// The plan of a sheet in memory, written to lists: its tour is cut, and the breaks of the runs are found.
 ghost use Rattle.definitions.specs.Sheet.{Sheet};
-ghost use Rattle.definitions.specs.Reader as Reader;
-ghost use Rattle.sheet_loaded.specs.Held.{InMemory, Held, Found};
+ghost use Rattle.sheet_loaded.specs.Held.{InMemory, Held};
 ghost use Rattle.sheet_plan.specs.Plan.{plan, planLists, Roomy, Left};
 use crate::breaks::write_breaks;
 use crate::cut::cut_held;
-use cut_table::cells::MOST_CUT;
 use models::customer::Customer;
 use models::head::Head;
-use sheet_loaded::load::load;
-use sheet_read::read::Contents;
 use split_tw::answer::SplitResult;
 
 // The plan of the tour on the sheet that is held. Its lists are written at the front of those lent; what the cut comes
@@ -64,44 +57,4 @@ pub fn plan_held(
         &mut *break_starts,
     );
     cut
-}
-
-// The same of accepted bytes, of which the reader found so much.
-pub fn plan_sheet(
-    bytes: &[u8],
-    found: Contents,
-    served: &mut [usize],
-    run_ends: &mut [usize],
-    break_places: &mut [usize],
-    break_starts: &mut [f64],
-    dropped: &mut [usize],
-) -> SplitResult
-    requires { ⌜ Found (now bytes) found ⌝ }
-    requires { ⌜ Roomy (planLists (now served) (now «run_ends») (now «break_places»)
-        (now «break_starts») (now dropped)) ⌝ }
-    ensures { λ r.
-        let old = planLists (now (served .entry)) (now («run_ends» .entry)) (now («break_places» .entry))
-        (now («break_starts» .entry)) (now (dropped .entry)) in
-        let new = planLists (now (served .exit)) (now («run_ends» .exit)) (now («break_places» .exit))
-        (now («break_starts» .exit)) (now (dropped .exit)) in
-        ⌜ ((s : Sheet) (tour : List ℕ) → Reader.read (now (bytes .entry)) ≡ Reader.sheet s tour
-        → Left (plan s tour) r old new) ⌝ }
-{
-    let mut distances = [0.0; 4096];
-    let mut times = [0.0; 4096];
-    let mut tour = [0usize; MOST_CUT];
-    let l = load(bytes, found, &mut distances, &mut times, &mut tour);
-    let customers = l.customers;
-    plan_held(
-        &tour[..l.calls],
-        l.head,
-        customers,
-        &distances[..l.distance_count],
-        &times[..l.time_count],
-        &mut *served,
-        &mut *run_ends,
-        &mut *break_places,
-        &mut *break_starts,
-        &mut *dropped,
-    )
 }

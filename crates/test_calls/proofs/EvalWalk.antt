@@ -26,7 +26,7 @@ use sound.WpLaws.{FmC, fmOf, WpFn-mono}
 use denote.RattleType.{owns}
 use denote.Laws.{Ises, Are}
 use denote.Array.{array-vals}
-use denote.Builtin.{usize, f64}
+use denote.Builtin.{u8, f64}
 use denote.Ref.{RefT}
 use denote.Signature.{typesAt}
 use denote.Slice.{sliceVal, ShrSlice, slice-vals, shr-slice-tells, shr-slice-lawful}
@@ -58,7 +58,7 @@ function f =
       outlives = [];
       params = 5;
       locals =
-          typed Ed ∷ typed Hd ∷ typed Rs ∷ typed (ShrSlice (named 0) [] f64) ∷ typed (ShrSlice (named 1) [] f64) ∷ typed (ShrSlice (named 2) [] usize) ∷ lending [];
+          typed Ed ∷ typed Hd ∷ typed Rs ∷ typed (ShrSlice (named 0) [] f64) ∷ typed (ShrSlice (named 1) [] f64) ∷ typed (ShrSlice (named 2) [] u8) ∷ lending [];
       body = lend 6 (seq (call f (at 1 ∷ at 8 ∷ at 3 ∷ at 4 ∷ at 5 ∷ []) (place 0 [])) return);
     }
 
@@ -139,7 +139,7 @@ module _ {M : Type 1} (𝓤 : URA M) (H : Heap 𝓤) (A : Atoms 𝓤) (W : Given
         pass1 ! (init ! 12 refl (rows.all-lawful 𝓤 H A W .typed xs _ (are .1 .0) .0)) $
         pass1 ! (init ! 10 refl (shr-slice-lawful 𝓤 H A W (named 0) (κs .0) f64 .typed d _ (are .1 .1 .0) .0)) $
         pass1 ! (init ! 8 refl (shr-slice-lawful 𝓤 H A W (named 1) (κs .1 .0) f64 .typed t _ (are .1 .1 .1 .0) .0)) $
-        pass1 ! (init ! 6 refl (shr-slice-lawful 𝓤 H A W (named 2) (κs .1 .1 .0) usize .typed run _ (are .1 .1 .1 .1 .0) .0)) $
+        pass1 ! (init ! 6 refl (shr-slice-lawful 𝓤 H A W (named 2) (κs .1 .1 .0) u8 .typed run _ (are .1 .1 .1 .1 .0) .0)) $
         pass0 ! $
         -- [_8; …; _7; …; .. _0; …; the tokens; what the parameters own]
         assigns ! (of-opd ! (load ! (from ! (stop !)) (look ! 12 refl))) (from ! (stop !)) (init ! 4 refl (rows.all-lawful 𝓤 H A W .typed xs _ (are .1 .0) .0)) $
@@ -167,7 +167,7 @@ module _ {M : Type 1} (𝓤 : URA M) (H : Heap 𝓤) (A : Atoms 𝓤) (W : Given
 module _ {M : Type 1} (𝓤 : URA M) (H : Heap 𝓤) (A : Atoms 𝓤) (W : Given 𝓤 H A) (f : Name) (c : Clauses 𝓤 public.ended) (p : Clauses 𝓤 route-eval.ended) (carries : Carries 𝓤 c p) where
   walks : (C : Calls 𝓤 H) (Λ : Loops 𝓤 H) → FmC 𝓤 H (W .laws) C → Triple 𝓤 (C f) (Met 𝓤 H A public.ended c) → Walks 𝓤 H A route-eval.ended stayed (WpFn 𝓤 H C Λ (function f)) p
   walks C Λ fm known = walked 𝓤 H A route-eval.ended stayed p (WpFn 𝓤 H C Λ (function f)) (λ κs. (answers.head-vals, (array-vals rows.vals, (slice-vals, (slice-vals, (slice-vals, tt))))))
-      (λ κs. (answers.head-tells, (rows.all-tells, (shr-slice-tells (named 0) (κs .0) f64, (shr-slice-tells (named 1) (κs .1 .0) f64, (shr-slice-tells (named 2) (κs .1 .1 .0) usize, tt))))))
+      (λ κs. (answers.head-tells, (rows.all-tells, (shr-slice-tells (named 0) (κs .0) f64, (shr-slice-tells (named 1) (κs .1 .0) f64, (shr-slice-tells (named 2) (κs .1 .1 .0) u8, tt))))))
       (λ κs qs bounds a g are. via 𝓤 _ (fst∗ 𝓤 _ (p κs a .requires g)) (walk 𝓤 H A W f c p carries κs qs a g C Λ fm known are))
 
   pub eval-meets : (𝓣 : Tables 𝓤 H) → Triple 𝓤 (𝓣 .C f) (Met 𝓤 H A public.ended c) → Meets 𝓤 H A route-eval.signature (WpFn 𝓤 H (𝓣 .C) (𝓣 .Λ) (function f)) (closing 𝓤 H A route-eval.ended p)

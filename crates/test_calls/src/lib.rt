@@ -1,4 +1,5 @@
 // The public calls on customers that the caller owns as an array: the array is lent as a slice. For test programs.
+ghost use Rattle.definitions.specs.Bytes.{numbersOf};
 ghost use Rattle.planner.specs.Calls.{lentSheet};
 ghost use Rattle.planner.specs.Cutting.{cutOutput, SplitTwContract};
 ghost use Rattle.planner.specs.Evaluating.{EvalContract};
@@ -16,9 +17,9 @@ pub fn split_tw(
     distances: &[f64],
     times: &[f64],
     tour: &[usize],
-    served: &mut [usize],
-    run_ends: &mut [usize],
-    dropped: &mut [usize],
+    served: &mut [u8],
+    run_ends: &mut [u8],
+    dropped: &mut [u8],
 ) -> Cut
     ensures { λ r.
         let sheet = lentSheet head customers (now (distances .entry)) (now (times .entry)) in
@@ -44,11 +45,11 @@ pub fn route_eval(
     customers: [Customer; 64],
     distances: &[f64],
     times: &[f64],
-    run: &[usize],
+    run: &[u8],
 ) -> Evaluation
     ensures { λ r.
         let sheet = lentSheet head customers (now (distances .entry)) (now (times .entry)) in
-        ⌜ EvalContract sheet (now (run .entry)) r ⌝ }
+        ⌜ EvalContract sheet (numbersOf (now (run .entry))) r ⌝ }
 {
     evaluating::route_eval(head, &customers, distances, times, run)
 }

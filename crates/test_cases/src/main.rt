@@ -9,6 +9,7 @@ use evaluation::route::Start;
 use io::print_decimal;
 use io::write_all;
 use listing_lines::number::whole_part;
+use models::byte::number_of;
 use split_tw::answer::SplitResult;
 use test_sheets::changes::Change;
 use test_sheets::changes::changed;
@@ -30,11 +31,11 @@ fn amount(word: &[u8], x: f64) {
     numbered(word, whole_part(x));
 }
 
-fn after_blank(n: usize) {
+fn after_blank(n: u8) {
     numbered(b" ", n as u64);
 }
 
-fn numbers(list: &[usize]) {
+fn numbers(list: &[u8]) {
     let mut i = 0;
     while i < list.len() {
         after_blank(list[i]);
@@ -42,7 +43,7 @@ fn numbers(list: &[usize]) {
     }
 }
 
-fn evaluate(change: Change, run: &[usize]) -> Evaluation {
+fn evaluate(change: Change, run: &[u8]) -> Evaluation {
     let sheet = changed(change);
     let head = sheet.head;
     let customers = sheet.customers;
@@ -71,7 +72,7 @@ fn has_break(change: Change) -> bool {
 }
 
 // A run as customers, with its break where the sheet has one.
-fn show_run(change: Change, run: &[usize]) {
+fn show_run(change: Change, run: &[u8]) {
     text(b" run");
     numbers(run);
     if has_break(change) {
@@ -82,7 +83,7 @@ fn show_run(change: Change, run: &[usize]) {
     text(b";");
 }
 
-fn show_stretch(change: Change, served: &[usize], from: usize, to: usize) {
+fn show_stretch(change: Change, served: &[u8], from: usize, to: usize) {
     if from <= to {
         if to <= served.len() {
             show_run(change, &served[from..to]);
@@ -90,12 +91,16 @@ fn show_stretch(change: Change, served: &[usize], from: usize, to: usize) {
     }
 }
 
-fn item(list: &[usize], i: usize) -> usize {
-    if i < list.len() { list[i] } else { 0 }
+fn item(list: &[u8], i: usize) -> usize {
+    if i < list.len() {
+        number_of(list[i])
+    } else {
+        0
+    }
 }
 
 // The runs that end at the first n of the ends.
-fn show_runs(change: Change, served: &[usize], ends: &[usize], n: usize) {
+fn show_runs(change: Change, served: &[u8], ends: &[u8], n: usize) {
     let mut from = 0;
     let mut i = 0;
     while i < n {
@@ -106,14 +111,14 @@ fn show_runs(change: Change, served: &[usize], ends: &[usize], n: usize) {
     }
 }
 
-fn show_drops(positions: &[usize]) {
+fn show_drops(positions: &[u8]) {
     text(b" drop");
     numbers(positions);
     text(b";");
 }
 
 // The first n of the dropped positions, if there are any.
-fn show_dropped(dropped: &[usize], n: usize) {
+fn show_dropped(dropped: &[u8], n: usize) {
     if n > 0 {
         if n <= dropped.len() {
             show_drops(&dropped[0..n]);
@@ -124,9 +129,9 @@ fn show_dropped(dropped: &[usize], n: usize) {
 fn cut(
     change: Change,
     tour: &[usize],
-    served: &mut [usize],
-    ends: &mut [usize],
-    dropped: &mut [usize],
+    served: &mut [u8],
+    ends: &mut [u8],
+    dropped: &mut [u8],
 ) -> Cut {
     let sheet = changed(change);
     let head = sheet.head;

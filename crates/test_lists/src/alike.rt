@@ -1,10 +1,12 @@
 // Whether a recorded answer is what is made of the run list.
 ghost use mathlib.Core.Path.{_≡_};
+ghost use mathlib.Core.Bool.{false};
 ghost use Prim.Native.Nat.{_≤_};
 ghost use lib.ListN.{length};
 ghost use Rattle.cut_theory.specs.Tab.{mostCut};
 ghost use Rattle.definitions.specs.Domain.{mostCalls};
 ghost use Rattle.definitions.specs.Reader as Reader;
+ghost use Rattle.definitions.specs.Refusals.{endsFall};
 ghost use Rattle.cut_stops.specs.Stops.{Below64};
 ghost use Rattle.sheet_loaded.specs.Held.{Found};
 ghost use Rattle.test_runs.specs.Along.{Short};
@@ -35,21 +37,19 @@ fn text_alike(
     times: &[f64],
 ) -> bool
     requires { ⌜ Fits (now calls) (now ends) (now recorded) ⌝ }
+    requires { ⌜ endsFall 0 (now ends) (length (now calls)) ≡ false ⌝ }
     requires { ⌜ (length (now tour) ≤ mostCut) × Below64 (now tour) ⌝ }
     ensures { λ r.
         let G = givenIn held (now (distances .entry)) (now (times .entry)) in
         let tour = now (tour .entry) in
         ⌜ r ≡ listAlike G tour (now (calls .entry)) (now (ends .entry)) (now (recorded .entry)) ⌝ }
 {
-    if ends_fall(ends, calls.len()) {
-        return false;
-    }
     let mut end = runs_text(recorded, calls, ends, held, distances, times);
     end = cut_text(recorded, end, tour, held, distances, times);
     end == recorded.len()
 }
 
-// The same of calls and run ends in bytes.
+// The same of calls and run ends in bytes: where the ends fall, they have no answer.
 fn list_alike(
     calls: &[u8],
     ends: &[u8],
@@ -66,6 +66,9 @@ fn list_alike(
         let tour = now (tour .entry) in
         ⌜ r ≡ listAlike G tour (now (calls .entry)) (now (ends .entry)) (now (recorded .entry)) ⌝ }
 {
+    if ends_fall(ends, calls.len()) {
+        return false;
+    }
     let mut call_numbers = [0usize; MOST_CALLS];
     write_numbers(calls, &mut call_numbers);
     let mut end_numbers = [0usize; MOST_CALLS];

@@ -7,6 +7,7 @@ use io::print_decimal;
 use io::write_all;
 use listing_lines::number::whole_part;
 use marker::verdict::Verdict;
+use models::byte::byte_of;
 use models::customer::Customer;
 use models::head::Head;
 use test_sheets::changes::Change;
@@ -145,19 +146,31 @@ fn show(name: &[u8], marking: Marking) {
     text(b"\n");
 }
 
+// The digits of a number in bytes.
+fn byte_digits(n: usize) -> [u8; 5] {
+    let d = digits(n);
+    [
+        byte_of(d[0]),
+        byte_of(d[1]),
+        byte_of(d[2]),
+        byte_of(d[3]),
+        byte_of(d[4]),
+    ]
+}
+
 // The mark of runs with these ends and break places, on a sheet without a time table.
 fn judge(
     head: Head,
     customers: [Customer; 64],
     distances: &[f64],
     tour: &[usize],
-    calls: &[usize],
+    calls: &[u8],
     ends: usize,
     breaks: usize,
 ) -> Marking {
     let times = [0.0];
-    let run_ends = digits(ends);
-    let run_breaks = digits(breaks);
+    let run_ends = byte_digits(ends);
+    let run_breaks = byte_digits(breaks);
     let from = begin(ends);
     mark(
         head,
@@ -184,7 +197,7 @@ fn tell(
     breaks: usize,
 ) {
     let given = digits(tour);
-    let cut = digits(calls);
+    let cut = byte_digits(calls);
     let marking = judge(
         head,
         customers,

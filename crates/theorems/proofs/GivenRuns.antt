@@ -32,6 +32,18 @@ with-calls (r ∷ rs) [] = ap (λ (l : List (List ℕ)). r ∷ l) (with-calls rs
 with-calls (r ∷ rs) (p ∷ places) = ap (λ (l : List (List ℕ)). r ∷ l) (with-calls rs places)
 
 -- what each list of calls has, its run has, whatever its break place
+-- as many places as runs are read
+pub with-first : (rs : List (List ℕ)) (places : List ℕ) (n : ℕ) → length rs ≤ n → withPlaces rs (take n places) ≡ withPlaces rs places
+with-first [] places n h = refl
+with-first (r ∷ rs) places zero h = absurd (not-suc-le-zero h)
+with-first (r ∷ rs) [] (suc n) h = refl
+with-first (r ∷ rs) (p ∷ places) (suc n) h = ap (λ (l : List Run). record { calls = r; place = p } ∷ l) (with-first rs places n (omega (arith, h)))
+
+pub runs-many : (p : ℕ) (calls ends : List ℕ) → length (runsFrom p calls ends) ≡ length ends
+unfolding runsFrom
+runs-many p calls [] = refl
+runs-many p calls (e ∷ ends) = ap suc (runs-many e (drop (e - p) calls) ends)
+
 pub with-all : (P : List ℕ → Type 0) (rs : List (List ℕ)) (places : List ℕ) → All P rs → All (λ (r : Run). P (r .calls)) (withPlaces rs places)
 with-all P [] places a = tt
 with-all P (r ∷ rs) [] a = (a .0, with-all P rs [] (a .1))

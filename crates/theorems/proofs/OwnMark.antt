@@ -74,7 +74,7 @@ filled : (l : List ℕ) → not (isEmpty l) ≡ true → 1 ≤ length l
 filled [] h = absurd (true≢false (sym h))
 filled (x ∷ l) h = omega arith
 
-placed-in : (rest : Option Break) (place n duration : ℕ) → placed rest place n duration ≡ true → place ≤ cond (present rest) n 0
+pub placed-in : (rest : Option Break) (place n duration : ℕ) → placed rest place n duration ≡ true → place ≤ cond (present rest) n 0
 unfolding placed
 placed-in none place n duration h = omega (arith, eqb-true place 0 h)
 placed-in (some b) zero n duration h = omega arith
@@ -99,7 +99,7 @@ module _ (s : Sheet) where
       (subst (λ (n : ℕ). r .place ≤ cond (present (s .head .rest)) n 0) (omega arith) (placed-in (s .head .rest) (r .place) (length (r .calls)) (t .duration) (L .break-placed))))
       (none-beyond (p + length (r .calls)) rs (b .1))
 
-  few-runs : (rs : List Run) → legalCutting s rs ≡ true → length rs ≤ length (joined rs)
+  pub few-runs : (rs : List Run) → legalCutting s rs ≡ true → length rs ≤ length (joined rs)
   few-runs [] h = omega arith
   few-runs (r ∷ rs) h =
       let b = both (legal s r) _ h in

@@ -5,7 +5,7 @@ use std::process::exit;
 
 fn print(plan: &Plan) {
     for run in &plan.runs {
-        let calls: Vec<String> = run.calls.iter().map(usize::to_string).collect();
+        let calls: Vec<String> = run.calls.iter().map(u8::to_string).collect();
         let rest = run.rest.map_or(String::new(), |rest| {
             format!(", break at call {} from {}", rest.place, rest.start)
         });

@@ -1,11 +1,15 @@
 //! Safe calls of the proved route planner: a sheet's bytes go in, and a plan, a mark or better runs come out, or a refusal.
 //!
-//! What the functions mean, and how a sheet is written, is told in `lizsomdur.h` beside this package.
+//! What the functions mean, and how a sheet is written, is told in `lizsomdur.h` beside this package. As there, a customer, a break place and a position
+//! are a byte each.
 mod raw;
 mod slices;
 mod verdict;
 
 pub use verdict::Verdict;
+
+/// The package's version, which is that of `lizsomdur.h`.
+pub const VERSION: &str = env!("CARGO_PKG_VERSION");
 
 /// The most calls that a sheet has, each of another customer, and so the most runs of its plan.
 pub const TOUR: usize = 63;
@@ -27,7 +31,7 @@ pub struct Refusal {
 /// A run: its calls and, where it has one, its break.
 #[derive(Clone, Debug, PartialEq, Eq)]
 pub struct Run {
-    pub calls: Vec<usize>,
+    pub calls: Vec<u8>,
     pub rest: Option<Rest>,
 }
 
@@ -35,7 +39,7 @@ pub struct Run {
 #[derive(Clone, Copy, Debug, PartialEq, Eq)]
 pub struct Rest {
     /// The number of the call, from 1, before whose service it is taken.
-    pub place: usize,
+    pub place: u8,
     pub start: u64,
 }
 
@@ -44,7 +48,7 @@ pub struct Rest {
 pub struct Plan {
     pub runs: Vec<Run>,
     /// The positions of the dropped calls, from 1, in the order in which they are dropped.
-    pub dropped: Vec<usize>,
+    pub dropped: Vec<u8>,
     pub cost: u64,
     pub distance: u64,
 }
@@ -75,19 +79,20 @@ fn unless_refused(number: u32, word: usize) -> Result<(), Refusal> {
 }
 
 /// The stretches of a list up to each end.
-fn stretches<'a>(list: &'a [usize], ends: &'a [usize]) -> impl Iterator<Item = Vec<usize>> + 'a {
-    let starts = std::iter::once(0).chain(ends.iter().copied());
+fn stretches<'a>(list: &'a [u8], ends: &'a [u8]) -> impl Iterator<Item = Vec<u8>> + 'a {
+    let ends = ends.iter().map(|&end| usize::from(end));
+    let starts = std::iter::once(0).chain(ends.clone());
     starts
         .zip(ends)
-        .map(|(start, &end)| list[start..end].to_vec())
+        .map(|(start, end)| list[start..end].to_vec())
 }
 
-/// Runs as one list of calls, and the end of each run.
-fn joined<'a>(runs: impl Iterator<Item = &'a [usize]>) -> (Vec<usize>, Vec<usize>) {
+/// Runs as one list of calls, and the end of each run. So many calls that a byte does not hold the end are refused for that (1) before an end is looked at.
+fn joined<'a>(runs: impl Iterator<Item = &'a [u8]>) -> (Vec<u8>, Vec<u8>) {
     let (mut calls, mut ends) = (Vec::new(), Vec::new());
     for run in runs {
         calls.extend_from_slice(run);
-        ends.push(calls.len());
+        ends.push(u8::try_from(calls.len()).unwrap_or(u8::MAX));
     }
     (calls, ends)
 }
@@ -131,7 +136,7 @@ pub fn plan(sheet: &[u8]) -> Result<Plan, Refusal> {
 /// Marks runs against the planner's own; of a run's break only its place is read.
 pub fn mark(sheet: &[u8], runs: &[Run]) -> Result<Verdict, Refusal> {
     let (calls, ends) = joined(runs.iter().map(|run| &run.calls[..]));
-    let places: Vec<usize> = runs
+    let places: Vec<u8> = runs
         .iter()
         .map(|run| run.rest.map_or(0, |rest| rest.place))
         .collect();
@@ -150,7 +155,7 @@ pub fn mark(sheet: &[u8], runs: &[Run]) -> Result<Verdict, Refusal> {
 }
 
 /// Turns stretches of a run's calls around while that shortens it and it stays allowed: the run, and its distance.
-pub fn reverse(sheet: &[u8], run: &[usize]) -> Result<(Vec<usize>, u64), Refusal> {
+pub fn reverse(sheet: &[u8], run: &[u8]) -> Result<(Vec<u8>, u64), Refusal> {
     let mut improved = vec![0; run.len()];
     let (mut word, mut distance) = (NO_WORD, 0.0);
     let number = slices::reverse(sheet, run, &mut improved, &mut word, &mut distance);
@@ -159,7 +164,7 @@ pub fn reverse(sheet: &[u8], run: &[usize]) -> Result<(Vec<usize>, u64), Refusal
 }
 
 /// Empties runs into the others where that lowers the cost: the runs that are left.
-pub fn eliminate(sheet: &[u8], runs: &[Vec<usize>]) -> Result<Vec<Vec<usize>>, Refusal> {
+pub fn eliminate(sheet: &[u8], runs: &[Vec<u8>]) -> Result<Vec<Vec<u8>>, Refusal> {
     let (calls, ends) = joined(runs.iter().map(|run| &run[..]));
     let (mut left_calls, mut left_ends) = (vec![0; calls.len()], vec![0; ends.len()]);
     let (mut word, mut counts) = (NO_WORD, [0; 2]);

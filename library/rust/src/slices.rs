@@ -4,11 +4,11 @@ use crate::raw;
 #[allow(clippy::too_many_arguments)] // as many as the function has
 pub fn plan(
     sheet: &[u8],
-    served: &mut [usize],
-    run_ends: &mut [usize],
-    break_places: &mut [usize],
+    served: &mut [u8],
+    run_ends: &mut [u8],
+    break_places: &mut [u8],
     break_starts: &mut [f64],
-    dropped: &mut [usize],
+    dropped: &mut [u8],
     counts: &mut [usize; 3],
     totals: &mut [f64; 2],
     word: &mut usize,
@@ -37,9 +37,9 @@ pub fn plan(
 
 pub fn mark(
     sheet: &[u8],
-    calls: &[usize],
-    ends: &[usize],
-    places: &[usize],
+    calls: &[u8],
+    ends: &[u8],
+    places: &[u8],
     word: &mut usize,
     verdict: &mut u32,
     values: &mut [f64; 5],
@@ -64,8 +64,8 @@ pub fn mark(
 
 pub fn reverse(
     sheet: &[u8],
-    run: &[usize],
-    improved: &mut [usize],
+    run: &[u8],
+    improved: &mut [u8],
     word: &mut usize,
     distance: &mut f64,
 ) -> u32 {
@@ -86,10 +86,10 @@ pub fn reverse(
 
 pub fn eliminate(
     sheet: &[u8],
-    calls: &[usize],
-    ends: &[usize],
-    left_calls: &mut [usize],
-    left_ends: &mut [usize],
+    calls: &[u8],
+    ends: &[u8],
+    left_calls: &mut [u8],
+    left_ends: &mut [u8],
     word: &mut usize,
     counts: &mut [usize; 2],
 ) -> u32 {

@@ -4,22 +4,23 @@ use common::{kind, records, words};
 use lizsomdur::{eliminate, reverse, Refusal, NO_ROAD};
 
 /// Numbers behind how many they are, a byte each, and what follows.
-fn counted(bytes: &[u8]) -> (Vec<usize>, &[u8]) {
-    let (numbers, rest) = bytes[1..].split_at(bytes[0].into());
-    (numbers.iter().map(|&n| n.into()).collect(), rest)
+fn counted(bytes: &[u8]) -> (&[u8], &[u8]) {
+    bytes[1..].split_at(bytes[0].into())
 }
 
 /// A recorded question: the ends of the runs, the calls of all runs, and a sheet.
-fn question(bytes: &[u8]) -> (&[u8], Vec<Vec<usize>>) {
+fn question(bytes: &[u8]) -> (&[u8], Vec<Vec<u8>>) {
     let (ends, rest) = counted(bytes);
     let (calls, sheet) = counted(rest);
-    let starts = std::iter::once(0).chain(ends.iter().copied());
-    let runs = starts.zip(&ends).map(|(a, &b)| calls[a..b].to_vec());
+    let starts = std::iter::once(&0).chain(ends);
+    let runs = starts
+        .zip(ends)
+        .map(|(&a, &b)| calls[a.into()..b.into()].to_vec());
     (sheet, runs.collect())
 }
 
 /// The numbers of the answer's lines that begin with this word.
-fn lines(answer: &str, word: &str) -> Vec<Vec<usize>> {
+fn lines(answer: &str, word: &str) -> Vec<Vec<u64>> {
     answer
         .lines()
         .filter_map(|line| line.strip_prefix(word))
@@ -29,6 +30,11 @@ fn lines(answer: &str, word: &str) -> Vec<Vec<usize>> {
                 .collect()
         })
         .collect()
+}
+
+/// A run's calls as the answer has them.
+fn numbers(run: &[u8]) -> Vec<u64> {
+    run.iter().map(|&call| call.into()).collect()
 }
 
 /// Lateness is paid where a customer has a window and a penalty.
@@ -69,15 +75,16 @@ fn improved_runs_are_the_recorded_ones() {
             barred += usize::from(by == 23);
             continue;
         }
-        let reversed: Vec<Vec<usize>> = runs
+        let reversed: Vec<Vec<u64>> = runs
             .iter()
             .map(|run| {
                 let (calls, distance) = reverse(sheet, run).expect("an accepted run");
-                [&[distance as usize], &calls[..]].concat()
+                [vec![distance], numbers(&calls)].concat()
             })
             .collect();
         assert_eq!(reversed, lines(answer, "reversed"), "question {number}");
         let left = eliminate(sheet, &runs).expect("accepted runs");
+        let left: Vec<Vec<u64>> = left.iter().map(|run| numbers(run)).collect();
         assert_eq!(left, lines(answer, "left"), "question {number}");
         improved += 1;
     }

@@ -140,9 +140,10 @@ fn given(question: &Recorded) -> Option<Vec<Run>> {
         places,
         ..
     } = question;
+    let ends: Vec<usize> = ends.iter().map(|&end| end.into()).collect();
     let starts = [&[0], &ends[..]].concat();
-    let parts = starts.iter().zip(ends).map(|(&a, &b)| calls.get(a..b));
-    let parts: Vec<&[usize]> = parts.collect::<Option<_>>()?;
+    let parts = starts.iter().zip(&ends).map(|(&a, &b)| calls.get(a..b));
+    let parts: Vec<&[u8]> = parts.collect::<Option<_>>()?;
     let whole = starts.last() == Some(&calls.len()) && places.len() >= ends.len();
     let cut: Vec<_> = parts.into_iter().zip(places.iter().copied()).collect();
     whole.then(|| runs(&cut))

@@ -9,7 +9,7 @@ use common::worked::{
 use lizsomdur::{eliminate, plan, reverse};
 
 /// Asserts that the sheet with these calls is planned so.
-fn planned(sheet: Sheet, calls: &[usize], text: &str) {
+fn planned(sheet: Sheet, calls: &[u8], text: &str) {
     let sheet = sheet.with(calls);
     assert_eq!(listing(&sheet, &plan(&sheet)), text);
 }

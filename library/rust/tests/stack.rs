@@ -8,8 +8,8 @@ const STACK: usize = 512_000;
 const CUSTOMERS: usize = 63;
 
 /// So many calls, in which a customer comes again only when all have come.
-fn calls(count: usize) -> Vec<usize> {
-    (0..count).map(|k| 1 + k * 11 % CUSTOMERS).collect()
+fn calls(count: usize) -> Vec<u8> {
+    (0..count).map(|k| (1 + k * 11 % CUSTOMERS) as u8).collect()
 }
 
 /// A table of 64 rows whose legs differ.
@@ -43,7 +43,7 @@ fn largest(penalty: Option<u32>) -> Sheet {
 fn closed() -> Sheet {
     let mut sheet = largest(Some(1));
     for pair in calls(CUSTOMERS).windows(2).step_by(5) {
-        let leg = 64 * pair[0] + pair[1];
+        let leg = 64 * usize::from(pair[0]) + usize::from(pair[1]);
         (sheet.distances[leg], sheet.times[leg]) = (NO_ROAD, NO_ROAD);
     }
     sheet
@@ -61,7 +61,7 @@ fn improve(sheet: &[u8]) {
     let calls = calls(CALLS);
     let (run, _) = reverse(sheet, &calls).expect("an accepted run");
     assert_ne!(run, calls);
-    let singles: Vec<Vec<usize>> = calls.into_iter().map(|call| vec![call]).collect();
+    let singles: Vec<Vec<u8>> = calls.into_iter().map(|call| vec![call]).collect();
     let left = eliminate(sheet, &singles).expect("accepted runs");
     assert!(left.len() < singles.len());
 }

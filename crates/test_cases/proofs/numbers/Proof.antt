@@ -14,9 +14,6 @@ abbrev μ-loop : tie.MeasureT-loop
 loop-holds : tie.Need-loop-holds Inv-loop μ-loop
 loop-holds c = search needs
 
-mul-after-blank : tie.Need-mul-after-blank Inv-loop μ-loop
-mul-after-blank c = search needs
-
 shared-slice-read-after-blank : tie.Need-shared-slice-read-after-blank Inv-loop μ-loop
 shared-slice-read-after-blank c = search needs
 
@@ -36,4 +33,4 @@ returns : tie.Need-returns Inv-loop μ-loop
 returns c = search needs
 
 pub numbers-spec : {M : Type 1} → statement M
-numbers-spec = tie.close (tie.spec Inv-loop μ-loop loop-holds mul-after-blank shared-slice-read-after-blank after-blank-requires add-i loop-less loop-again returns)
+numbers-spec = tie.close (tie.spec Inv-loop μ-loop loop-holds shared-slice-read-after-blank after-blank-requires add-i loop-less loop-again returns)

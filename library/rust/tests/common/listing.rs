@@ -17,8 +17,8 @@ fn run_line(run: &Run) -> String {
 fn plan_lines(sheet: &[u8], plan: &Plan) -> String {
     let calls = tour(sheet);
     let mut text: String = plan.runs.iter().map(run_line).collect();
-    for position in &plan.dropped {
-        writeln!(text, "drop {}", calls[position - 1]).unwrap();
+    for &position in &plan.dropped {
+        writeln!(text, "drop {}", calls[usize::from(position) - 1]).unwrap();
     }
     let (distance, cost) = (plan.distance, plan.cost);
     let (served, dropped) = (plan.served(), plan.dropped.len());

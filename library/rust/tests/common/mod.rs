@@ -23,7 +23,10 @@ pub fn sample(name: &str) -> Vec<u8> {
 
 /// Each question of this kind with its answer: those in the repository and, where LIZSOMDUR_RECORDS names a file, those in it.
 pub fn records(kind: u8) -> Vec<(Vec<u8>, String)> {
-    let files = ["crates/test_replay/stdin", "library/rust/tests/marks.recorded"];
+    let files = [
+        "crates/test_replay/stdin",
+        "library/rust/tests/marks.recorded",
+    ];
     let files = files.map(|file| std::fs::read(kept(file)).expect("recorded answers"));
     let mut bytes = files.concat();
     if let Some(more) = std::env::var_os("LIZSOMDUR_RECORDS") {
@@ -66,30 +69,29 @@ pub fn kind(word: u32) -> u32 {
 }
 
 /// The customers of a sheet's calls.
-pub fn tour(sheet: &[u8]) -> Vec<usize> {
-    let value = |w: u32| (w & 0x0FFF_FFFF) as usize;
+pub fn tour(sheet: &[u8]) -> Vec<u32> {
     words(sheet)
         .into_iter()
         .filter(|&w| kind(w) == 0xE)
-        .map(value)
+        .map(|w| w & 0x0FFF_FFFF)
         .collect()
 }
 
 /// The bytes of a sheet whose words end with these calls.
-pub fn ended(mut words: Vec<u32>, calls: &[usize]) -> Vec<u8> {
-    words.extend(calls.iter().map(|&c| 0xE000_0000 | c as u32));
+pub fn ended(mut words: Vec<u32>, calls: &[u8]) -> Vec<u8> {
+    words.extend(calls.iter().map(|&c| 0xE000_0000 | u32::from(c)));
     words.push(0xF000_0000 | words.len() as u32);
     bytes(&words)
 }
 
 /// The sheet with other calls.
-pub fn with_tour(sheet: &[u8], calls: &[usize]) -> Vec<u8> {
+pub fn with_tour(sheet: &[u8], calls: &[u8]) -> Vec<u8> {
     let kept = words(sheet).into_iter().filter(|&w| kind(w) < 0xE);
     ended(kept.collect(), calls)
 }
 
 /// Runs to be marked, by their calls and break places.
-pub fn runs<Calls: AsRef<[usize]>>(runs: &[(Calls, usize)]) -> Vec<Run> {
+pub fn runs<Calls: AsRef<[u8]>>(runs: &[(Calls, u8)]) -> Vec<Run> {
     runs.iter()
         .map(|(calls, place)| Run {
             calls: calls.as_ref().to_vec(),

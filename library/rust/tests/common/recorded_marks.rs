@@ -5,9 +5,9 @@ use lizsomdur::Refusal;
 /// A cutting as the library is lent it; its lists may have anything wrong.
 pub struct Recorded {
     pub sheet: Vec<u8>,
-    pub calls: Vec<usize>,
-    pub ends: Vec<usize>,
-    pub places: Vec<usize>,
+    pub calls: Vec<u8>,
+    pub ends: Vec<u8>,
+    pub places: Vec<u8>,
     /// The verdict's number and values, or the refusal.
     pub mark: Result<(u32, Vec<u64>), Refusal>,
 }
@@ -40,10 +40,10 @@ fn marks(kind: u8) -> Vec<Recorded> {
 }
 
 /// The numbers of a line.
-fn list(line: &[u8]) -> Vec<usize> {
+fn list(line: &[u8]) -> Vec<u8> {
     let line = std::str::from_utf8(line).expect("text");
     let numbers = line.split_whitespace();
-    numbers.map(|n| n.parse().expect("a number")).collect()
+    numbers.map(|n| n.parse().expect("a byte")).collect()
 }
 
 /// `verdict NUMBER VALUE..`, `refused NUMBER` or `refused NUMBER at WORD`.

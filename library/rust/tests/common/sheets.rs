@@ -55,7 +55,7 @@ impl Customer {
 
 impl Sheet {
     /// The bytes that the library reads, with these calls.
-    pub fn with(&self, calls: &[usize]) -> Vec<u8> {
+    pub fn with(&self, calls: &[u8]) -> Vec<u8> {
         let words = [
             of(1, &[self.customers.len() as u32 + 1]),
             of(2, &[self.capacity]),

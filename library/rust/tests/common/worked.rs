@@ -8,7 +8,7 @@ pub struct Marked {
     pub name: &'static str,
     pub sheet: Vec<u8>,
     /// The calls and the break place of each run.
-    pub runs: Vec<(Vec<usize>, usize)>,
+    pub runs: Vec<(Vec<u8>, u8)>,
 }
 
 /// Two customers, 10 and 12 from the depot and 5 from each other; a bus takes both.
@@ -114,7 +114,7 @@ pub fn full() -> Sheet {
     }
 }
 
-fn cut(name: &'static str, sheet: &Sheet, tour: &[usize], runs: &[(&[usize], usize)]) -> Marked {
+fn cut(name: &'static str, sheet: &Sheet, tour: &[u8], runs: &[(&[u8], u8)]) -> Marked {
     Marked {
         name,
         sheet: sheet.with(tour),
@@ -126,7 +126,7 @@ fn cut(name: &'static str, sheet: &Sheet, tour: &[usize], runs: &[(&[usize], usi
 }
 
 /// The tour as one run.
-fn whole(name: &'static str, sheet: &Sheet, tour: &[usize], place: usize) -> Marked {
+fn whole(name: &'static str, sheet: &Sheet, tour: &[u8], place: u8) -> Marked {
     cut(name, sheet, tour, &[(tour, place)])
 }
 
@@ -215,7 +215,7 @@ fn of_full() -> Vec<Marked> {
 
 /// Cuttings of sheets with closed legs, each with what is said of it.
 pub fn of_closed() -> Vec<(Marked, &'static str)> {
-    let singles: &[(&[usize], usize)] = &[(&[1], 0), (&[2], 0)];
+    let singles: &[(&[u8], u8)] = &[(&[1], 0), (&[2], 0)];
     let ford = with_closed(base(), &[(1, 2)]);
     let full_bus = with_closed(with_capacity(3), &[(1, 2)]);
     let no_way_out = with_closed(base(), &[(0, 2)]);

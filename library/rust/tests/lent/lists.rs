@@ -4,6 +4,7 @@ use std::fmt;
 
 /// What stands in lent memory before a call; no answer has these numbers.
 pub const OLD: usize = 77_777;
+pub const OLD_BYTE: u8 = 0xAA;
 pub const OLD_FLOAT: f64 = -7.5;
 
 /// A list, with memory behind it that is not lent.
@@ -47,11 +48,11 @@ impl<T: Copy> Lent<T> {
 
 #[derive(Clone, Debug, PartialEq)]
 pub struct Planned {
-    pub served: Lent<usize>,
-    pub run_ends: Lent<usize>,
-    pub break_places: Lent<usize>,
+    pub served: Lent<u8>,
+    pub run_ends: Lent<u8>,
+    pub break_places: Lent<u8>,
     pub break_starts: Lent<f64>,
-    pub dropped: Lent<usize>,
+    pub dropped: Lent<u8>,
     pub counts: [usize; 3],
     pub totals: [f64; 2],
     pub word: usize,
@@ -60,11 +61,11 @@ pub struct Planned {
 impl Planned {
     pub fn new(lengths: [usize; 5]) -> Planned {
         Planned {
-            served: Lent::new(OLD, lengths[0]),
-            run_ends: Lent::new(OLD, lengths[1]),
-            break_places: Lent::new(OLD, lengths[2]),
+            served: Lent::new(OLD_BYTE, lengths[0]),
+            run_ends: Lent::new(OLD_BYTE, lengths[1]),
+            break_places: Lent::new(OLD_BYTE, lengths[2]),
             break_starts: Lent::new(OLD_FLOAT, lengths[3]),
-            dropped: Lent::new(OLD, lengths[4]),
+            dropped: Lent::new(OLD_BYTE, lengths[4]),
             counts: [OLD; 3],
             totals: [OLD_FLOAT; 2],
             word: OLD,
@@ -108,9 +109,9 @@ impl Judged {
     pub fn after(
         mut self,
         sheet: &[u8],
-        calls: &[usize],
-        ends: &[usize],
-        places: &[usize],
+        calls: &[u8],
+        ends: &[u8],
+        places: &[u8],
     ) -> (u32, Judged) {
         let number = slices::mark(
             sheet,
@@ -127,7 +128,7 @@ impl Judged {
 
 #[derive(Clone, Debug, PartialEq)]
 pub struct Reversed {
-    pub improved: Lent<usize>,
+    pub improved: Lent<u8>,
     pub word: usize,
     pub distance: f64,
 }
@@ -135,14 +136,14 @@ pub struct Reversed {
 impl Reversed {
     pub fn new(length: usize) -> Reversed {
         Reversed {
-            improved: Lent::new(OLD, length),
+            improved: Lent::new(OLD_BYTE, length),
             word: OLD,
             distance: OLD_FLOAT,
         }
     }
 
     /// What `lizsomdur_reverse` returns, and what it leaves.
-    pub fn after(mut self, sheet: &[u8], run: &[usize]) -> (u32, Reversed) {
+    pub fn after(mut self, sheet: &[u8], run: &[u8]) -> (u32, Reversed) {
         let improved = self.improved.lent();
         let number = slices::reverse(sheet, run, improved, &mut self.word, &mut self.distance);
         (number, self)
@@ -151,8 +152,8 @@ impl Reversed {
 
 #[derive(Clone, Debug, PartialEq)]
 pub struct Left {
-    pub calls: Lent<usize>,
-    pub ends: Lent<usize>,
+    pub calls: Lent<u8>,
+    pub ends: Lent<u8>,
     pub word: usize,
     pub counts: [usize; 2],
 }
@@ -160,15 +161,15 @@ pub struct Left {
 impl Left {
     pub fn new(calls: usize, ends: usize) -> Left {
         Left {
-            calls: Lent::new(OLD, calls),
-            ends: Lent::new(OLD, ends),
+            calls: Lent::new(OLD_BYTE, calls),
+            ends: Lent::new(OLD_BYTE, ends),
             word: OLD,
             counts: [OLD; 2],
         }
     }
 
     /// What `lizsomdur_eliminate` returns, and what it leaves.
-    pub fn after(mut self, sheet: &[u8], calls: &[usize], ends: &[usize]) -> (u32, Left) {
+    pub fn after(mut self, sheet: &[u8], calls: &[u8], ends: &[u8]) -> (u32, Left) {
         let number = slices::eliminate(
             sheet,
             calls,

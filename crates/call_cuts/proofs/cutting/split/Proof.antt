@@ -2,9 +2,10 @@
 use mathlib.Core.List.{[]}
 use Rattle.definitions.specs.Lent.{cutting}
 use Rattle.definitions.specs.Drop.{split}
-use Rattle.split.specs.Split.{bareLent}
 use Rattle.split_tw.specs.SplitTw.{splitTwF}
-use Rattle.call_cuts.proofs.CutAnswers.{Asked, Lists, rooms, cut-room, refused-cut, given-cut}
+use Rattle.bounds.proofs.InBytes.{split-few}
+use Rattle.call_cuts.specs.Stored.{plainOf, CutLists, cutLists}
+use Rattle.call_cuts.proofs.CutAnswers.{Asked, rooms, tour-fits, refused-cut, given-cut}
 use Rattle.call_cuts.proofs.SplitCase.{split-holds}
 use borrow.Author.Needs.{needs}
 use Rattle.call_cuts.proofs.cutting.split.Statement.{statement}
@@ -18,8 +19,8 @@ asked s =
     let a = s .args in
     record { head = a .head; array = a .all; count = a .n; distances = a .distances .now; times = a .times .now; tour = a .tour .now }
 
-abbrev lists : tie.Start → Lists
-lists s = let a = s .args in record { served = a .served .now; ends = a .run-ends .now; dropped = a .dropped .now }
+abbrev lists : tie.Start → CutLists
+lists s = let a = s .args in cutLists (a .served .now) (a .run-ends .now) (a .dropped .now)
 
 refuse-cutting-requires : tie.Need-refuse-cutting-requires
 refuse-cutting-requires c κs = search needs
@@ -30,12 +31,12 @@ returns c =
     let number = c .before .refuse-cutting in
     refused-cut (asked s) (lists s) (number .result) (number .ensures .0) (λ x. split x (s .args .tour .now)) (c .if1 .taken)
 
-split-requires : tie.Need-split-requires
-split-requires c κs =
+split-stored-requires : tie.Need-split-stored-requires
+split-stored-requires c κs =
     let tested = c .before .before .before in
     let s = start (tested .before) in
     let number = tested .before .refuse-cutting in
-    cut-room (asked s) (lists s) (number .result) (number .ensures .0) (tested .if1 .left) (s .good .1 .0 .1 .0 .1)
+    tour-fits (asked s) (lists s) (number .result) (number .ensures .0) (tested .if1 .left) (s .good .1 .0 .1 .0 .1)
 
 same-length : tie.Need-same-length
 same-length c = search needs
@@ -55,11 +56,10 @@ returns-2 c =
     let a = s .args in
     let h = a .head in
     let number = tested .before .refuse-cutting in
-    let done = cut .split in
+    let done = cut .split-stored in
     given-cut (asked s) (lists s) (number .result) (number .ensures .0) (λ x. split x (a .tour .now)) (number .ensures .1) (tested .if1 .left)
-    (splitTwF (bareLent (a .all) (a .distances .now) (a .times .now) (h .places) (h .capacity) (h .«fixed_cost»)) (a .tour .now))
-    (split-holds cutting (asked s) [] [] [] (rooms (asked s) (lists s))) (done .result) (done .ensures .0)
-    (record { served = _; ends = _; dropped = _ }) (done .ensures .1 .0) (done .ensures .1 .1 .0) (done .ensures .1 .1 .1)
+    (split-few (a .tour .now)) (splitTwF (plainOf h (a .all) (a .distances .now) (a .times .now)) (a .tour .now))
+    (split-holds cutting (asked s) [] [] [] (rooms (asked s) (lists s))) (done .result) (cutLists _ _ _) (done .ensures)
 
 pub split-spec : {M : Type 1} → statement M
-split-spec = tie.close (tie.spec refuse-cutting-requires returns split-requires same-length same-length-2 same-length-3 returns-2)
+split-spec = tie.close (tie.spec refuse-cutting-requires returns split-stored-requires same-length same-length-2 same-length-3 returns-2)

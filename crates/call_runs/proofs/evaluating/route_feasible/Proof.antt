@@ -1,12 +1,13 @@
 -- `evaluating::route_feasible` meets its contract. Assumes nothing.
-use mathlib.Core.Path.{ap}
+use mathlib.Core.Path.{ap, _∙_}
 use Rattle.definitions.specs.Evaluation.{routeFeasible}
-use Rattle.evaluation.specs.Records.{lent}
+use Rattle.evaluation.specs.Records.{lent, limitsOf}
 use Rattle.evaluation.specs.Route.{feasibleF}
 use Rattle.evaluation.proofs.RouteExact.{feasible-exact}
 use Rattle.call_runs.specs.declared.evaluating.Feasible.the-variants.{Answer}
 use Rattle.call_runs.specs.Evaluating.{feasibleIn}
-use Rattle.call_runs.proofs.RunAnswers.{refused-run, accepted-run}
+use Rattle.byte_lists.proofs.Widened.{zeros, as-many}
+use Rattle.call_runs.proofs.RunAnswers.{run-read, refused-run, accepted-run}
 use borrow.Author.Needs.{needs}
 use Rattle.call_runs.proofs.evaluating.route_feasible.Statement.{statement}
 use Rattle.call_runs.proofs.evaluating.route_feasible.Tie as tie
@@ -22,20 +23,51 @@ returns c =
     refused-run (a .head) (a .all) (a .n) (a .distances .now) (a .times .now) (a .run .now) (told .result) (told .ensures .0) (told .ensures .1)
     feasibleIn (λ s. routeFeasible s (a .run .now)) (c .if1 .taken)
 
+slice-aggregate-widen : tie.Need-slice-aggregate-widen
+slice-aggregate-widen c = search needs
+
+widen-requires : tie.Need-widen-requires
+widen-requires c κs = search needs
+
+array-share-prefix-calls : tie.Need-array-share-prefix-calls
+array-share-prefix-calls c = search needs
+
+slice-aggregate-route-feasible : tie.Need-slice-aggregate-route-feasible
+slice-aggregate-route-feasible c =
+    let w = c .before .before in
+    let earlier = w .before .before .before .before in
+    let a = earlier .before .before .before .args in
+    as-many (a .run .now) zeros (w .widen .last .1 .0) (w .widen .result) (w .widen .ensures .0) (w .widen .ensures .1)
+
 route-feasible-requires : tie.Need-route-feasible-requires
 route-feasible-requires c κs = search needs
 
 returns-2 : tie.Need-returns-2
 returns-2 c =
-    let passed = c .before in
+    let w = c .before .before .before in
+    let passed = w .before .before in
     let asked = passed .before in
     let told = asked .refuse-evaluating in
-    let a = asked .before .before .before .before .args in
+    let s = asked .before .before .before .before in
+    let a = s .args in
     let t = lent (a .all) (a .distances .now) (a .times .now) (a .head .places) in
+    let run = run-read (a .head) (a .all) (a .n) (a .distances .now) (a .times .now) (a .run .now) (told .result) (told .ensures .0) (told .ensures .1)
+    (passed .if1 .left) (s .good .1 .0 .1 .0 .1) (w .widen .last .1 .0) (w .widen .result) (w .widen .ensures .0) (w .widen .ensures .1) in
     accepted-run (a .head) (a .all) (a .n) (a .distances .now) (a .times .now) (a .run .now) (told .result) (told .ensures .0) (told .ensures .1)
     feasibleIn (λ s. routeFeasible s (a .run .now)) (passed .if1 .left)
-    (Answer (c .route-feasible .result)) (λ L. Answer (feasibleF t L (a .run .now))) (ap Answer (c .route-feasible .ensures))
+    (Answer (c .route-feasible .result)) (λ L. Answer (feasibleF t L (a .run .now)))
+    (ap Answer (c .route-feasible .ensures ∙ ap (feasibleF t (limitsOf (a .head .limits))) run))
     (λ s W C I. ap Answer (feasible-exact s W t I (a .run .now) C))
 
 pub route-feasible-spec : {M : Type 1} → statement M
-route-feasible-spec = tie.close (tie.spec refuse-evaluating-requires returns route-feasible-requires returns-2)
+route-feasible-spec =
+    tie.close
+    (tie.spec
+    refuse-evaluating-requires
+    returns
+    slice-aggregate-widen
+    widen-requires
+    array-share-prefix-calls
+    slice-aggregate-route-feasible
+    route-feasible-requires
+    returns-2)

@@ -27,7 +27,7 @@ use sound.WpLaws.{FmC, fmOf, WpFn-mono}
 use denote.RattleType.{owns}
 use denote.Laws.{Is, Ises, Are}
 use denote.Plain.{uint-makes, uint-lawful}
-use denote.Builtin.{usize, f64}
+use denote.Builtin.{u8, usize, f64}
 use denote.Ref.{RefT}
 use denote.Signature.{typesAt}
 use denote.Slice.{sliceVal, slice-vals, shr-slice-tells, shr-slice-lawful, mut-slice-tells, mut-slice-lawful}
@@ -215,7 +215,7 @@ module _ {M : Type 1} (𝓤 : URA M) (H : Heap 𝓤) (A : Atoms 𝓤) (W : Given
               (
                 shr-slice-lawful 𝓤 H A W (named 2) (κs .1 .1 .0) f64 .typed t _ (are .1 .1 .1 .0) .0,
                 (
-                  shr-slice-lawful 𝓤 H A W (named 3) (κs .1 .1 .1 .0) usize .typed calls _ (are .1 .1 .1 .1 .0) .0,
+                  shr-slice-lawful 𝓤 H A W (named 3) (κs .1 .1 .1 .0) u8 .typed calls _ (are .1 .1 .1 .1 .0) .0,
                   (
                     mut-slice-lawful 𝓤 H A W (named 4) (κs .1 .1 .1 .1 .0) OneVisit .typed visits _ (are .1 .1 .1 .1 .1 .0) .0,
                     (mut-slice-lawful 𝓤 H A W (named 5) (κs .1 .1 .1 .1 .1 .0) OneViolation .typed violations _ (are .1 .1 .1 .1 .1 .1 .0) .0, tt),
@@ -281,7 +281,7 @@ module _ {M : Type 1} (𝓤 : URA M) (H : Heap 𝓤) (A : Atoms 𝓤) (W : Given
             (
               shr-slice-tells (named 2) (κs .1 .1 .0) f64,
               (
-                shr-slice-tells (named 3) (κs .1 .1 .1 .0) usize,
+                shr-slice-tells (named 3) (κs .1 .1 .1 .0) u8,
                 (mut-slice-tells (named 4) (κs .1 .1 .1 .1 .0) OneVisit, (mut-slice-tells (named 5) (κs .1 .1 .1 .1 .1 .0) OneViolation, tt)),
               ),
             ),

@@ -21,17 +21,11 @@ fewer-requires c κs = search needs
 loop-holds : tie.Need-loop-holds Inv-loop μ-loop
 loop-holds c = refl
 
-mul-e : tie.Need-mul-e Inv-loop μ-loop
-mul-e c = search needs
-
 shared-slice-read-e : tie.Need-shared-slice-read-e Inv-loop μ-loop
 shared-slice-read-e c = search needs
 
 last-place-requires : tie.Need-last-place-requires Inv-loop μ-loop
 last-place-requires c κs = search needs
-
-mul-if1 : tie.Need-mul-if1 Inv-loop μ-loop
-mul-if1 c = search needs
 
 shared-slice-read-if1 : tie.Need-shared-slice-read-if1 Inv-loop μ-loop
 shared-slice-read-if1 c = search needs
@@ -70,10 +64,8 @@ break-beyond-spec =
     μ-loop
     fewer-requires
     loop-holds
-    mul-e
     shared-slice-read-e
     last-place-requires
-    mul-if1
     shared-slice-read-if1
     returns
     add-i

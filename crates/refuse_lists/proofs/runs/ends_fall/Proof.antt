@@ -1,8 +1,10 @@
 -- `runs::ends_fall` meets its contract. Assumes nothing.
-use mathlib.Core.Path.{_≡_, refl, sym, _∙_}
-use Prim.Native.Nat.{_-_}
+use mathlib.Core.Path.{_≡_, refl, sym, ap, _∙_}
+use mathlib.Core.Bool.{not}
+use Prim.Native.Nat.{ℕ, _-_}
 use native.Mathlib.Omega.{arith}
 use lib.ListN.{length, drop}
+use lib.Dec.{eqb}
 use Rattle.definitions.specs.Refusals.{endsFall}
 use Rattle.refuse_lists.proofs.Walking.{fall-here, fall-on, fall-end}
 use borrow.Author.Needs.{needs}
@@ -18,16 +20,13 @@ abbrev μ-loop : tie.MeasureT-loop
 loop-holds : tie.Need-loop-holds Inv-loop μ-loop
 loop-holds c = refl
 
-mul-e : tie.Need-mul-e Inv-loop μ-loop
-mul-e c = search needs
-
 shared-slice-read-e : tie.Need-shared-slice-read-e Inv-loop μ-loop
 shared-slice-read-e c = search needs
 
 returns : tie.Need-returns Inv-loop μ-loop
 returns c =
     let l = c .before .before .before in
-    let a = l .before .args in
+    let a = l .before .before .args in
     sym (fall-here (a .ends .now) (l .loop .p) (l .loop .i) (a .calls) (omega arith) (c .if1 .taken)) ∙ l .loop .inv
 
 add-i : tie.Need-add-i Inv-loop μ-loop
@@ -39,14 +38,17 @@ loop-less c = omega arith
 loop-again : tie.Need-loop-again Inv-loop μ-loop
 loop-again c =
     let l = c .before .before .before in
-    let a = l .before .args in
+    let a = l .before .before .args in
     fall-on (a .ends .now) (l .loop .p) (l .loop .i) (a .calls) (omega arith) (c .if1 .left) ∙ l .loop .inv
+
+number-of-requires : tie.Need-number-of-requires Inv-loop μ-loop
+number-of-requires c κs = search needs
 
 returns-2 : tie.Need-returns-2 Inv-loop μ-loop
 returns-2 c =
-    let l = c .before in
-    let a = l .before .args in
-    sym (fall-end (a .ends .now) (l .loop .p) (l .loop .i) (a .calls) (omega arith)) ∙ l .loop .inv
+    let l = c .before .before in
+    let a = l .before .before .args in
+    ap (λ (p : ℕ). not (eqb p (a .calls))) (c .number-of .ensures) ∙ sym (fall-end (a .ends .now) (l .loop .p) (l .loop .i) (a .calls) (omega arith)) ∙ l .loop .inv
 
 pub ends-fall-spec : {M : Type 1} → statement M
 ends-fall-spec =
@@ -55,10 +57,10 @@ ends-fall-spec =
     Inv-loop
     μ-loop
     loop-holds
-    mul-e
     shared-slice-read-e
     returns
     add-i
     loop-less
     loop-again
+    number-of-requires
     returns-2)

@@ -1,13 +1,13 @@
--- `plan::plan_sheet` meets its contract. Assumes nothing.
+-- `stored::plan_sheet` meets its contract. Assumes nothing.
 use denote.Ref.{now}
 use Rattle.sheet_read.specs.Summary.{heldCounts}
 use Rattle.sheet_loaded.proofs.Reading.{is-accepted}
 use Rattle.sheet_loaded.proofs.Loading.{far-inside, far-counted, long-inside, long-counted, calls-inside, calls-counted, calls-are, held}
 use Rattle.sheet_plan.specs.Plan.{planLists}
-use Rattle.sheet_plan.proofs.Planning.{of-tour}
+use Rattle.sheet_plan.proofs.PlanStored.{of-tour}
 use borrow.Author.Needs.{needs}
-use Rattle.sheet_plan.proofs.plan.plan_sheet.Statement.{statement}
-use Rattle.sheet_plan.proofs.plan.plan_sheet.Tie as tie
+use Rattle.sheet_plan.proofs.stored.plan_sheet.Statement.{statement}
+use Rattle.sheet_plan.proofs.stored.plan_sheet.Tie as tie
 
 load-requires : tie.Need-load-requires
 load-requires c κs = search needs
@@ -20,8 +20,8 @@ array-share-prefix-tour c =
     let q = is-accepted (now (s .args .bytes)) (heldCounts (s .args .found)) (s .pre .0) in
     calls-inside (x .load .ensures (q .0) (q .1) (q .2))
 
-slice-aggregate-plan-held : tie.Need-slice-aggregate-plan-held
-slice-aggregate-plan-held c =
+slice-aggregate-plan-stored : tie.Need-slice-aggregate-plan-stored
+slice-aggregate-plan-stored c =
     let x = c .before .before in
     let known = x .before .before .before .before .before in
     let s = known .before .before .before .before .before in
@@ -36,8 +36,8 @@ array-share-prefix-distances c =
     let q = is-accepted (now (s .args .bytes)) (heldCounts (s .args .found)) (s .pre .0) in
     far-inside (x .load .ensures (q .0) (q .1) (q .2))
 
-slice-aggregate-plan-held-2 : tie.Need-slice-aggregate-plan-held-2
-slice-aggregate-plan-held-2 c =
+slice-aggregate-plan-stored-2 : tie.Need-slice-aggregate-plan-stored-2
+slice-aggregate-plan-stored-2 c =
     let x = c .before .before .before in
     let known = x .before .before .before .before .before in
     let s = known .before .before .before .before .before in
@@ -52,16 +52,16 @@ array-share-prefix-times c =
     let q = is-accepted (now (s .args .bytes)) (heldCounts (s .args .found)) (s .pre .0) in
     long-inside (x .load .ensures (q .0) (q .1) (q .2))
 
-slice-aggregate-plan-held-3 : tie.Need-slice-aggregate-plan-held-3
-slice-aggregate-plan-held-3 c =
+slice-aggregate-plan-stored-3 : tie.Need-slice-aggregate-plan-stored-3
+slice-aggregate-plan-stored-3 c =
     let x = c .before .before .before .before in
     let known = x .before .before .before .before .before in
     let s = known .before .before .before .before .before in
     let q = is-accepted (now (s .args .bytes)) (heldCounts (s .args .found)) (s .pre .0) in
     long-counted (x .load .ensures (q .0) (q .1) (q .2))
 
-plan-held-requires : tie.Need-plan-held-requires
-plan-held-requires c κs =
+plan-stored-requires : tie.Need-plan-stored-requires
+plan-stored-requires c κs =
     let shared = c .before .before .before .before .before in
     let x = shared .before .before .before .before in
     let known = x .before .before .before .before .before in
@@ -95,7 +95,7 @@ returns c s tour e =
     let a = start .args in
     let old = planLists (now (a .served)) (now (a .run-ends)) (now (a .break-places)) (now (a .break-starts)) (now (a .dropped)) in
     let H = l .load .ensures s tour e in
-    of-tour s {old = old} (calls-are H) (y .plan-held .ensures s (H .in-memory))
+    of-tour s {old = old} (calls-are H) (y .plan-stored .ensures s (H .in-memory))
 
 pub plan-sheet-spec : {M : Type 1} → statement M
 plan-sheet-spec =
@@ -103,12 +103,12 @@ plan-sheet-spec =
     (tie.spec
     load-requires
     array-share-prefix-tour
-    slice-aggregate-plan-held
+    slice-aggregate-plan-stored
     array-share-prefix-distances
-    slice-aggregate-plan-held-2
+    slice-aggregate-plan-stored-2
     array-share-prefix-times
-    slice-aggregate-plan-held-3
-    plan-held-requires
+    slice-aggregate-plan-stored-3
+    plan-stored-requires
     same-length
     same-length-2
     same-length-3
