@@ -108,8 +108,8 @@ extern "C" {
 /* The version of this header: its numbers, and the same as text. */
 #define LIZSOMDUR_VERSION_MAJOR 1
 #define LIZSOMDUR_VERSION_MINOR 0
-#define LIZSOMDUR_VERSION_PATCH 0
-#define LIZSOMDUR_VERSION "1.0.0"
+#define LIZSOMDUR_VERSION_PATCH 1
+#define LIZSOMDUR_VERSION "1.0.1"
 
 /* The most calls that a sheet has, and so the most runs of its plan: the room that each list of lizsomdur_plan needs. */
 #define LIZSOMDUR_TOUR 63
