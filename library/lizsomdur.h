@@ -44,7 +44,7 @@
  *   windows   before ready the bus waits. Service may begin until due. After that it is late: where the customer has no penalty, the run is illegal;
  *             where there is one, each unit of time above due costs that much. A penalty without a window does nothing.
  *   break     where the sheet has one, it is taken at one of the calls, on arrival or at earliest, whichever is later, and not after latest. Only when
- *             it has ended can the call be served. A run that is home at earliest or before needs no break.
+ *             it has ended can the call be served. A run that is home before earliest needs no break; one that is home at earliest does.
  *
  * A sheet has lateness pay when some customer has both a window and a penalty, even a penalty of 0. What a run pays for being late is its lateness
  * pay. A run costs the fixed cost, its distance and its lateness pay, and a cutting as much as all its runs.
@@ -108,8 +108,8 @@ extern "C" {
 /* The version of this header: its numbers, and the same as text. */
 #define LIZSOMDUR_VERSION_MAJOR 1
 #define LIZSOMDUR_VERSION_MINOR 0
-#define LIZSOMDUR_VERSION_PATCH 0
-#define LIZSOMDUR_VERSION "1.0.0"
+#define LIZSOMDUR_VERSION_PATCH 1
+#define LIZSOMDUR_VERSION "1.0.1"
 
 /* The most calls that a sheet has, and so the most runs of its plan: the room that each list of lizsomdur_plan needs. */
 #define LIZSOMDUR_TOUR 63

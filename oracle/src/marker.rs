@@ -119,7 +119,9 @@ fn run_cost(sheet: &Sheet, calls: &[usize], place: usize) -> Result<u64, Verdict
     distance += whole(sheet.distances.get(at, 0));
     let home = time + whole(sheet.distances.travel_time(at, 0));
     if let (Some(rest), 0) = (sheet.limits.rest, place) {
-        within(BREAK_MISSING, home, whole(rest.earliest()))?;
+        if home >= whole(rest.earliest()) {
+            return Err((BREAK_MISSING, vec![home, whole(rest.earliest())]));
+        }
     }
     if let Some(limit) = sheet.limits.max_distance {
         within(TOO_FAR, distance, whole(limit))?;

@@ -13,13 +13,17 @@ use Rattle.definitions.specs.Run.{Totals}
 use Rattle.definitions.specs.Clock.{Clock, counts}
 use Rattle.bounds.specs.Sized.{Small, SmallBreak}
 use Rattle.bounds.specs.Bounds.{Early, EarlyClock}
-use Rattle.whole.specs.Whole.{fl}
-use Rattle.whole.proofs.WholeLaws.{fl-add, fl-le}
+use Rattle.whole.specs.Whole.{limit, fl}
+use Rattle.whole.proofs.WholeLaws.{fl-add, fl-lt}
 use Rattle.models.specs.Image.{flBreak}
 use Rattle.clock.specs.declared.schedule.Label.{Label}
-use Rattle.clock.specs.Clock.{isExcusedF, countsF, homeF, finishF}
+use Rattle.clock.specs.Clock.{excusedF, isExcusedF, countsF, homeF, finishF}
 use Rattle.clock.specs.Image.{flLabel, flTotals, flClock}
 use Rattle.clock.proofs.ServingExact.{through}
+
+-- the edge of the break
+pub excused-exact : (b : Break) → SmallBreak b → (home : ℕ) → home ≤ limit → excusedF (flBreak b) (fl home) ≡ excused b home
+excused-exact b B home h = fl-lt home (b .earliest) h (omega (arith, B))
 
 -- the totals of a label that has `far` behind it and `back` before it
 abbrev pub ended : ℕ → ℕ → Whole.Label → Totals
@@ -30,14 +34,14 @@ module _ (n : ℕ) (few : n ≤ mostCalls) (far back : ℕ) (near : Small back) 
   home-exact l E = rw (fl-add (l .time) back (omega arith) (omega arith))
 
   module _ (b : Break) (B : SmallBreak b) where
-    excused-exact : (o : Option Whole.Label) → Holds (Early n) o → isExcusedF (flBreak b) (fl back) (Option·map flLabel o) ≡ holds o (λ l. excused b (l .time + back))
-    excused-exact none E = refl
-    excused-exact (some l) E = rw (fl-add (l .time) back (omega arith) (omega arith)) (fl-le (l .time + back) (b .earliest) (omega arith) (omega (arith, B)))
+    is-excused-exact : (o : Option Whole.Label) → Holds (Early n) o → isExcusedF (flBreak b) (fl back) (Option·map flLabel o) ≡ holds o (λ l. excused b (l .time + back))
+    is-excused-exact none E = refl
+    is-excused-exact (some l) E = rw (fl-add (l .time) back (omega arith) (omega arith)) (excused-exact b B (l .time + back) (omega arith))
 
     counts-exact : (a j : ℕ) (x : Clock) → EarlyClock n x → countsF (fl back) (flClock b a j x) ≡ Option·map flLabel (counts (some b) back x)
     unfolding countsF
     counts-exact a j x E =
-        rw (excused-exact (x .before) (E .before-early)) (by-test (holds (x .before) (λ l. excused b (l .time + back))) (λ e. rw e) (λ e. rw e))
+        rw (is-excused-exact (x .before) (E .before-early)) (by-test (holds (x .before) (λ l. excused b (l .time + back))) (λ e. rw e) (λ e. rw e))
 
     counts-early : (x : Clock) → EarlyClock n x → Holds (Early n) (counts (some b) back x)
     counts-early x E = by-test (holds (x .before) (λ l. excused b (l .time + back))) (λ e. rw e (E .before-early)) (λ e. rw e (E .after-early))

@@ -11,9 +11,9 @@ use Rattle.clock.specs.declared.schedule.Scheduled.{Scheduled}
 use Rattle.clock.specs.Records.{ClockF}
 use Rattle.clock.specs.Serving.{startLabel, carryF, earlierF}
 
--- home at or before earliest needs no break
+-- home before earliest needs no break
 abbrev pub excusedF : BreakOf Float → Float → Bool
-excusedF b home = Ieee.le home (b .earliest)
+excusedF b home = Ieee.lt home (b .earliest)
 
 abbrev pub isExcusedF : BreakOf Float → Float → Option Label → Bool
 isExcusedF b back o = holds o (λ l. excusedF b (Ieee.add binary64 (l .time) back))

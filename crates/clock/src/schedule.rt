@@ -172,11 +172,11 @@ pub fn carry(label: Reached, travel: f64, customer: Customer, index: usize, rest
     }
 }
 
-// Home at or before earliest needs no break.
+// Home before earliest needs no break.
 pub fn excused(rest: VehicleBreak, home: f64) -> bool
     ensures { λ r. ⌜ r ≡ excusedF (breakOf rest) home ⌝ }
 {
-    home <= rest.earliest
+    home < rest.earliest
 }
 
 // The same of a label that may be none, with the way back.

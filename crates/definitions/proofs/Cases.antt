@@ -1,4 +1,4 @@
--- The starred bench cases, each with its full answer; case n besides, case r with a repeat, and three more. Each holds by computation. Assumes nothing.
+-- The bench cases that are proved, each with its full answer; case r with a repeat, and three more. Each holds by computation. Assumes nothing.
 use Prim.Native.Nat.{ℕ}
 use mathlib.Core.Path.{_≡_, refl}
 use mathlib.Core.Bool.{true, false}
@@ -89,9 +89,9 @@ pub case-m : (splitTw (rested 20 30 4) tour ≡ together 27 27 2) × evaluated (
 unfolding opened
 case-m = (refl, refl)
 
--- tour 1: home at 20, no break
-pub case-n : (splitTw (rested 20 30 4) (1 ∷ []) ≡ record { served = 1 ∷ []; ends = 1 ∷ []; dropped = []; cost = 20; distance = 20; places = 0 ∷ [] })
-    × (routeEval (rested 20 30 4) (1 ∷ []) ≡ some (record { totals = totals 20 20 0 0 0; start = none }))
+-- tour 1: without a break home at 20, when one is due; so break at the first call at 20, home at 34
+pub case-n : (splitTw (rested 20 30 4) (1 ∷ []) ≡ record { served = 1 ∷ []; ends = 1 ∷ []; dropped = []; cost = 20; distance = 20; places = 1 ∷ [] })
+    × (routeEval (rested 20 30 4) (1 ∷ []) ≡ some (record { totals = totals 20 34 0 0 1; start = some 20 }))
 unfolding opened
 case-n = (refl, refl)
 
@@ -140,8 +140,9 @@ pub case-tie : (splitTw (rested 0 30 4) tour ≡ together 27 27 1) × evaluated 
 unfolding opened
 case-tie = (refl, refl)
 
--- fixed cost 3, service, windows, a break and both limits: 1 2 is one run; 3 2 would be home at 81, after 80, and is two
+-- fixed cost 3, service, windows, a break and both limits: 1 2 is one run; 3 2 would be home at 81, after 80, and is two, of which 2 would
+-- be home at earliest, and takes the break
 pub case-full : (splitTw full tour ≡ together 30 27 2)
-    × (splitTw full (3 ∷ 2 ∷ []) ≡ record { served = 3 ∷ 2 ∷ []; ends = 1 ∷ 2 ∷ []; dropped = []; cost = 80; distance = 74; places = 1 ∷ 0 ∷ [] })
+    × (splitTw full (3 ∷ 2 ∷ []) ≡ record { served = 3 ∷ 2 ∷ []; ends = 1 ∷ 2 ∷ []; dropped = []; cost = 80; distance = 74; places = 1 ∷ 1 ∷ [] })
 unfolding opened
 case-full = (refl, refl)

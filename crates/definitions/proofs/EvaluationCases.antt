@@ -74,12 +74,12 @@ pub empty-run : Evaluates (standing none) [] (totals 7 7 0 0 0) none
 unfolding opened
 empty-run = refl
 
--- home at 7: after the earliest start of a break, which no call could take
-pub empty-needs-break : (routeEval (standing (pause 6 30 4)) [] ≡ none) × (routeFeasible (standing (pause 6 30 4)) [] ≡ false)
+-- home at 7: at the earliest start of a break, which no call could take
+pub empty-needs-break : (routeEval (standing (pause 7 30 4)) [] ≡ none) × (routeFeasible (standing (pause 7 30 4)) [] ≡ false)
 unfolding opened
 empty-needs-break = (refl, refl)
 
-pub empty-excused : Evaluates (standing (pause 7 30 4)) [] (totals 7 7 0 0 0) none
+pub empty-excused : Evaluates (standing (pause 8 30 4)) [] (totals 7 7 0 0 0) none
 unfolding opened
 empty-excused = refl
 

@@ -1,7 +1,8 @@
 -- The definitions computed on examples: a wrong definition fails one of them. (What holds for every sheet is in crates/theorems.)
--- The starred cases, and case m's listing.
+-- The bench cases, the edge of the break, and case m's listing.
 pub mod Bench
 pub mod Cases
+pub mod EdgeCases
 pub mod ListingCases
 -- The reader, and the refusals of the other calls.
 pub mod ReaderCases

@@ -75,7 +75,7 @@ unfolding opened
 full-best = refl
 
 -- two runs instead: 17 more to drive, and another fixed cost of 3
-pub full-dearer : mark full tour (run (1 ∷ []) 0 ∷ run (2 ∷ []) 0 ∷ []) ≡ dearer 20
+pub full-dearer : mark full tour (run (1 ∷ []) 0 ∷ run (2 ∷ []) 1 ∷ []) ≡ dearer 20
 unfolding opened
 full-dearer = refl
 
@@ -84,10 +84,10 @@ pub full-cheaper : alone (5 ∷ 2 ∷ []) 2 ≡ cheaper 5
 unfolding opened
 full-cheaper = refl
 
--- home at 24 without the break, so it is not needed; taken it is no fault
-pub full-break-not-needed : (alone (2 ∷ []) 0 ≡ Verdict.best) × (alone (2 ∷ []) 1 ≡ Verdict.best)
+-- home at 24 without the break, so it is needed
+pub full-at-earliest : (alone (2 ∷ []) 0 ≡ breakMissing 1 24 24) × (alone (2 ∷ []) 1 ≡ Verdict.best)
 unfolding opened
-full-break-not-needed = (refl, refl)
+full-at-earliest = (refl, refl)
 
 -- load 5
 pub full-load : alone (2 ∷ 4 ∷ 5 ∷ 3 ∷ []) 1 ≡ overload 1 5 4
@@ -162,6 +162,6 @@ first-run-first = refl
 
 -- a fault in the second run
 pub second-run : (mark full (1 ∷ 3 ∷ 2 ∷ []) (run (1 ∷ []) 0 ∷ run (3 ∷ 2 ∷ []) 1 ∷ []) ≡ tooLong 2 81 80)
-    × (mark full (2 ∷ 1 ∷ []) (run (2 ∷ []) 0 ∷ run (1 ∷ []) 1 ∷ []) ≡ windowMissed 2 1 1 28 14)
+    × (mark full (2 ∷ 1 ∷ []) (run (2 ∷ []) 1 ∷ run (1 ∷ []) 1 ∷ []) ≡ windowMissed 2 1 1 28 14)
 unfolding opened
 second-run = (refl, refl)

@@ -38,8 +38,8 @@ unfoldable pub clockFrom : Sheet → ℕ → ℕ → Clock → List ℕ → Cloc
 clockFrom s k a x [] = x
 clockFrom s k a x (c ∷ cs) = clockFrom s (suc k) c (tick s k a c x) cs
 
--- A before-label that is home at or before earliest needs no break; otherwise the after-label counts. Without a
--- break on the sheet there is the one label.
+-- A before-label that is excused needs no break; otherwise the after-label counts. Without a break on the sheet there
+-- is the one label.
 abbrev pub counts : Option Break → ℕ → Clock → Option Label
 counts none back x = x .before
 counts (some b) back x = cond (holds (x .before) (λ l. excused b (l .time + back))) (x .before) (x .after)

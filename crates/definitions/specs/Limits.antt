@@ -2,7 +2,7 @@
 use Prim.Native.Nat.{ℕ}
 use mathlib.Core.Bool.{Bool, true, _&&_}
 use mathlib.Core.Option.{Option, none, some}
-use lib.Dec.{leb}
+use lib.Dec.{ltb, leb}
 use Rattle.definitions.specs.Sheet.{Break, Sheet}
 
 -- at most the limit, if given
@@ -14,6 +14,6 @@ within (some limit) n = leb n limit
 abbrev pub allow : Sheet → ℕ → ℕ → Bool
 allow s distance duration = within (s .head .maxDistance) distance && within (s .head .maxDuration) duration
 
--- home at or before earliest needs no break
+-- home before earliest needs no break; home at earliest does
 abbrev pub excused : Break → ℕ → Bool
-excused b duration = leb duration (b .earliest)
+excused b duration = ltb duration (b .earliest)

@@ -109,7 +109,7 @@ walkFault s n place k a l (c ∷ cs) =
       | some m ↦ walkFault s n place (suc k) c m cs
     ]
 
--- In what the run comes to: a missing break with a return after earliest, distance, duration. Where the break's place is not legal, the
+-- In what the run comes to: a missing break where one is needed, distance, duration. Where the break's place is not legal, the
 -- place is 0 on a sheet with a break: one beyond its run, or on a sheet without a break, is refused by 5 before anything is marked.
 abbrev pub totalFault : Sheet → ℕ → Run → Totals → Option Verdict
 totalFault s n r t =

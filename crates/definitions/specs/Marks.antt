@@ -1,7 +1,7 @@
 -- What each mark means, verdict by verdict. Definitions only.
 use Prim.Native.Nat.{ℕ, suc, _+_, _≤_, _<_}
 use mathlib.Core.Path.{_≡_}
-use mathlib.Core.Bool.{true, cond, not}
+use mathlib.Core.Bool.{true, false, cond, not}
 use mathlib.Core.List.{List, _∷_, _++_}
 use mathlib.Core.Option.{Option, none, some}
 use lib.ListN.{length, getD, take}
@@ -9,7 +9,7 @@ use Rattle.basics.specs.Options.{present}
 use Rattle.basics.specs.Lists.{isEmpty}
 use Rattle.definitions.specs.Load.{seated}
 use Rattle.definitions.specs.Sheet.{Window, Break, Sheet, Leg, customer, drive}
-use Rattle.definitions.specs.Limits.{within}
+use Rattle.definitions.specs.Limits.{within, excused}
 use Rattle.definitions.specs.Run.{breakStart, ready, Label, start, Run, breakAt, serveAll, lastOf, firstClosed, Totals, ride, load, fits, placed}
 use Rattle.definitions.specs.Cutting.{joined, legalCutting, cuttingCost}
 use Rattle.definitions.specs.Drop.{splitTw}
@@ -113,7 +113,7 @@ pub record Home (s : Sheet) (r : Run) (t : Totals) : Type 0 where
   pub room : fits s (r .calls) ≡ true
   pub rode : ride s r ≡ some t
 
--- there is a break on the sheet and none in the run, which is home after earliest
+-- there is a break on the sheet and none in the run, which is not excused
 pub record BreakLeftOut (s : Sheet) (r : Run) (value limit : ℕ) : Type 0 where
   pub totals : Totals
   pub at-home : Home s r totals
@@ -122,7 +122,7 @@ pub record BreakLeftOut (s : Sheet) (r : Run) (value limit : ℕ) : Type 0 where
   pub nowhere : r .place ≡ 0
   pub value-is : totals .duration ≡ value
   pub limit-is : break .earliest ≡ limit
-  pub over : limit < value
+  pub needed : excused break (totals .duration) ≡ false
 
 -- the break is where it may be, and the distance is over its limit
 pub record Far (s : Sheet) (r : Run) (value limit : ℕ) : Type 0 where

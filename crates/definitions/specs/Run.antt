@@ -145,8 +145,8 @@ fits s calls = fitsBy (λ c. customer s c .demand) (s .head .capacity) calls
 abbrev pub allowed : Sheet → Totals → Bool
 allowed s t = allow s (t .distance) (t .duration)
 
--- A place that the break may have in a run of n calls that is home at `duration`: with 0 on a sheet with a break it is home at or before
--- earliest; a break not needed may be taken; on a sheet without one only 0 is legal.
+-- A place that the break may have in a run of n calls that is home at `duration`: with 0 on a sheet with a break it is excused; a break not
+-- needed may be taken; on a sheet without one only 0 is legal.
 unfoldable pub placed : Option Break → ℕ → ℕ → ℕ → Bool
 placed none place n duration = eqb place 0
 placed (some b) zero n duration = excused b duration

@@ -12,7 +12,7 @@ use Rattle.basics.specs.Lists.{All}
 use Rattle.basics.proofs.TestLaws.{by-test, not-both}
 use Rattle.definitions.specs.Sheet.{Window, Break, Customer, Sheet, Leg, customer, drive, mapWindow, mapBreak, mapCustomer}
 use Rattle.definitions.specs.Window.{Entry, enter}
-use Rattle.definitions.specs.Limits.{within}
+use Rattle.definitions.specs.Limits.{within, excused}
 use Rattle.definitions.specs.Run.{Label, start, breakStart, tooLate, ready, serveAt, lastOf, distanceFrom, Totals}
 use Rattle.definitions.specs.Run as Run
 use Rattle.definitions.specs.Clock.{Clock, smaller, tick, clockFrom, counts, clock, startOf}
@@ -282,21 +282,17 @@ home-broken most b back x L = go (x .before) (x .after) L
     late (some l) = above-is most (l .time + back)
 
     go : (o m : Option Label) → NoLater (timeE o) (timeE m)
-        → holds (cond (holds o (λ l. leb (l .time + back) (b .earliest))) o m) (λ l. within most (l .time + back))
-        ≡ (ltE (addE (timeE o) (of back)) (sooner exts long (of (b .earliest + 1))) || ltE (addE (timeE m) (of back)) long)
+        → holds (cond (holds o (λ l. excused b (l .time + back))) o m) (λ l. within most (l .time + back))
+        ≡ (ltE (addE (timeE o) (of back)) (sooner exts long (of (b .earliest))) || ltE (addE (timeE m) (of back)) long)
     go none m N = late m
     go (some l) m N =
         let n = l .time + back in
-        let split = sooner-bound (of n) long (of (b .earliest + 1)) in
-        by-test (leb n (b .earliest))
-        (λ t. let h = leb-true n (b .earliest) t in
-        let g : ltb n (b .earliest + 1) ≡ true = lt-ltb n (b .earliest + 1) (omega arith) in
-        rw (t, split, g)
+        let split = sooner-bound (of n) long (of (b .earliest)) in
+        by-test (excused b n)
+        (λ t. rw (split, t)
         (by-test (ltE (of n) long) (λ y. above-is most n ∙ rw y)
         (λ f. above-is most n ∙ rw f (after (ltE (addE (timeE m) (of back)) long) (λ y. not-both (ltE (of n) long) (added-later (of (l .time)) (timeE m) back N long y) f)))))
-        (λ t. let h = leb-false n (b .earliest) t in
-        let g : ltb n (b .earliest + 1) ≡ false = le-ltb n (b .earliest + 1) (omega arith) in
-        rw (t, split, g) (late m ∙ none-first (ltE (of n) long) (ltE (addE (timeE m) (of back)) long)))
+        (λ t. rw (split, t) (late m ∙ none-first (ltE (of n) long) (ltE (addE (timeE m) (of back)) long)))
       where
         after : (z : Bool) → (z ≡ true → false ≡ z) → false ≡ z
         after true e = e refl

@@ -134,11 +134,10 @@ module _ (most : Option ℕ) (m : Holds Small most) where
   day-fx none B = ap (λ (x : Float). record { long = x; spare = x; broken = false; earliest = fl 0; latest = fl 0; pause = fl 0 }) above-fx
   day-fx (some b) B =
       let long = above exts (Option·map of most) in
-      let end : ℕ = b .earliest + 1 in
-      let first = fl-add (b .earliest) 1 (omega (arith, B .earliest-small)) (omega arith) in
-      let spare = ap₂ (sooner floats) above-fx first ∙ sooner-fx long (of end) (fit (mostNumber + 1) long (omega arith) above-small) (omega (arith, B .earliest-small)) in
+      let long-fits = fit (mostNumber + 1) long (omega arith) above-small in
+      let spare = ap (λ (x : Float). sooner floats x (fl (b .earliest))) above-fx ∙ sooner-fx long (of (b .earliest)) long-fits (omega (arith, B .earliest-small)) in
       ap₂ (λ (x y : Float). record { long = x; spare = y; broken = true; earliest = fl (b .earliest); latest = floats .plus (fl (b .latest)) (fl 1); pause = fl (b .duration) }) above-fx spare
-      ∙ ap (λ (x : Float). record { long = fx long; spare = fx (sooner exts long (of end)); broken = true; earliest = fl (b .earliest); latest = x; pause = fl (b .duration) })
+      ∙ ap (λ (x : Float). record { long = fx long; spare = fx (sooner exts long (of (b .earliest))); broken = true; earliest = fl (b .earliest); latest = x; pause = fl (b .duration) })
       (fl-add (b .latest) 1 (omega (arith, B .latest-small)) (omega arith))
 
   day-small : (o : Option Break) → Holds SmallBreak o → SmallDay (dayBy o)
@@ -146,7 +145,7 @@ module _ (most : Option ℕ) (m : Holds Small most) where
   day-small (some b) B =
       record {
         long-small = above-small;
-        spare-small = sooner-upto (mostNumber + 1) (above exts (Option·map of most)) (of (b .earliest + 1)) above-small (omega (arith, B .earliest-small));
+        spare-small = sooner-upto (mostNumber + 1) (above exts (Option·map of most)) (of (b .earliest)) above-small (omega (arith, B .earliest-small));
         earliest-small = B .earliest-small;
         latest-small = omega (arith, B .latest-small);
         pause-small = B .duration-small;

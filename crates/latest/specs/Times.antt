@@ -76,7 +76,7 @@ module _ {N : Type 0} (A : Arithmetic N) where
   dayOf most (some b) =
       record {
         long = above most;
-        spare = sooner (above most) (A .plus (b .earliest) (A .one));
+        spare = sooner (above most) (b .earliest);
         broken = true;
         earliest = b .earliest;
         latest = A .plus (b .latest) (A .one);

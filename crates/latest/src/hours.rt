@@ -111,16 +111,13 @@ pub fn day_of(limits: RouteLimits) -> Day
             latest: 0.0,
             pause: 0.0,
         },
-        Rest::Break(b) => {
-            let end = b.earliest + 1.0;
-            Day {
-                long,
-                spare: smaller(long, end),
-                broken: true,
-                earliest: b.earliest,
-                latest: b.latest + 1.0,
-                pause: b.duration,
-            }
-        }
+        Rest::Break(b) => Day {
+            long,
+            spare: smaller(long, b.earliest),
+            broken: true,
+            earliest: b.earliest,
+            latest: b.latest + 1.0,
+            pause: b.duration,
+        },
     }
 }

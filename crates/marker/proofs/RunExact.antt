@@ -26,11 +26,12 @@ use Rattle.bounds.proofs.BoundLaws.{start-early, distance-most, ride-most, tota
 use Rattle.bounds.specs.Bounds.{SmallTotals, TotalsFit}
 use Rattle.bounds.proofs.CostBoundLaws.{price-room}
 use Rattle.whole.specs.Whole.{fl, limit}
-use Rattle.whole.proofs.WholeLaws.{fl-le, fl-sum}
+use Rattle.whole.proofs.WholeLaws.{fl-sum}
 use Rattle.models.specs.Image.{flBreak}
 use Rattle.models.proofs.Exact.{Small, limit-exact, within-exact}
 use Rattle.clock.specs.Serving.{startLabel}
 use Rattle.clock.specs.Image.{flTotals}
+use Rattle.clock.proofs.HomeExact.{excused-exact}
 use Rattle.evaluation.specs.Tables.{demandF}
 use Rattle.evaluation.specs.Image.{flLimits}
 use Rattle.evaluation.proofs.ClockExact.{demand-exact}
@@ -58,7 +59,7 @@ module _ (s : Sheet) (S : Sized s) (G : Ground) (I : Image s G) where
 placed-exact : (o : Option Break) → Holds SmallBreak o → (place n duration : ℕ) → duration ≤ limit → placedF (Option·map flBreak o) place n (fl duration) ≡ placed o place n duration
 unfolding placedF placed
 placed-exact none B place n duration h = refl
-placed-exact (some b) B zero n duration h = fl-le duration (b .earliest) h (omega arith)
+placed-exact (some b) B zero n duration h = excused-exact b B duration h
 placed-exact (some b) B (suc k) n duration h = refl
 
 small-limit : (o : Option ℕ) → Holds Inside.Small o → Small o

@@ -51,7 +51,7 @@ placedF none place n duration = eqb place 0
 placedF (some b) zero n duration = excusedF b duration
 placedF (some b) (suc k) n duration = leb (suc k) n
 
--- run n of so many calls by its totals: a missing break with a return after earliest, distance, duration, and else its cost
+-- run n of so many calls by its totals: a missing break where one is needed, distance, duration, and else its cost
 unfoldable pub totalsMarkF : LimitsF → Float → (n place calls : ℕ) → Scheduled → Marked
 totalsMarkF limits fixed n place calls t =
     cond (placedF (limits .rest) place calls (t .duration))

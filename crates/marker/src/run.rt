@@ -44,7 +44,7 @@ pub fn placed(rest: Rest, place: usize, calls: usize, duration: f64) -> bool
     place <= calls
 }
 
-// What the run comes to: a missing break with a return after earliest, distance, duration, and else its cost.
+// What the run comes to: a missing break where one is needed, distance, duration, and else its cost.
 pub fn mark_totals(
     run: usize,
     place: usize,

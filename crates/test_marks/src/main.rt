@@ -53,7 +53,8 @@ fn after(time: f64, limit: f64) {
 
 fn break_missing(run: usize, duration: f64, earliest: f64) {
     run_fault(b"break missing", run);
-    after(duration, earliest);
+    amount(b": ", duration);
+    amount(b" not before ", earliest);
 }
 
 fn at_call(place: usize, customer: usize, time: f64, limit: f64) {
@@ -300,11 +301,18 @@ fn roads() {
     cut(b"a run each", Change::Between(268435455.0), 12, 12, 12, 0);
 }
 
+// The run of customer 1 is home at 20 without a break.
+fn edge() {
+    run(b"home before earliest", Change::Break(21.0, 30.0), 1, 0);
+    run(b"break not needed", Change::Break(21.0, 30.0), 1, 1);
+    run(b"home at earliest", Change::Break(20.0, 30.0), 1, 0);
+    run(b"n", Change::Break(20.0, 30.0), 1, 1);
+}
+
 fn full_costs() {
     full_run(b"full best", 12, 2);
-    full_cut(b"full dearer", 12, 12, 12, 0);
+    full_cut(b"full dearer", 12, 12, 12, 1);
     full_run(b"full cheaper", 52, 2);
-    full_run(b"full break not needed", 2, 0);
     full_run(b"full break taken", 2, 1);
 }
 
@@ -313,6 +321,7 @@ fn full_faults() {
     full_run(b"full break", 24, 2);
     full_run(b"full window", 1, 1);
     full_run(b"full missing", 4, 0);
+    full_run(b"full at earliest", 2, 0);
     full_run(b"full far", 42, 1);
     full_run(b"full long", 32, 1);
 }
@@ -332,7 +341,7 @@ fn order() {
 fn runs() {
     full_cut(b"first run first", 321, 321, 23, 11);
     full_cut(b"second run long", 132, 132, 13, 1);
-    full_cut(b"second run window", 21, 21, 12, 1);
+    full_cut(b"second run window", 21, 21, 12, 11);
 }
 
 fn main() {
@@ -341,6 +350,7 @@ fn main() {
     drops();
     faults();
     roads();
+    edge();
     full_costs();
     full_faults();
     order();

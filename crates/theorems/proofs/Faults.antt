@@ -15,7 +15,7 @@ use Rattle.basics.specs.Lists.{isEmpty, all, All}
 use Rattle.definitions.specs.Load.{seated}
 use Rattle.definitions.specs.Sheet.{Window, Break, Sheet, Leg}
 use Rattle.definitions.specs.Window.{dueOf, enter}
-use Rattle.definitions.specs.Limits.{within}
+use Rattle.definitions.specs.Limits.{within, excused}
 use Rattle.definitions.specs.Run.{breakStart, tooLate, ready, serveAt, Label, start, serve, Run, breakAt, serveAll, lastOf, firstClosed, Totals, ride, load, fits, placed}
 use Rattle.definitions.specs.Cutting.{joined, cuttingCost}
 use Rattle.definitions.specs.Drop.{splitTw}
@@ -134,10 +134,10 @@ above none n h = absurd (true≢false h)
 above (some m) n h = (refl, leb-false n m h)
 
 unplaced : (rest : Option Break) (place n duration : ℕ) → place ≤ cond (present rest) n 0 → placed rest place n duration ≡ false
-    → (rest ≡ some (breakOr rest)) × (place ≡ 0) × (breakOr rest .earliest < duration)
+    → (rest ≡ some (breakOr rest)) × (place ≡ 0) × (excused (breakOr rest) duration ≡ false)
 unfolding placed
 unplaced none place n duration p h = not-both (eqb place 0) (eq-eqb place 0 (omega arith)) h
-unplaced (some b) zero n duration p h = (refl, refl, leb-false duration (b .earliest) h)
+unplaced (some b) zero n duration p h = (refl, refl, h)
 unplaced (some b) (suc k) n duration p h = not-both (leb (suc k) n) (le-leb (suc k) n p) h
 
 -- of two faults: the first, whose test fails, or the other, and the first one's test holds
@@ -150,7 +150,7 @@ module _ (s : Sheet) (n : ℕ) (r : Run) (proper : Placeable s r) where
     missing-fails : placed (s .head .rest) (r .place) (length (r .calls)) (t .duration) ≡ false → Fails s n r (breakMissing n (t .duration) (breakOr (s .head .rest) .earliest))
     missing-fails p =
         let u = unplaced (s .head .rest) (r .place) (length (r .calls)) (t .duration) proper p in
-        by-missing (record { totals = t; at-home = home; break = _; rested = u .0; nowhere = u .1; value-is = refl; limit-is = refl; over = u .2 })
+        by-missing (record { totals = t; at-home = home; break = _; rested = u .0; nowhere = u .1; value-is = refl; limit-is = refl; needed = u .2 })
 
     far-fails : placed (s .head .rest) (r .place) (length (r .calls)) (t .duration) ≡ true → within (s .head .maxDistance) (t .distance) ≡ false
         → Fails s n r (tooFar n (t .distance) (valueOr 0 (s .head .maxDistance)))

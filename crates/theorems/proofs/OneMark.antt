@@ -15,7 +15,7 @@ use Rattle.basics.specs.Lists.{isEmpty}
 use Rattle.definitions.specs.Load.{seated, wheeled}
 use Rattle.definitions.specs.Sheet.{Window, Break, Customer, Sheet, Leg, customer, drive}
 use Rattle.definitions.specs.Window.{enter, late, dueOf}
-use Rattle.definitions.specs.Limits.{within, excused}
+use Rattle.definitions.specs.Limits.{within}
 use Rattle.definitions.specs.Run.{breakStart, tooLate, ready, Label, start, serve, serveAt, Run, breakAt, serveAll, lastOf, firstClosed, Totals, ride, load, fits, placed, legal}
 use Rattle.definitions.specs.Cutting.{joined, legalCutting, cuttingCost}
 use Rattle.definitions.specs.Drop.{splitTw}
@@ -199,12 +199,7 @@ module _ (s : Sheet) (n : ℕ) (r : Run) where
   fails-run v (by-missing {value} {limit} x) = came-home (x .totals) (x .at-home) _ missing
     where
       late-home : placed (s .head .rest) (r .place) (length (r .calls)) (x .totals .duration) ≡ false
-      late-home =
-          rw (x .rested, x .nowhere)
-          (by-test (leb (x .totals .duration) (x .break .earliest)) (λ t. absurd (not-so (leb-true (x .totals .duration) (x .break .earliest) t))) (λ f. f))
-        where
-          not-so : x .totals .duration ≤ x .break .earliest → ⊥
-          not-so h = omega (arith, h, x .value-is, x .limit-is, x .over)
+      late-home = rw (x .rested, x .nowhere) (x .needed)
 
       missing : totalFault s n r (x .totals) ≡ some (breakMissing n value limit)
       missing = rw (late-home, x .rested) (ap₂ (λ (a b : ℕ). some (breakMissing n a b)) (x .value-is) (x .limit-is))

@@ -68,7 +68,7 @@ fn said(verdict: Verdict) -> String {
             run,
             duration,
             earliest,
-        } => fault("break missing", run, None, duration, "after", earliest),
+        } => fault("break missing", run, None, duration, "not before", earliest),
         TooFar {
             run,
             distance,

@@ -53,7 +53,7 @@ fn a_closed_leg_is_not_driven() {
         ..base()
     };
     planned(with_closed(timed, ford), &[1, 2], two);
-    let rested = "run 1\nrun 2 rest 1 20\ntotal 44 cost 44 served 2 dropped 0\n";
+    let rested = "run 1 rest 1 20\nrun 2 rest 1 20\ntotal 44 cost 44 served 2 dropped 0\n";
     planned(with_closed(with_break(20, 30), ford), &[1, 2], rested);
 }
 
@@ -195,10 +195,10 @@ fn a_break_starts_from_earliest_to_latest_where_it_is_needed() {
     planned(with_break(5, 10), &[1, 2], at_first);
     let never = "drop 1\ndrop 2\ntotal 0 cost 0 served 0 dropped 2\n";
     planned(with_break(5, 9), &[1, 2], never);
-    let home_at_earliest = "run 1\ntotal 20 cost 20 served 1 dropped 0\n";
+    let home_before_earliest = "run 1\ntotal 20 cost 20 served 1 dropped 0\n";
+    planned(with_break(21, 30), &[1], home_before_earliest);
+    let home_at_earliest = "run 1 rest 1 20\ntotal 20 cost 20 served 1 dropped 0\n";
     planned(with_break(20, 30), &[1], home_at_earliest);
-    let home_later = "run 1 rest 1 19\ntotal 20 cost 20 served 1 dropped 0\n";
-    planned(with_break(19, 30), &[1], home_later);
 }
 
 #[test]

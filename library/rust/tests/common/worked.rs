@@ -168,6 +168,10 @@ fn of_base() -> Vec<Marked> {
         whole("closed", &between, &[1, 2], 0),
         whole("closed the other way", &between, &[2, 1], 0),
         cut("a run each", &between, &[1, 2], &[(&[1], 0), (&[2], 0)]),
+        whole("home before earliest", &with_break(21, 30), &[1], 0),
+        whole("break not needed", &with_break(21, 30), &[1], 1),
+        whole("home at earliest", &with_break(20, 30), &[1], 0),
+        whole("n", &with_break(20, 30), &[1], 1),
     ]
 }
 
@@ -175,14 +179,14 @@ fn of_full() -> Vec<Marked> {
     let full = full();
     vec![
         whole("full best", &full, &[1, 2], 2),
-        cut("full dearer", &full, &[1, 2], &[(&[1], 0), (&[2], 0)]),
+        cut("full dearer", &full, &[1, 2], &[(&[1], 0), (&[2], 1)]),
         whole("full cheaper", &full, &[5, 2], 2),
-        whole("full break not needed", &full, &[2], 0),
         whole("full break taken", &full, &[2], 1),
         whole("full load", &full, &[2, 4, 5, 3], 1),
         whole("full break", &full, &[2, 4], 2),
         whole("full window", &full, &[1], 1),
         whole("full missing", &full, &[4], 0),
+        whole("full at earliest", &full, &[2], 0),
         whole("full far", &full, &[4, 2], 1),
         whole("full long", &full, &[3, 2], 1),
         cut(
@@ -209,7 +213,7 @@ fn of_full() -> Vec<Marked> {
             &[1, 3, 2],
             &[(&[1], 0), (&[3, 2], 1)],
         ),
-        cut("second run window", &full, &[2, 1], &[(&[2], 0), (&[1], 1)]),
+        cut("second run window", &full, &[2, 1], &[(&[2], 1), (&[1], 1)]),
     ]
 }
 
@@ -234,7 +238,7 @@ pub fn of_closed() -> Vec<(Marked, &'static str)> {
         ),
         (
             cut("first run before road", &due_home, &[1, 2], singles),
-            "break missing in run 1: 20 after 15",
+            "break missing in run 1: 20 not before 15",
         ),
         (
             whole("calls before road", &no_way_home, &[1, 2], 0),

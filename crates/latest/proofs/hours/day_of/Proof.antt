@@ -27,7 +27,7 @@ returns c =
 returns-2 : tie.Need-returns-2
 returns-2 c =
     let small = c .before in
-    let known = small .before .before .before in
+    let known = small .before .before in
     let from = known .before .before in
     let e : from .before .args .limits .rest ≡ Break (known .rest .given .0 .0) = search needs in
     rw (e, small .smaller .ensures, from .above-limit .ensures, fl-one)
