@@ -2,6 +2,8 @@
  *
  *   lizsomdur_plan        cuts the calls into runs at least cost
  *   lizsomdur_mark        says what somebody's own cutting is worth beside that plan
+ *   lizsomdur_plan_least  cuts them at least cost with drivers' breaks where the least is paid for being late
+ *   lizsomdur_mark_least  says what somebody's own cutting is worth beside that one
  *   lizsomdur_reverse     shortens a run by another order of its calls
  *   lizsomdur_eliminate   does the same work with fewer runs
  *
@@ -56,9 +58,26 @@
  * Customers, run ends, break places and positions are stored in one byte each, which is the number itself: 1 to 63 for a customer and for a position in
  * the sheet's calls, up to 128 for a run end and for a break place. So what one function has written another can be given as it is.
  *
+ * ---- Where the break goes
+ *
+ * On a sheet with a break the planner chooses a break place for each run, in one of two ways:
+ *
+ *   by the clock   call by call: of a break taken before and one taken here it keeps that with which the bus is done with this call sooner, at a tie
+ *                  that with less lateness pay, and else the one before
+ *   by least pay   it tries each call, and no break where the run needs none, and takes the place with the least lateness pay among those with which
+ *                  the run is legal, limits too; of equal pay the one with which it is home sooner, then no break, then the earlier call
+ *
+ * lizsomdur_plan and lizsomdur_mark go by the clock; lizsomdur_plan_least and lizsomdur_mark_least go by least pay, and are the same in everything else.
+ *
+ * A run that is legal with some break place gets one by either way, so both drop the same calls. By least pay no cutting of the served calls into legal
+ * runs costs less, whatever its break places are. By the clock that is so too, but for sheets with both a break and lateness pay: there the cost is the
+ * least with breaks as the clock takes them. On a sheet without lateness pay both ways cost the same, with breaks that may be at different calls; without
+ * a break both give the same.
+ *
  * ---- Refusals
  *
- * Each function returns 0, or the number of a refusal. These are faults of the sheet:
+ * Each function returns 0, or the number of a refusal. What is said here of lizsomdur_plan and lizsomdur_mark is true of lizsomdur_plan_least and
+ * lizsomdur_mark_least too. These are faults of the sheet:
  *
  *   11 a kind of word that may not stand here
  *    1 a number out of its range
@@ -79,8 +98,8 @@
  *    4 lateness pay on a sheet for lizsomdur_reverse or lizsomdur_eliminate
  *   23 a closed leg on a sheet for one of these two, whether the runs use it or not
  *
- * lizsomdur_plan tests its lists first: with 13 it sets `word` to 0, whatever the sheet is. The other three test the sheet first, then their lists in
- * the order above; a fault of the lists leaves `word` as it was. On a refusal nothing but `word` is written. When 0 is returned, `word` stays as it
+ * lizsomdur_plan tests its lists first: with 13 it sets `word` to 0, whatever the sheet is. The other functions test the sheet first, then their lists
+ * in the order above; a fault of the lists leaves `word` as it was. On a refusal nothing but `word` is written. When 0 is returned, `word` stays as it
  * was, and nothing is written into a list beyond what the answer counts: each byte behind that stays as it was.
  *
  * ---- Memory
@@ -107,9 +126,9 @@ extern "C" {
 
 /* The version of this header: its numbers, and the same as text. */
 #define LIZSOMDUR_VERSION_MAJOR 1
-#define LIZSOMDUR_VERSION_MINOR 0
-#define LIZSOMDUR_VERSION_PATCH 1
-#define LIZSOMDUR_VERSION "1.0.1"
+#define LIZSOMDUR_VERSION_MINOR 1
+#define LIZSOMDUR_VERSION_PATCH 0
+#define LIZSOMDUR_VERSION "1.1.0"
 
 /* The most calls that a sheet has, and so the most runs of its plan: the room that each list of lizsomdur_plan needs. */
 #define LIZSOMDUR_TOUR 63
@@ -120,15 +139,12 @@ extern "C" {
 /* The value of the C and D words of a leg that can't be driven. */
 #define LIZSOMDUR_NO_ROAD 0x0FFFFFFF
 
-/* Cuts the sheet's calls into legal runs, in their order, at least cost.
+/* Cuts the sheet's calls into legal runs, in their order, at least cost, with breaks by the clock.
  *
  * Not all calls can always be served. While some beginning of the calls that are left (the first, the first two, and so on) can't be cut into legal
  * runs, the last call of the shortest such beginning is dropped. So a call may be dropped that could be served together with later ones.
  *
- * The planner settles a run's break call by call: of a break taken before and one taken here it keeps that with which the bus is done with this call
- * sooner, at a tie that with less lateness pay, and else the one before. Where the sheet has both a break and lateness pay, other break places may
- * cost less: there the cost is the least with breaks so taken. Of cuttings that cost the same, it gives the one whose last run begins the earliest,
- * then the run before that, and so on.
+ * Of cuttings that cost the same, it gives the one whose last run begins the earliest, then the run before that, and so on.
  *
  * served        the customers served, in order
  * run_ends      the end of each run
@@ -146,6 +162,15 @@ uint32_t lizsomdur_plan(const uint8_t *sheet, size_t sheet_length,
                         uint8_t *dropped, size_t dropped_length,
                         size_t counts[3], double totals[2], size_t *word);
 
+/* The same with breaks by least pay. */
+uint32_t lizsomdur_plan_least(const uint8_t *sheet, size_t sheet_length,
+                              uint8_t *served, size_t served_length,
+                              uint8_t *run_ends, size_t run_ends_length,
+                              uint8_t *break_places, size_t break_places_length,
+                              double *break_starts, size_t break_starts_length,
+                              uint8_t *dropped, size_t dropped_length,
+                              size_t counts[3], double totals[2], size_t *word);
+
 /* Verdicts, and the values that each has. Runs, places and positions are numbered from 1. */
 enum {
     LIZSOMDUR_OTHER_CALLS = 1,          /* position: where the calls first differ from those that the planner serves, or the first of the two ends */
@@ -157,12 +182,12 @@ enum {
     LIZSOMDUR_TOO_LONG = 7,             /* run, duration, limit */
     LIZSOMDUR_BEST = 8,                 /* none: as cheap as the planner's */
     LIZSOMDUR_DEARER = 9,               /* by how much */
-    LIZSOMDUR_CHEAPER = 10,             /* by how much: only where the sheet has both lateness pay and a break */
+    LIZSOMDUR_CHEAPER = 10,             /* by how much: only where the sheet has both lateness pay and a break, and never by lizsomdur_mark_least */
     LIZSOMDUR_WHEELCHAIR_OVERLOAD = 11, /* run, second load, second capacity: its load is at most the capacity */
     LIZSOMDUR_ROAD_CLOSED = 12          /* run, number of the leg in it: 1 leaves the depot; nothing else is looked at in that run */
 };
 
-/* Marks a cutting of the sheet's calls against the planner's own. `places` has the break place of each run; a break may also be taken where none is
+/* Marks a cutting of the sheet's calls against that of lizsomdur_plan. `places` has the break place of each run; a break may also be taken where none is
  * needed.
  *
  * The calls come first: they have to be those that the planner serves. Then the first run with a fault is told, and of its faults the first of closed
@@ -176,6 +201,13 @@ uint32_t lizsomdur_mark(const uint8_t *sheet, size_t sheet_length,
                         const uint8_t *ends, size_t ends_length,
                         const uint8_t *places, size_t places_length,
                         size_t *word, uint32_t *verdict, double values[5]);
+
+/* The same against the cutting of lizsomdur_plan_least. The verdict is never LIZSOMDUR_CHEAPER. */
+uint32_t lizsomdur_mark_least(const uint8_t *sheet, size_t sheet_length,
+                              const uint8_t *calls, size_t calls_length,
+                              const uint8_t *ends, size_t ends_length,
+                              const uint8_t *places, size_t places_length,
+                              size_t *word, uint32_t *verdict, double values[5]);
 
 /* Shortens one run: turns stretches of its calls around, as long as one is found that lowers the distance and makes a run that keeps windows, limits
  * and break. Neither load is looked at, nor are the sheet's own calls. A run that is not legal is taken too.

@@ -8,6 +8,28 @@ const WINDOWS: Recipe = Recipe {
     ..PLAIN
 };
 const BREAK: Option<[u32; 3]> = Some([400, 60_000, 30]);
+const RESTED: Kind = (
+    "break",
+    Recipe {
+        rest: BREAK,
+        ..PLAIN
+    },
+);
+const RESTED_WINDOWS: Kind = (
+    "break and windows",
+    Recipe {
+        rest: BREAK,
+        ..WINDOWS
+    },
+);
+const RESTED_NARROW: Kind = (
+    "narrow windows and break",
+    Recipe {
+        windows: Windows::Long(30),
+        rest: Some([200, 260, 30]),
+        ..PLAIN
+    },
+);
 const EVEN: Recipe = Recipe {
     legs: Legs::Even(10),
     ..PLAIN
@@ -24,8 +46,8 @@ pub const ORDINARY: [Kind; 8] = [
     ("tight capacity", Recipe { capacity: 160, ..PLAIN }),
     ("windows", WINDOWS),
     ("soft windows", Recipe { penalties: 1, ..WINDOWS }),
-    ("break", Recipe { rest: BREAK, ..PLAIN }),
-    ("break and windows", Recipe { rest: BREAK, ..WINDOWS }),
+    RESTED,
+    RESTED_WINDOWS,
     ("limits", Recipe { distance: Limit::At(1_500), duration: Limit::At(2_000), ..PLAIN }),
     ("many drops", Recipe { shut: Some((Shut::Weight, 3)), ..WINDOWS }),
 ];
@@ -50,7 +72,7 @@ pub const RULES: [Kind; 14] = [
         legs: Legs::OneWay(100), distance: Limit::BelowReversals, duration: Limit::BelowReversals, ..PLAIN
     }),
     ("narrow windows", Recipe { windows: Windows::Long(30), ..PLAIN }),
-    ("narrow windows and break", Recipe { windows: Windows::Long(30), rest: Some([200, 260, 30]), ..PLAIN }),
+    RESTED_NARROW,
     ("break just missed", Recipe { rest: Some([400, 410, 30]), ..PLAIN }),
     ("half shut by windows", Recipe { shut: Some((Shut::Window, 2)), ..PLAIN }),
     ("half shut by windows, break", Recipe { shut: Some((Shut::Window, 2)), rest: BREAK, ..PLAIN }),
@@ -61,6 +83,15 @@ pub const RULES: [Kind; 14] = [
     ("duration just missed by runs", Recipe { duration: Limit::OfRuns, ..EVEN }),
     ("distance just missed by reversals", Recipe { distance: Limit::BelowReversals, ..PLAIN }),
     ("duration just missed by reversals", Recipe { duration: Limit::BelowReversals, ..PLAIN }),
+];
+
+/// Sheets with a break, which can be placed in more than one way.
+#[rustfmt::skip]
+pub const PLACED: [Kind; 4] = [
+    ("break and soft windows", Recipe { rest: BREAK, penalties: 1, ..WINDOWS }),
+    RESTED_WINDOWS,
+    RESTED,
+    RESTED_NARROW,
 ];
 
 /// Every customer asks for one seat, and a run has so many.

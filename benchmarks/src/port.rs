@@ -4,6 +4,7 @@
 extern "C" {
     fn timing_read(sheet: *const u8, length: usize, rounds: u32) -> f64;
     fn timing_split_tw(sheet: *const u8, length: usize, rounds: u32) -> f64;
+    fn timing_split_least(sheet: *const u8, length: usize, rounds: u32) -> f64;
     fn timing_split(sheet: *const u8, length: usize, rounds: u32) -> f64;
     fn timing_two_opt(sheet: *const u8, length: usize, rounds: u32) -> f64;
     fn timing_eliminate(sheet: *const u8, length: usize, run: usize, rounds: u32) -> f64;
@@ -15,10 +16,16 @@ pub fn read(sheet: &[u8], rounds: u32) -> f64 {
     unsafe { timing_read(sheet.as_ptr(), sheet.len(), rounds) }
 }
 
-/// The cost of the cut.
+/// The cost of the cut, with breaks by the clock.
 pub fn split_tw(sheet: &[u8], rounds: u32) -> f64 {
     // SAFETY: the pointer goes with its length.
     unsafe { timing_split_tw(sheet.as_ptr(), sheet.len(), rounds) }
+}
+
+/// The cost of the cut, with breaks where the least is paid for lateness.
+pub fn split_least(sheet: &[u8], rounds: u32) -> f64 {
+    // SAFETY: the pointer goes with its length.
+    unsafe { timing_split_least(sheet.as_ptr(), sheet.len(), rounds) }
 }
 
 /// The cost of the cut by loads and closed legs alone.

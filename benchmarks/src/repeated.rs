@@ -16,8 +16,8 @@ pub const PASS: &str = "--pass";
 pub fn pass() {
     for table in tables::all() {
         for subject in table.cells() {
-            let Times { original, port } = subject.time(table.work, PACE);
-            println!("{original} {port}");
+            let Times { base, port } = subject.time(table.work, PACE);
+            println!("{base} {port}");
         }
     }
 }
@@ -38,10 +38,10 @@ fn passed() -> Vec<Times> {
 }
 
 fn times(line: &str) -> Times {
-    let (original, port) = line.split_once(' ').expect("two numbers");
+    let (base, port) = line.split_once(' ').expect("two numbers");
     let number = |text: &str| text.parse().expect("a number");
     Times {
-        original: number(original),
+        base: number(base),
         port: number(port),
     }
 }

@@ -4,7 +4,7 @@ use std::fmt;
 
 /// The median times, and the ratio's least, median and greatest value.
 pub struct Spread {
-    pub original: f64,
+    pub base: f64,
     pub port: f64,
     least: f64,
     pub median: f64,
@@ -23,7 +23,7 @@ impl Spread {
         let middle = times.len() / 2;
         let ratios = sorted(times, Times::ratio);
         Spread {
-            original: sorted(times, |each| each.original)[middle],
+            base: sorted(times, |each| each.base)[middle],
             port: sorted(times, |each| each.port)[middle],
             least: ratios[0],
             median: ratios[middle],
@@ -43,11 +43,11 @@ fn micros(time: f64) -> String {
 
 impl fmt::Display for Spread {
     fn fmt(&self, f: &mut fmt::Formatter) -> fmt::Result {
-        let (original, port) = (micros(self.original), micros(self.port));
+        let (base, port) = (micros(self.base), micros(self.port));
         let (least, median, greatest) = (self.least, self.median, self.greatest);
         write!(
             f,
-            "{original} → {port}: {median:.2} [{least:.2}, {greatest:.2}]"
+            "{base} → {port}: {median:.2} [{least:.2}, {greatest:.2}]"
         )
     }
 }

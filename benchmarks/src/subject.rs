@@ -1,5 +1,5 @@
 //! Each work on one sheet. Both have to give the same first; a sheet on which they don't ends the program.
-use crate::clock::{compare, Pace, Times};
+use crate::clock::{beside, compare, Pace, Times};
 use crate::fitted;
 use crate::ga::SplitResult;
 use crate::original;
@@ -47,6 +47,7 @@ impl Subject {
                 let (theirs, cost) = (original::split_tw, original::cost);
                 self.cut((work, pace), theirs, cost, port::split_tw)
             }
+            Work::SplitLeast => self.least(pace),
             Work::Split => {
                 let (theirs, cost) = (original::split, original::plain_cost);
                 self.cut((work, pace), theirs, cost, port::split)
@@ -61,7 +62,7 @@ impl Subject {
     fn same(&self, work: Work, expected: f64, found: f64) {
         if found != expected {
             let name = &self.name;
-            eprintln!("{work} on {name}: the original gives {expected}, the port {found}");
+            eprintln!("{work} on {name}: {expected} is expected, and the port gives {found}");
             std::process::exit(1);
         }
     }
@@ -79,6 +80,17 @@ impl Subject {
         let theirs = |(): &mut ()| theirs(&self.sheet).total_distance;
         let ours = |rounds| ours(&self.bytes, rounds);
         compare(pace, u32::MAX, || (), theirs, ours)
+    }
+
+    /// Both placements of the break, by the port. By the clock it may cost more where lateness is paid, and never less.
+    fn least(&self, pace: Pace) -> Times {
+        let clock = |rounds| port::split_tw(&self.bytes, rounds);
+        let least = |rounds| port::split_least(&self.bytes, rounds);
+        let (dearest, found) = (clock(1), least(1));
+        if self.recipe.penalties == 0 || found > dearest {
+            self.same(Work::SplitLeast, dearest, found);
+        }
+        beside(pace, clock, least)
     }
 
     /// The table's notes on itself (its scale, its symmetry) are made anew in each call, as the port makes them.

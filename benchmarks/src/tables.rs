@@ -1,5 +1,5 @@
 //! The tables of the page: in a row a sheet, in a column its calls or the runs that elimination is given.
-use crate::kinds::{Kind, FALLING, FULL_RUNS, LOADS, ORDINARY, READ, RULES, SHUT};
+use crate::kinds::{Kind, FALLING, FULL_RUNS, LOADS, ORDINARY, PLACED, READ, RULES, SHUT};
 use crate::recipe::Recipe;
 use crate::spread::Spread;
 use crate::subject::Subject;
@@ -70,10 +70,11 @@ impl Table {
         self.print_rows(cells);
         let mut medians: Vec<f64> = cells.iter().map(|cell| cell.median).collect();
         medians.sort_by(f64::total_cmp);
-        let above = medians.iter().filter(|&&median| median > 1.0).count();
+        let aim = self.work.aim();
+        let above = medians.iter().filter(|&&median| median > aim).count();
         let (least, greatest) = (medians[0], medians[medians.len() - 1]);
         let count = medians.len();
-        println!("Medians from {least:.2} to {greatest:.2}; {above} of {count} above 1.\n");
+        println!("Medians from {least:.2} to {greatest:.2}; {above} of {count} above {aim}.\n");
         if self.grows {
             println!("As many times as long as the first row, by the Rust and by the port:\n");
             self.print_rows(&self.growth(cells));
@@ -84,8 +85,8 @@ impl Table {
     fn growth(&self, cells: &[Spread]) -> Vec<String> {
         let first = cells.iter().take(self.columns.len()).cycle();
         let over = |(cell, first): (&Spread, &Spread)| {
-            let (original, port) = (cell.original / first.original, cell.port / first.port);
-            format!("{original:.1}, {port:.1}")
+            let (base, port) = (cell.base / first.base, cell.port / first.port);
+            format!("{base:.1}, {port:.1}")
         };
         cells.iter().zip(first).map(over).collect()
     }
@@ -113,6 +114,7 @@ pub fn all() -> Vec<Table> {
     let (tw, reverse, growing) = (Work::SplitTw, Work::Reverse, &GROWING);
     let falling = "Elimination into a run of 61 calls, along which another costs less and less";
     let drops = "Growth of `split_tw` with drops, runs as long as the tour";
+    let least = "Cutting with the least lateness pay, beside the clock";
     vec![
         by_calls(
             "Cutting with windows, limits and break: `split_tw`",
@@ -120,6 +122,7 @@ pub fn all() -> Vec<Table> {
             &ALL,
             &BOTH,
         ),
+        by_calls(least, Work::SplitLeast, &[&PLACED], growing),
         by_calls("Cutting by loads: `split`", Work::Split, &LOADED, &BOTH),
         by_calls(
             "Reversal: `two_opt_improve`, the tour as one run",

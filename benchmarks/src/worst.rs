@@ -18,7 +18,8 @@ const LONGER: Pace = Pace {
 const PASSES: usize = 5;
 /// How many of each class are timed again.
 const KEPT: usize = 6;
-/// By the original's time in microseconds: where that is short, most of the port's is what a call does on any sheet.
+/// By the time that the port's is held against, in microseconds: where that is short, most of the port's is what a call
+/// does on any sheet.
 const CLASSES: [(&str, f64); 3] = [
     ("to 2 µs", 2.0),
     ("2 to 50 µs", 50.0),
@@ -54,7 +55,7 @@ fn search(count: u32, seed: u32) -> Kept {
         for (work, kept) in WORKS.into_iter().zip(&mut kept) {
             if work.allowed(&subject.recipe) {
                 let times = subject.time(work, BRIEF);
-                let inside = |(_, most): &(_, f64)| times.original <= *most;
+                let inside = |(_, most): &(_, f64)| times.base <= *most;
                 let class = CLASSES.iter().position(inside).expect("a class");
                 keep(&mut kept[class], (number, times.ratio()));
             }
@@ -65,7 +66,9 @@ fn search(count: u32, seed: u32) -> Kept {
 
 pub fn print(count: u32, seed: u32) {
     println!("### Worst of {count} drawn sheets, seed {seed}\n");
-    println!("| Work | Rust's time | worst | sheet | calls | runs of |\n|---|---|---|---|---|---|");
+    println!(
+        "| Work | held against | worst | sheet | calls | runs of |\n|---|---|---|---|---|---|"
+    );
     for (work, classes) in WORKS.into_iter().zip(search(count, seed)) {
         for ((class, _), kept) in CLASSES.iter().zip(classes) {
             let timed = kept.iter().map(|&(number, _)| {

@@ -1,5 +1,5 @@
-/* Calls the four functions as lizsomdur.h declares them, on one sheet with everything that a sheet may have but a table of times, and prints what they
- * answer and each byte that they write beyond that: calls.expected says what that is.
+/* Calls all functions as lizsomdur.h declares them, on bench case q and on a sheet with everything that a sheet may have but a table of times, and
+ * prints what they answer and each byte that they write beyond that: calls.expected says what that is.
  */
 #include <stdio.h>
 #include <string.h>
@@ -23,6 +23,17 @@ static const uint32_t START[] = {
     0xC0000019, 0xC0000010, 0xC0000014, 0xC0000000, 0xC0000014, 0xC0000014,
     0xC0000014, 0xC000000F, 0xC000001E, 0xC0000014, 0xC0000000, 0xC0000014,
     0xC0000006, 0xC0000009, 0xC0000003, 0xC0000014, 0xC0000014, 0xC0000000,
+};
+
+/* Bench case q: two calls and a break, and where the clock puts the break the bus is late at the first. */
+static const uint32_t CASE_Q[] = {
+    0x10000003, 0x20000004, 0x30000000, 0x60000000, 0x6000001E, 0x60000004,
+    0x70000002, 0x80000000, 0x9000000C, 0xA000000D, 0xB0000005,
+    0x70000002, 0x80000000,
+    0xC0000000, 0xC000000A, 0xC000000C,
+    0xC000000A, 0xC0000000, 0xC0000005,
+    0xC000000C, 0xC0000005, 0xC0000000,
+    0xE0000001, 0xE0000002, 0xF0000018,
 };
 
 /* The most calls that are used here, and the index of the word for the leg over the ford. */
@@ -79,15 +90,26 @@ static void print_doubles(const char *name, const double *list, size_t count) {
     printf("\n");
 }
 
-static void plan(void) {
+typedef uint32_t plan_function(const uint8_t *, size_t, uint8_t *, size_t, uint8_t *, size_t, uint8_t *, size_t, double *, size_t, uint8_t *, size_t,
+                               size_t[3], double[2], size_t *);
+typedef uint32_t mark_function(const uint8_t *, size_t, const uint8_t *, size_t, const uint8_t *, size_t, const uint8_t *, size_t,
+                               size_t *, uint32_t *, double[5]);
+
+/* The two functions for each way to place a break, and what is printed before their answers. */
+static const struct placement { const char *name; plan_function *plan; mark_function *mark; } PLACEMENTS[] = {
+    {"", lizsomdur_plan, lizsomdur_mark},
+    {" least", lizsomdur_plan_least, lizsomdur_mark_least},
+};
+
+static void plan_by(const struct placement *placement) {
     enum { TOUR = LIZSOMDUR_TOUR, ALL = TOUR + BEHIND };
     uint8_t served[ALL], ends[ALL], places[ALL], dropped[ALL], *lists[] = {served, ends, places, dropped};
     size_t counts[3] = {0, 0, 0}, word = 99;
     double starts[TOUR], totals[2];
     for (size_t k = 0; k < LENGTH(lists); k++)
         memset(lists[k], OLD, ALL);
-    uint32_t number = lizsomdur_plan(sheet, sheet_length, served, TOUR, ends, TOUR, places, TOUR, starts, TOUR, dropped, TOUR, counts, totals, &word);
-    printf("plan: %u word %zu\n", (unsigned)number, word);
+    uint32_t number = placement->plan(sheet, sheet_length, served, TOUR, ends, TOUR, places, TOUR, starts, TOUR, dropped, TOUR, counts, totals, &word);
+    printf("plan%s: %u word %zu\n", placement->name, (unsigned)number, word);
     if (number == 0) {
         print_list("  served", served, counts[0]);
         print_list("  ends", ends, counts[1]);
@@ -100,6 +122,11 @@ static void plan(void) {
     look_behind("ends", ends, counts[1], ALL);
     look_behind("break places", places, counts[1], ALL);
     look_behind("dropped", dropped, counts[2], ALL);
+}
+
+static void plan(void) {
+    for (size_t k = 0; k < LENGTH(PLACEMENTS); k++)
+        plan_by(&PLACEMENTS[k]);
 }
 
 /* What the header calls a verdict, and how many values it says that one has. */
@@ -145,17 +172,19 @@ static const struct cutting CUTTINGS[] = {
     {{1, 5}, 2, 0, {1, 2}, {0, 1}, 2, CLOSED},
 };
 
-/* The mark of some runs on the sheet as it stands. */
+/* Both marks of some runs on the sheet as it stands. */
 static void mark_runs(const uint8_t *calls, size_t count, const uint8_t *ends, const uint8_t *places, size_t runs) {
-    size_t word = 99;
-    uint32_t verdict = 0;
-    double values[5];
-    uint32_t number = lizsomdur_mark(sheet, sheet_length, calls, count, ends, runs, places, runs, &word, &verdict, values);
-    printf("mark: %u word %zu ", (unsigned)number, word);
-    if (number == 0)
-        print_verdict(verdict, values);
-    else
-        printf("refused\n");
+    for (size_t k = 0; k < LENGTH(PLACEMENTS); k++) {
+        size_t word = 99;
+        uint32_t verdict = 0;
+        double values[5];
+        uint32_t number = PLACEMENTS[k].mark(sheet, sheet_length, calls, count, ends, runs, places, runs, &word, &verdict, values);
+        printf("mark%s: %u word %zu ", PLACEMENTS[k].name, (unsigned)number, word);
+        if (number == 0)
+            print_verdict(verdict, values);
+        else
+            printf("refused\n");
+    }
 }
 
 static void mark(const struct cutting *cutting) {
@@ -235,6 +264,17 @@ static void longest(void) {
     }
 }
 
+/* The plans of case q, and the marks of its run with the break where each of them has it. */
+static void case_q(void) {
+    const uint8_t calls[] = {1, 2}, end = 2;
+    sheet_length = 0;
+    for (size_t k = 0; k < LENGTH(CASE_Q); k++)
+        write_word(CASE_Q[k]);
+    plan();
+    for (uint8_t place = 1; place <= 2; place++)
+        mark_runs(calls, LENGTH(calls), &end, &place, 1);
+}
+
 /* That the header says its version twice alike. */
 static void version(void) {
     char numbers[32];
@@ -245,6 +285,7 @@ static void version(void) {
 int main(void) {
     const uint8_t calls[] = {1, 5, 3, 4, 2};
     version();
+    case_q();
     write_sheet(calls, LENGTH(calls), WINDOWS);
     plan();
     improve();

@@ -117,6 +117,26 @@ impl Features {
             self.sheet(&words);
         }
     }
+
+    /// An accepted sheet, its listing with the least lateness pay and by the clock, and the mark of a cutting beside the first.
+    pub fn least(&mut self, words: &[u32], least: &str, clock: &str, mark: &str) {
+        self.questions += 1;
+        self.sheet(words);
+        self.count("with drops", least.contains("drop "));
+        self.count("with a break taken", least.contains(" rest "));
+        self.count("planned otherwise by the clock", least != clock);
+        let cost = |text: &str| {
+            text.split(' ')
+                .skip_while(|&w| w != "cost")
+                .nth(1)
+                .map(str::to_string)
+        };
+        self.count("dearer by the clock", cost(least) != cost(clock));
+        for (start, name) in MARKS {
+            let said: Vec<&str> = mark.split_whitespace().take(2).collect();
+            self.count(name, said.join(" ") == start);
+        }
+    }
 }
 
 /// The sheet with a leg of this length in place of every closed one.

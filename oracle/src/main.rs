@@ -9,12 +9,14 @@ mod faults;
 mod features;
 mod ga;
 mod judges;
+mod least;
 mod listing;
 mod load;
 mod local_search;
 mod marker;
 mod marks;
 mod models;
+mod placing;
 mod plan;
 mod questions;
 mod random;
@@ -34,7 +36,7 @@ mod wrong;
 use std::io::Read;
 use std::process::exit;
 
-const USAGE: &str = "usage: oracle [--seed S] [--wrong] list | random N | record N FILE.. | runs N | marks N | compare PROGRAM N FILE..";
+const USAGE: &str = "usage: oracle [--seed S] [--wrong] list | random N | record N FILE.. | runs N | marks N | least N | compare PROGRAM N FILE..";
 
 fn main() {
     let args: Vec<String> = std::env::args().skip(1).collect();
@@ -52,6 +54,7 @@ fn main() {
         ["record", n, ..] => record::write(&mut out, seed, number(n), &args[2..]),
         ["runs", n] => runs::write(&mut out, seed, number(n)),
         ["marks", n] => marks::write(&mut out, seed, number(n)),
+        ["least", n] => least::write(&mut out, seed, number(n)),
         ["compare", program, n, ..] => {
             let alike = compare::all(program, seed, number(n), &args[3..]);
             exit(i32::from(!alike))

@@ -77,8 +77,8 @@ fn verdict(sheet: &Sheet, served: &[usize], cost: u64, cutting: &Cutting) -> Ver
     }
     let mut sum = 0;
     for (number, (start, end, place)) in (1..).zip(spans(cutting)) {
-        match run_cost(sheet, &cutting.calls[start..end], place) {
-            Ok(cost) => sum += cost,
+        match ride(sheet, &cutting.calls[start..end], place) {
+            Ok(ride) => sum += ride.cost(sheet),
             Err(fault) => return behind(&[number], fault),
         }
     }
@@ -95,8 +95,22 @@ fn first_difference(one: &[usize], other: &[usize]) -> u64 {
     alike as u64 + 1
 }
 
-/// What the run costs, or its first fault. A closed leg is the only fault of its run.
-fn run_cost(sheet: &Sheet, calls: &[usize], place: usize) -> Result<u64, Verdict> {
+/// What a legal run comes to: its distance, what is paid for being late, when it is home, and when its break starts.
+pub struct Ride {
+    pub distance: u64,
+    pub pay: u64,
+    pub home: u64,
+    pub start: Option<u64>,
+}
+
+impl Ride {
+    pub fn cost(&self, sheet: &Sheet) -> u64 {
+        whole(sheet.fixed) + self.distance + self.pay
+    }
+}
+
+/// The run with its break at this place, or its first fault. A closed leg is the only fault of its run.
+pub fn ride(sheet: &Sheet, calls: &[usize], place: usize) -> Result<Ride, Verdict> {
     if let Some(leg) = sheet.closed_leg(calls) {
         return Err((ROAD_CLOSED, vec![leg as u64]));
     }
@@ -108,13 +122,15 @@ fn run_cost(sheet: &Sheet, calls: &[usize], place: usize) -> Result<u64, Verdict
         second.sum(),
         sheet.second_capacity as u64,
     )?;
-    let (mut at, mut time, mut distance, mut pay) = (0, 0, 0, 0);
+    let (mut at, mut time, mut distance, mut pay, mut start) = (0, 0, 0, 0, None);
     for (number, &customer) in (1..).zip(calls) {
         distance += whole(sheet.distances.get(at, customer));
         let arrival = time + whole(sheet.distances.travel_time(at, customer));
-        let (done, paid) = serve(sheet, customer, arrival, number == place)
-            .map_err(|fault| behind(&[number as u64, customer as u64], fault))?;
-        (at, time, pay) = (customer, done, pay + paid);
+        let served = rested(sheet, arrival, number == place)
+            .and_then(|(rest, readiness)| Ok((rest, serve(sheet, customer, readiness)?)));
+        let (rest, (done, paid)) =
+            served.map_err(|fault| behind(&[number as u64, customer as u64], fault))?;
+        (at, time, pay, start) = (customer, done, pay + paid, start.or(rest));
     }
     distance += whole(sheet.distances.get(at, 0));
     let home = time + whole(sheet.distances.travel_time(at, 0));
@@ -129,24 +145,28 @@ fn run_cost(sheet: &Sheet, calls: &[usize], place: usize) -> Result<u64, Verdict
     if let Some(limit) = sheet.limits.max_duration {
         within(TOO_LONG, home, whole(limit))?;
     }
-    Ok(whole(sheet.fixed) + distance + pay)
+    Ok(Ride {
+        distance,
+        pay,
+        home,
+        start,
+    })
+}
+
+/// When a break that is due here starts, and when the bus is ready for the customer.
+fn rested(sheet: &Sheet, arrival: u64, due: bool) -> Result<(Option<u64>, u64), Verdict> {
+    if !due {
+        return Ok((None, arrival));
+    }
+    let rest = sheet.limits.rest.expect("a break on the sheet");
+    let start = arrival.max(whole(rest.earliest()));
+    within(BREAK_TOO_LATE, start, whole(rest.latest()))?;
+    Ok((Some(start), start + whole(rest.duration())))
 }
 
 /// When the customer is done with, and what is paid for being late.
-fn serve(
-    sheet: &Sheet,
-    customer: usize,
-    arrival: u64,
-    break_here: bool,
-) -> Result<(u64, u64), Verdict> {
-    let (mut readiness, mut paid) = (arrival, 0);
-    if break_here {
-        let rest = sheet.limits.rest.expect("a break on the sheet");
-        let start = arrival.max(whole(rest.earliest()));
-        within(BREAK_TOO_LATE, start, whole(rest.latest()))?;
-        readiness = start + whole(rest.duration());
-    }
-    let mut time = readiness;
+fn serve(sheet: &Sheet, customer: usize, readiness: u64) -> Result<(u64, u64), Verdict> {
+    let (mut time, mut paid) = (readiness, 0);
     let customer = &sheet.customers[customer];
     if let Some(window) = customer.time_window() {
         let due = whole(window.due());

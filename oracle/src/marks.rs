@@ -103,7 +103,12 @@ fn answer(file: &[u8], cutting: &Cutting) -> String {
         Ok(words) => words,
         Err((number, word)) => return format!("refused {number} at {word}\n"),
     };
-    match marked(&words, cutting) {
+    answered(marked(&words, cutting))
+}
+
+/// A mark as the answer of a record.
+pub fn answered(said: Result<Verdict, u32>) -> String {
+    match said {
         Ok((number, values)) => {
             let numbers = [&[number.into()], &values[..]].concat();
             format!("verdict {}", line(&numbers))
@@ -112,8 +117,8 @@ fn answer(file: &[u8], cutting: &Cutting) -> String {
     }
 }
 
-/// The library takes the numbers of these lists in bytes.
-fn lines(cutting: &Cutting) -> String {
+/// The lists of a cutting, a line each. The library takes their numbers in bytes.
+pub fn lines(cutting: &Cutting) -> String {
     let lists = [&cutting.calls, &cutting.ends, &cutting.places];
     assert!(lists.iter().all(|list| list.iter().all(|&n| n < 256)));
     lists.map(|list| line(list)).concat()

@@ -34,7 +34,7 @@ fn loosened(source: &mut Source) -> Vec<u32> {
 }
 
 /// A medium sheet on which a break can make a bus late, as in bench case q: windows are narrow, most have a penalty, runs are dear, and nothing but windows and break stands in their way.
-fn narrow(source: &mut Source) -> Vec<u32> {
+pub fn narrow(source: &mut Source) -> Vec<u32> {
     let mut words = random::ruled(source);
     words.pop();
     let timed = source.one_in(2);

@@ -14,6 +14,7 @@ use Rattle.models.specs.Load.{spaceOf}
 use Rattle.models.specs.Records.{customerOf}
 use Rattle.evaluation.specs.Records as Evaluation
 use Rattle.evaluation.specs.Records.{limitsOf}
+use Rattle.models.specs.declared.placement.Placement.the-variants.{Clock}
 use Rattle.cut_rows.specs.Runs.{Instance, lent}
 use Rattle.improve_base.specs.declared.search.Search.{Search}
 use Rattle.improve_base.specs.Search.{SearchF, searchOf, searchF}
@@ -30,7 +31,7 @@ ends-room run tour given few e = omega (arith, ap length e, ends-few run (length
 module _ (head : Head) (customers : List Customer) (distances times : List Float) (search : Search)
     (told : searchOf search ≡ searchF (map customerOf customers) (head .places) (limitsOf (head .limits))) where
   abbrev held : Instance
-  held = lent customers distances times (head .places) (head .capacity) (head .«fixed_cost») (head .limits)
+  held = lent customers distances times (head .places) (head .capacity) (head .«fixed_cost») (head .limits) Clock
 
   abbrev given : GivenF
   given = lentGiven customers distances times (head .places) (head .capacity) (head .«fixed_cost») search

@@ -13,6 +13,7 @@ use Rattle.definitions.specs.Sheet.{Sheet, CustomerOf}
 use Rattle.definitions.specs.Reader.{sheet, refusedAt, read}
 use Rattle.bounds.proofs.Inside.{few-tour}
 use Rattle.evaluation.specs.Records.{LimitsF}
+use Rattle.models.specs.declared.placement.Placement.the-variants.{Clock}
 use Rattle.cut_rows.specs.Runs.{Instance}
 use Rattle.cut_exact.proofs.Exact.{below-64}
 use Rattle.sheet_loaded.specs.declared.load.Loaded.{Loaded}
@@ -23,8 +24,8 @@ use Rattle.bench_timing.specs.declared.work.Work.{Work}
 use Rattle.bench_timing.specs.Work.{Callable, instanceIn, givesF, lastOf, onSheet, instanceOf, timed}
 
 same-instance : {c c' : List (CustomerOf Float)} {d d' t t' : List Float} {n n' : ℕ} {k k' : Load} {f f' : Float} {l l' : LimitsF} → c ≡ c' → d ≡ d' → t ≡ t' → n ≡ n' → k ≡ k' → f ≡ f' → l ≡ l'
-    → _≡_ {A = Instance} (record { tables = record { customers = c; distances = d; times = t; size = n }; capacity = k; fixed = f; limits = l })
-    (record { tables = record { customers = c'; distances = d'; times = t'; size = n' }; capacity = k'; fixed = f'; limits = l' })
+    → _≡_ {A = Instance} (record { tables = record { customers = c; distances = d; times = t; size = n }; capacity = k; fixed = f; limits = l; placement = Clock })
+    (record { tables = record { customers = c'; distances = d'; times = t'; size = n' }; capacity = k'; fixed = f'; limits = l'; placement = Clock })
 same-instance a b e g h i j = rw (a, b, e, g, h, i, j) refl
 
 module _ {s : Sheet} {calls : List ℕ} {l : Loaded} {old new : Arrays} (H : Holds s calls l old new) where

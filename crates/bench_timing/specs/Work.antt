@@ -14,6 +14,8 @@ use Rattle.models.specs.Image.{flCustomer}
 use Rattle.evaluation.specs.Image.{flLimits}
 use Rattle.sheet_read.specs.Parts.{depots}
 use Rattle.cut_stops.specs.Stops.{Below64}
+use Rattle.models.specs.declared.placement.Placement.{Placement}
+use Rattle.models.specs.declared.placement.Placement.the-variants.{Clock}
 use Rattle.cut_rows.specs.Runs.{Instance, lent}
 use Rattle.split_tw.specs.SplitTw.{splitTwF}
 use Rattle.split.specs.Bare.{bareOf}
@@ -36,12 +38,16 @@ pub record Callable (tour : List ℕ) : Type 0 where
 abbrev pub instanceIn : Loaded → List Float → List Float → Instance
 instanceIn held distances times =
     let head = held .head in
-    lent (held .customers) distances times (head .places) (head .capacity) (head .«fixed_cost») (head .limits)
+    lent (held .customers) distances times (head .places) (head .capacity) (head .«fixed_cost») (head .limits) Clock
 
 -- ---- one round
 
-unfoldable pub splitTwCost : Instance → List ℕ → Float
-splitTwCost I tour = splitTwF I tour .cost
+-- with breaks where this placement puts them
+abbrev pub placedBy : Placement → Instance → Instance
+placedBy p I = record { tables = I .tables; capacity = I .capacity; fixed = I .fixed; limits = I .limits; placement = p }
+
+unfoldable pub splitTwCost : Placement → Instance → List ℕ → Float
+splitTwCost p I tour = splitTwF (placedBy p I) tour .cost
 
 unfoldable pub splitCost : Instance → List ℕ → Float
 splitCost I tour = splitTwF (bareOf I) tour .cost
@@ -61,14 +67,14 @@ unfoldable pub runsLeft : ℕ → Instance → List ℕ → Float
 runsLeft run I tour = fl (length (eliminatedF (givenOf I) (runsOf tour (everyEnds run (length tour)))))
 
 abbrev pub workF : Work → Instance → List ℕ → Float
-workF SplitTw I tour = splitTwCost I tour
+workF (SplitTw p) I tour = splitTwCost p I tour
 workF Split I tour = splitCost I tour
 workF TwoOpt I tour = reversedDistance I tour
 workF (Eliminate run) I tour = runsLeft run I tour
 
 -- the improvers don't take a closed leg
 abbrev pub barred : Work → (distances times : List Float) → Bool
-barred SplitTw distances times = false
+barred (SplitTw p) distances times = false
 barred Split distances times = false
 barred TwoOpt distances times = shut distances times
 barred (Eliminate run) distances times = shut distances times
@@ -103,6 +109,7 @@ instanceOf s =
       capacity = s .head .capacity;
       fixed = fl (s .head .fixed);
       limits = flLimits s;
+      placement = Clock;
     }
 
 abbrev pub timed : Work → ℕ → Reading → Float

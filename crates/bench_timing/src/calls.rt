@@ -2,17 +2,27 @@
 // where a leg is closed.
 ghost use mathlib.Core.Path.{_≡_};
 ghost use Rattle.definitions.specs.Reader as Reader;
+ghost use Rattle.models.specs.declared.placement.Placement.the-variants.{Clock, Least};
 ghost use Rattle.bench_timing.specs.declared.work.Work.the-variants as Works;
 ghost use Rattle.bench_timing.specs.Work.{timed};
 use crate::work::Work;
 use crate::work::on_bytes;
+use models::placement::Placement;
 
 // The cost of the cut by capacity, windows, limits and break.
 #[no_mangle]
 pub extern "C" fn timing_split_tw(sheet: &[u8], rounds: u32) -> f64
-    ensures { λ r. ⌜ r ≡ timed Works.SplitTw rounds (Reader.read (now (sheet .entry))) ⌝ }
+    ensures { λ r. ⌜ r ≡ timed (Works.SplitTw Clock) rounds (Reader.read (now (sheet .entry))) ⌝ }
 {
-    on_bytes(sheet, Work::SplitTw, rounds)
+    on_bytes(sheet, Work::SplitTw(Placement::Clock), rounds)
+}
+
+// The same with breaks where the least is paid for lateness.
+#[no_mangle]
+pub extern "C" fn timing_split_least(sheet: &[u8], rounds: u32) -> f64
+    ensures { λ r. ⌜ r ≡ timed (Works.SplitTw Least) rounds (Reader.read (now (sheet .entry))) ⌝ }
+{
+    on_bytes(sheet, Work::SplitTw(Placement::Least), rounds)
 }
 
 // The cost of the cut by loads and closed legs alone.

@@ -8,6 +8,7 @@ ghost use Rattle.bench_timing.specs.Work.{Callable, instanceIn, splitTwC
 use crate::every::write_every;
 use cut_table::cells::MOST_CUT;
 use improve_base::search::search_of;
+use models::placement::Placement;
 use refuse_numbers::closures::any_closed;
 use route_elimination::route_elimination::eliminate_routes;
 use sheet_loaded::load::Loaded;
@@ -20,7 +21,8 @@ use split_tw::split_tw::split_tw;
 use two_opt::two_opt::two_opt_improve;
 
 pub enum Work {
-    SplitTw,
+    // With breaks where this placement puts them.
+    SplitTw(Placement),
     Split,
     // The tour as one run.
     TwoOpt,
@@ -30,6 +32,7 @@ pub enum Work {
 
 // The cost of the cut by capacity, windows, limits and break.
 fn split_tw_cost(
+    placement: Placement,
     tour: &[usize],
     held: Loaded,
     distances: &[f64],
@@ -41,7 +44,7 @@ fn split_tw_cost(
     requires { ⌜ Callable (now tour) ⌝ }
     ensures { λ r.
         let sheet = instanceIn held (now (distances .entry)) (now (times .entry)) in
-        ⌜ r ≡ splitTwCost sheet (now (tour .entry)) ⌝ }
+        ⌜ r ≡ splitTwCost placement sheet (now (tour .entry)) ⌝ }
 {
     let head = held.head;
     let customers = held.customers;
@@ -54,6 +57,7 @@ fn split_tw_cost(
         head.capacity,
         head.fixed_cost,
         head.limits,
+        placement,
         &mut *served,
         &mut *ends,
         &mut *dropped,
@@ -176,7 +180,8 @@ fn once(
         ⌜ r ≡ workF work sheet (now (tour .entry)) ⌝ }
 {
     match work {
-        Work::SplitTw => split_tw_cost(
+        Work::SplitTw(placement) => split_tw_cost(
+            placement,
             tour,
             held,
             distances,
@@ -255,7 +260,7 @@ fn is_barred(work: Work, distances: &[f64], times: &[f64]) -> bool
     ensures { λ r. ⌜ r ≡ barred work (now (distances .entry)) (now (times .entry)) ⌝ }
 {
     match work {
-        Work::SplitTw => false,
+        Work::SplitTw(_) => false,
         Work::Split => false,
         Work::TwoOpt => is_shut(distances, times),
         Work::Eliminate(_) => is_shut(distances, times),

@@ -14,18 +14,21 @@ use Rattle.basics.proofs.ListLaws.{length-count}
 use Rattle.definitions.specs.Domain.{mostCalls, mostNumber}
 use Rattle.definitions.specs.Sheet.{Sheet}
 use Rattle.definitions.specs.Run.{Run, distanceFrom, lengthOf, Totals, ride, fits, price, payOf, runCost}
-use Rattle.definitions.specs.Clock.{clock, Arc, arc}
+use Rattle.definitions.specs.Clock.{Arc, arc}
+use Rattle.definitions.specs.Placement.{Placement, byClock, arcBy}
 use Rattle.definitions.specs.Cutting.{joined, cuttingCost, Best, nothing, cheapest}
-use Rattle.definitions.specs.Drop.{callAt, callsAt, drops, planBy, plainArc}
+use Rattle.definitions.specs.Drop.{callAt, callsAt, drops, planBy, splitBy, plainArc}
 use Rattle.definitions.specs.Promise.{Parts, ended, kept, gone}
 use Rattle.definitions.specs.Improver.{Given, distanceOf}
-use Rattle.theorems.proofs.Legality.{arc-clock}
+use Rattle.theorems.proofs.Pricing.{no-empty}
+use Rattle.theorems.proofs.Placing.{arc-has, pricing}
 use Rattle.theorems.proofs.Least.{Reach, more, Made, best-reach, best-of}
 use Rattle.theorems.proofs.Dropping.{drops-parts}
+use Rattle.theorems.proofs.Promised.{split-plan}
 use Rattle.bounds.specs.Sized.{Small, Sized}
 use Rattle.whole.specs.Whole.{limit}
 use Rattle.bounds.specs.Bounds.{mostPay}
-use Rattle.bounds.proofs.BoundLaws.{legs-most, distance-most, length-most, ride-most, clock-most}
+use Rattle.bounds.proofs.BoundLaws.{legs-most, distance-most, length-most, ride-most}
 use Rattle.bounds.specs.CostBounds.{mostCost, mostFar, Called, Priced}
 
 pub cost-fits : (j cost : ℕ) → j ≤ mostCalls → cost ≤ j * mostCost → cost ≤ limit
@@ -50,17 +53,19 @@ module _ (s : Sheet) (S : Sized s) where
       → cost + s .head .fixed + distance + pay ≤ limit
   price-room i n cost distance pay h k c d p = omega (arith, S .fixed-small)
 
-  pub arc-priced : Priced (arc s)
-  unfolding arc
-  arc-priced = record { no-run = unbound (clock s []) _ (λ t. refl); run-most = most }
+  -- by either placement of the break
+  pub arcs-priced : (p : Placement) → Priced (arcBy p s)
+  arcs-priced p = record { no-run = no-empty s (arcBy p s) (pricing s p); run-most = most }
     where
-      most : (calls : List ℕ) (a : Arc) → length calls ≤ mostCalls → arc s calls ≡ some a → a .cost ≤ length calls * mostCost
+      most : (calls : List ℕ) (a : Arc) → length calls ≤ mostCalls → arcBy p s calls ≡ some a → a .cost ≤ length calls * mostCost
       most calls a few e =
-          let y = arc-clock s calls a e in
-          let t = y .0 in
-          let T = clock-most s S calls few t (y .1) in
-          subst (λ (x : Arc). x .cost ≤ length calls * mostCost) (y .3)
-          (price-most (length calls) (t .distance) (t .pay) (some-length calls (y .2 .some-calls)) (T .distance-most) (T .pay-most))
+          let (t, _, L, is) = arc-has s p calls a e in
+          let T = ride-most s S (record { calls = calls; place = t .place }) few t (L .rode) in
+          subst (λ (x : Arc). x .cost ≤ length calls * mostCost) is
+          (price-most (length calls) (t .distance) (t .pay) (some-length calls (L .some-calls)) (T .distance-most) (T .pay-most))
+
+  pub arc-priced : Priced (arc s)
+  arc-priced = arcs-priced byClock
 
   -- `split` pays for no lateness
   pub plain-priced : Priced (plainArc s)
@@ -169,6 +174,10 @@ module _ (arc : List ℕ → Option Arc) (P : Priced arc) (tour : List ℕ) (few
         cost-fits (length held) (b .cost) held-few (best-most arc P held held-few b e),
         far-fits (length held) (sum (λ r. lengthOf s (r .calls)) (b .runs)) held-few (best-distance-most arc P s S held held-few b e),
       )
+
+-- for either placement of the breaks
+pub split-by-fits : (p : Placement) (s : Sheet) → Sized s → (tour : List ℕ) → length tour ≤ mostCalls → splitBy p s tour .cost ≤ limit
+split-by-fits p s S tour few = rw (split-plan p s tour) (plan-fits (arcBy p s) (arcs-priced s S p) tour few s S .0)
 
 -- ---- the improvers
 

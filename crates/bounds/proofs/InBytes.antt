@@ -17,7 +17,8 @@ use Rattle.definitions.specs.Sheet.{Sheet}
 use Rattle.definitions.specs.Run.{Run, legal}
 use Rattle.definitions.specs.RunList.{runsOf, callsOf, endsFrom, endsOf}
 use Rattle.definitions.specs.Cutting.{callsIn, joined, legalCutting}
-use Rattle.definitions.specs.Drop.{callAt, Result, split, splitTw}
+use Rattle.definitions.specs.Placement.{Placement, byClock}
+use Rattle.definitions.specs.Drop.{callAt, Result, split, splitBy}
 use Rattle.definitions.specs.Promise.{Parts, ended, kept, gone}
 use Rattle.definitions.specs.Clauses.{bare}
 use Rattle.definitions.specs.Improver.{givenOf}
@@ -34,7 +35,7 @@ use Rattle.theorems.proofs.EliminationLaws.{eliminated-eliminates}
 use Rattle.theorems.proofs.GivenRuns.{rises}
 use Rattle.theorems.proofs.Legality.{legal-has}
 use Rattle.theorems.proofs.OwnMark.{placed-in, few-runs}
-use Rattle.theorems.proofs.Promised.{promised}
+use Rattle.theorems.proofs.Promised.{PromiseBy, promised-by}
 use Rattle.theorems.proofs.RunListLaws.{RiseTo, calls-back, sum-calls, ends-many}
 use Rattle.theorems.proofs.TwoOptLaws.{improved-same}
 use Rattle.bounds.specs.Sized.{Place}
@@ -120,32 +121,32 @@ everywhere : (Q : ℕ → Type 0) → ((n : ℕ) → Q n) → (l : List ℕ) →
 everywhere Q h [] = tt
 everywhere Q h (x ∷ l) = (h x, everywhere Q h l)
 
-module _ (tour : List ℕ) (calls : InBytes tour) (few : length tour ≤ mostCalls) where
-  module _ (s : Sheet) where
-    served-few : length (joined (promised s tour .runs)) ≤ mostCalls
-    served-few =
-        let P = promised s tour in
-        omega (arith, few, ap length (P .cuts), ap length (P .served-are), length-map (P .held) (callAt tour), parts-few (P .parted), length-count 1 (length tour))
+-- for either placement of the breaks
+module _ (placement : Placement) (tour : List ℕ) (calls : InBytes tour) (few : length tour ≤ mostCalls) (s : Sheet) where
+  abbrev P : PromiseBy placement s tour (splitBy placement s tour)
+  P = promised-by s tour placement
 
-    pub split-tw-in-bytes : CutInBytes (splitTw s tour)
-    split-tw-in-bytes =
-        let P = promised s tour in
-        record {
-          served =
-              subst InBytes (P .served-are) (all-map (λ (n : ℕ). n ≤ mostCalls) (callAt tour) (P .held)
-              (everywhere (λ (p : ℕ). callAt tour p ≤ mostCalls) (λ p. all-getD (λ (n : ℕ). n ≤ mostCalls) tour (p - 1) 0 calls (omega arith)) (P .held)));
-          ends = subst InBytes (P .ends-are) (ends-in-bytes (callsIn (P .runs)) served-few);
-          dropped =
-              all-imp (λ (p : ℕ). p < 1 + length tour) (λ (p : ℕ). p ≤ mostCalls) (λ p h. omega (arith, h, few)) (splitTw s tour .dropped)
-              (dropped-all (λ (p : ℕ). p < 1 + length tour) (P .parted) (count-most 1 (length tour)));
-          places =
-              subst InBytes (P .places-are)
-              (all-imp (λ (p : ℕ). p ≤ length (joined (P .runs))) (λ (p : ℕ). p ≤ mostCalls) (λ p h. omega (arith, h, served-few)) (map (λ r. r .place) (P .runs))
-              (places-most s (P .runs) (P .all-legal)));
-        }
+  served-few : length (joined (P .runs)) ≤ mostCalls
+  served-few = omega (arith, few, ap length (P .cuts), ap length (P .served-are), length-map (P .held) (callAt tour), parts-few (P .parted), length-count 1 (length tour))
 
-  pub split-in-bytes : (s : Sheet) → CutInBytes (split s tour)
-  split-in-bytes s = subst CutInBytes (split-by-clock s tour) (split-tw-in-bytes (bare s))
+  pub split-by-in-bytes : CutInBytes (splitBy placement s tour)
+  split-by-in-bytes =
+      record {
+        served =
+            subst InBytes (P .served-are) (all-map (λ (n : ℕ). n ≤ mostCalls) (callAt tour) (P .held)
+            (everywhere (λ (p : ℕ). callAt tour p ≤ mostCalls) (λ p. all-getD (λ (n : ℕ). n ≤ mostCalls) tour (p - 1) 0 calls (omega arith)) (P .held)));
+        ends = subst InBytes (P .ends-are) (ends-in-bytes (callsIn (P .runs)) served-few);
+        dropped =
+            all-imp (λ (p : ℕ). p < 1 + length tour) (λ (p : ℕ). p ≤ mostCalls) (λ p h. omega (arith, h, few)) (splitBy placement s tour .dropped)
+            (dropped-all (λ (p : ℕ). p < 1 + length tour) (P .parted) (count-most 1 (length tour)));
+        places =
+            subst InBytes (P .places-are)
+            (all-imp (λ (p : ℕ). p ≤ length (joined (P .runs))) (λ (p : ℕ). p ≤ mostCalls) (λ p h. omega (arith, h, served-few)) (map (λ r. r .place) (P .runs))
+            (places-most s (P .runs) (P .all-legal)));
+      }
+
+pub split-in-bytes : (tour : List ℕ) → InBytes tour → length tour ≤ mostCalls → (s : Sheet) → CutInBytes (split s tour)
+split-in-bytes tour calls few s = subst CutInBytes (split-by-clock s tour) (split-by-in-bytes byClock tour calls few (bare s))
 
 -- no list of a cut is longer than the tour
 pub record CutFew (n : ℕ) (x : Result) : Type 0 where
@@ -159,10 +160,11 @@ parts-gone (kept x p) = let h = parts-gone p in omega arith
 parts-gone (gone x p) = let h = parts-gone p in omega arith
 
 module _ (tour : List ℕ) where
-  pub split-tw-few : (s : Sheet) → CutFew (length tour) (splitTw s tour)
-  split-tw-few s =
-      let P = promised s tour in
-      let served : length (splitTw s tour .served) ≤ length tour = omega (arith, parts-few (P .parted), length-count 1 (length tour), ap length (P .served-are), length-map (P .held) (callAt tour)) in
+  pub split-by-few : (p : Placement) (s : Sheet) → CutFew (length tour) (splitBy p s tour)
+  split-by-few p s =
+      let P = promised-by s tour p in
+      let served : length (splitBy p s tour .served) ≤ length tour =
+      omega (arith, parts-few (P .parted), length-count 1 (length tour), ap length (P .served-are), length-map (P .held) (callAt tour)) in
       record {
         served = served;
         ends =
@@ -179,7 +181,7 @@ module _ (tour : List ℕ) where
       }
 
   pub split-few : (s : Sheet) → CutFew (length tour) (split s tour)
-  split-few s = subst (CutFew (length tour)) (split-by-clock s tour) (split-tw-few (bare s))
+  split-few s = subst (CutFew (length tour)) (split-by-clock s tour) (split-by-few byClock (bare s))
 
 -- ---- what the improvers write
 

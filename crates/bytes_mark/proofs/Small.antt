@@ -20,11 +20,12 @@ use Rattle.definitions.specs.Limits.{within}
 use Rattle.definitions.specs.Run.{ready, Label, start, serve, Run, breakAt, firstClosed, Totals, ride, load, fits, placed}
 use Rattle.definitions.specs.RunList.{runsFrom, runsOf, callsOf}
 use Rattle.definitions.specs.Cutting.{joined, cuttingCost}
-use Rattle.definitions.specs.Drop.{Result, splitTw}
+use Rattle.definitions.specs.Placement.{Placement}
+use Rattle.definitions.specs.Drop.{Result, splitBy}
 use Rattle.definitions.specs.Lent.{Lent, wholeSheet, marking}
 use Rattle.definitions.specs.Refusals.{refusalOf}
-use Rattle.definitions.specs.Answers.{gives, unlessRefused, answer, markOf}
-use Rattle.definitions.specs.Marker.{Verdict, overloadOf, breakMissing, tooFar, tooLong, roadClosed, withPlaces, breakOr, differ, arrivalFault, callFault, walkFault, totalFault, runFault, firstFault, against, markAgainst, mark}
+use Rattle.definitions.specs.Answers.{gives, unlessRefused, answer, markByOf}
+use Rattle.definitions.specs.Marker.{Verdict, overloadOf, breakMissing, tooFar, tooLong, roadClosed, withPlaces, breakOr, differ, arrivalFault, callFault, walkFault, totalFault, runFault, firstFault, against, markAgainst, markBy}
 use Rattle.theorems.proofs.Roads.{by-leg, closed-is}
 use Rattle.theorems.proofs.RunListLaws.{calls-back}
 use Rattle.theorems.proofs.Accepted.{Accepted, accepted-within}
@@ -162,7 +163,7 @@ with-many [] breaks = refl
 with-many (r ∷ rs) [] = ap suc (with-many rs [])
 with-many (r ∷ rs) (b ∷ breaks) = ap suc (with-many rs breaks)
 
-module _ (l : Lent ℕ) (h : refusalOf some marking l ≡ none) where
+module _ (p : Placement) (l : Lent ℕ) (h : refusalOf some marking l ≡ none) where
   abbrev s : Sheet
   s = wholeSheet some (l .sheet)
 
@@ -175,26 +176,26 @@ module _ (l : Lent ℕ) (h : refusalOf some marking l ≡ none) where
       ap callsOf (with-calls (runsOf (l .calls) (l .ends)) (l .breaks))
       ∙ calls-back 0 (l .calls) (l .ends) (rw (zero-add (length (l .calls))) (rises 0 (l .ends) (length (l .calls)) (A .runs .ends)))
 
-  pub accepted-small : Fits (mark s (l .tour) (withPlaces (runsOf (l .calls) (l .ends)) (l .breaks)))
+  pub accepted-small : Fits (markBy p s (l .tour) (withPlaces (runsOf (l .calls) (l .ends)) (l .breaks)))
   accepted-small =
       let runs = withPlaces (runsOf (l .calls) (l .ends)) (l .breaks) in
       let few : length (l .ends) ≤ mostCalls = ltb-false mostCalls (length (l .ends)) (A .runs .few) in
-      mark-small s (sized s (A .within)) (splitTw s (l .tour)) runs
+      mark-small s (sized s (A .within)) (splitBy p s (l .tour)) runs
       (omega (arith, with-many (runsOf (l .calls) (l .ends)) (l .breaks), runs-many 0 (l .calls) (l .ends), few))
       (omega (arith, ap length same-calls, few-calls s (l .calls) (A .calls)))
       (with-all (Inside s) (runsOf (l .calls) (l .ends)) (l .breaks) (runs-inside s 0 (l .calls) (l .ends) (few-calls s (l .calls) (A .calls), calls-inside s (l .calls) (A .calls))))
 
 -- the verdict that is given
-given-fits : (l : Lent ℕ) (v : Verdict) → markOf some l ≡ gives v → Fits v
+given-fits : (p : Placement) (l : Lent ℕ) (v : Verdict) → markByOf some p l ≡ gives v → Fits v
 unfolding answer
-given-fits l v e = go (refusalOf some marking l) refl e
+given-fits p l v e = go (refusalOf some marking l) refl e
   where
-    go : (o : Option ℕ) → refusalOf some marking l ≡ o → unlessRefused o (mark (wholeSheet some (l .sheet)) (l .tour) (withPlaces (runsOf (l .calls) (l .ends)) (l .breaks))) ≡ gives v → Fits v
+    go : (o : Option ℕ) → refusalOf some marking l ≡ o → unlessRefused o (markBy p (wholeSheet some (l .sheet)) (l .tour) (withPlaces (runsOf (l .calls) (l .ends)) (l .breaks))) ≡ gives v → Fits v
     go none h g =
-        let same : mark (wholeSheet some (l .sheet)) (l .tour) (withPlaces (runsOf (l .calls) (l .ends)) (l .breaks)) ≡ v = cc in
-        subst Fits same (accepted-small l h)
+        let same : markBy p (wholeSheet some (l .sheet)) (l .tour) (withPlaces (runsOf (l .calls) (l .ends)) (l .breaks)) ≡ v = cc in
+        subst Fits same (accepted-small p l h)
     go (some n) h g = let z : _≡_ {A = ℕ} 0 1 = cc in absurd (omega arith)
 
-pub marked-fits : (s : Sheet) (tour : List ℕ) (runs : GivenRuns) (v : Verdict) → markedOn s tour runs ≡ gives v → Fits v
+pub marked-fits : (p : Placement) (s : Sheet) (tour : List ℕ) (runs : GivenRuns) (v : Verdict) → markedOn p s tour runs ≡ gives v → Fits v
 unfolding markedOn
-marked-fits s tour runs v e = given-fits (lentWith s tour (runs .calls) (runs .ends) (runs .breaks) []) v e
+marked-fits p s tour runs v e = given-fits p (lentWith s tour (runs .calls) (runs .ends) (runs .breaks) []) v e

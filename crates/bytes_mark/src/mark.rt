@@ -1,10 +1,12 @@
 // The mark on an accepted sheet: its bytes are read into arrays, and the runs given are marked against the plan of its
-// tour.
+// tour, with the breaks of the plan where the placement puts them.
 ghost use Rattle.definitions.specs.Bytes.{numbersOf};
+ghost use Rattle.placements.specs.Chosen.{placementOf};
 ghost use Rattle.sheet_loaded.specs.Held.{Found};
 ghost use Rattle.bytes_mark.specs.Mark.{givenRuns, SheetMarked};
 use call_cuts::marking::Marking;
 use cut_table::cells::MOST_CUT;
+use models::placement::Placement;
 use sheet_loaded::load::load;
 use sheet_read::read::Contents;
 
@@ -15,12 +17,13 @@ pub fn mark_sheet(
     calls: &[u8],
     ends: &[u8],
     breaks: &[u8],
+    placement: Placement,
 ) -> Marking
     requires { ⌜ Found (now bytes) found ⌝ }
     ensures { λ r.
         let given = givenRuns (numbersOf (now (calls .entry))) (numbersOf (now (ends .entry)))
         (numbersOf (now (breaks .entry))) in
-        ⌜ SheetMarked (now (bytes .entry)) given r ⌝ }
+        ⌜ SheetMarked (placementOf placement) (now (bytes .entry)) given r ⌝ }
 {
     let mut distances = [0.0; 4096];
     let mut times = [0.0; 4096];
@@ -37,5 +40,6 @@ pub fn mark_sheet(
         calls,
         ends,
         breaks,
+        placement,
     )
 }

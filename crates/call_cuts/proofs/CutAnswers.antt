@@ -19,6 +19,7 @@ use Rattle.whole.specs.Value.{value}
 use Rattle.models.specs.Image.{flSheet}
 use Rattle.models.specs.declared.customer.Customer.{Customer}
 use Rattle.models.specs.declared.head.Head.{Head}
+use Rattle.models.specs.declared.placement.Placement.{Placement}
 use Rattle.lending.specs.Padding.{padded}
 use Rattle.byte_lists.proofs.Narrowed.{all-narrowed}
 use Rattle.refuse_order.specs.Lent.{sheetOf, Gathered}
@@ -50,6 +51,8 @@ pub record Asked : Type 0 where
   pub distances : List Float
   pub times : List Float
   pub tour : List ℕ
+  -- the cut by loads alone has no break to place
+  pub placement : Placement
 
 module _ (Q : Asked) where
   -- with those customers

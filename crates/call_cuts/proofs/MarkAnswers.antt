@@ -12,7 +12,7 @@ use Rattle.definitions.specs.Domain.{mostCalls}
 use Rattle.definitions.specs.Lent.{marking}
 use Rattle.definitions.specs.Refusals.{endsFall}
 use Rattle.definitions.specs.Room.{written}
-use Rattle.definitions.specs.Answers.{markOf}
+use Rattle.definitions.specs.Answers.{markByOf}
 use Rattle.theorems.proofs.Accepted.{Accepted, accepted-few}
 use Rattle.cut_stops.specs.Stops.{Below64}
 use Rattle.cut_exact.proofs.Exact.{below-64}
@@ -21,6 +21,7 @@ use Rattle.whole.specs.Value.{value}
 use Rattle.models.specs.declared.customer.Customer.{Customer}
 use Rattle.lending.specs.Padding.{padded}
 use Rattle.byte_lists.proofs.Widened.{zeros, first-read, all-there}
+use Rattle.placements.specs.Chosen.{placementOf}
 use Rattle.refuse_order.specs.Lent.{sheetOf}
 use Rattle.refuse_order.specs.Order.{Refuses, Images}
 use Rattle.marker.specs.declared.verdict.Verdict as Code
@@ -40,7 +41,7 @@ pub record ReadAs (R R' : Given) : Type 0 where
 
 module _ (Q : Asked) (R : Given) (number : ℕ) (refuses : Refuses marking (lentWith Q R) (Q .count) (Q .array) number) where
   abbrev answered : List Customer → Marking
-  answered cs = markIn (markOf value (lentWith Q R cs))
+  answered cs = markIn (markByOf value (placementOf (Q .placement)) (lentWith Q R cs))
 
   pub refused-mark : (number ≡ 0 → ⊥) → Answers answered (Q .count) (Q .array) (Refused number)
   refused-mark h =

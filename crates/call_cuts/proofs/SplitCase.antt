@@ -6,12 +6,13 @@ use lib.Ieee.{Float}
 use Rattle.basics.proofs.TestLaws.{not-false}
 use Rattle.definitions.specs.Domain.{isPlaces}
 use Rattle.definitions.specs.Sheet.{SheetOf, Sheet}
-use Rattle.definitions.specs.Drop.{split, splitTw}
+use Rattle.definitions.specs.Drop.{split, splitBy}
 use Rattle.definitions.specs.Lent.{Call}
 use Rattle.theorems.proofs.Accepted.{Accepted}
 use Rattle.whole.specs.Value.{value}
 use Rattle.models.specs.declared.customer.Customer.{Customer}
 use Rattle.refuse_order.specs.Lent.{sheetOf, lentOf, Gathered}
+use Rattle.placements.specs.Chosen.{placementOf}
 use Rattle.cut_rows.specs.Runs.{Instance}
 use Rattle.split_tw.specs.SplitTw.{splitTwF}
 use Rattle.cut_exact.proofs.Image.{flResult}
@@ -34,7 +35,7 @@ module _ (k : Call) (Q : Asked) (calls ends breaks rooms : List ℕ) (customers 
   plain = plainOf (Q .head) (Q .array) (Q .distances) (Q .times)
 
   abbrev timed : Instance
-  timed = timedOf (Q .head) (Q .array) (Q .distances) (Q .times)
+  timed = timedOf (Q .head) (Q .array) (Q .distances) (Q .times) (Q .placement)
 
   -- the sheet that is meant stands in it
   pub timed-holds : ImageTw s timed
@@ -54,5 +55,5 @@ module _ (k : Call) (Q : Asked) (calls ends breaks rooms : List ℕ) (customers 
       split-exact s (accepted .within) (Q .tour) (accepted .tour) plain
       (bare-image s (Q .array) (Q .distances) (Q .times) (h .places) (h .capacity) (h .«fixed_cost») (h .limits) timed-holds)
 
-  pub split-tw-holds : splitTwF timed (Q .tour) ≡ flResult (splitTw s (Q .tour))
+  pub split-tw-holds : splitTwF timed (Q .tour) ≡ flResult (splitBy (placementOf (Q .placement)) s (Q .tour))
   split-tw-holds = split-tw-exact s (accepted .within) (Q .tour) (accepted .tour) timed timed-holds

@@ -7,12 +7,14 @@ use lib.Ieee.{Float}
 use Rattle.definitions.specs.Drop.{Result}
 use Rattle.definitions.specs.Lent.{Lent}
 use Rattle.definitions.specs.Bytes.{stored}
-use Rattle.definitions.specs.Answers.{Answer, refused, gives, front, splitOf, splitTwOf}
+use Rattle.definitions.specs.Answers.{Answer, refused, gives, front, splitOf, splitByOf}
 use Rattle.whole.specs.Whole.{fl}
 use Rattle.whole.specs.Value.{value}
 use Rattle.models.specs.declared.customer.Customer.{Customer}
 use Rattle.models.specs.declared.head.Head.{Head}
+use Rattle.models.specs.declared.placement.Placement.{Placement}
 use Rattle.refuse_order.specs.Lent.{sheetOf, lentOf}
+use Rattle.placements.specs.Chosen.{placementOf}
 use Rattle.split_tw.specs.declared.answer.SplitResult.{SplitResult}
 use Rattle.call_cuts.specs.declared.cutting.Cut.{Cut}
 use Rattle.call_cuts.specs.declared.cutting.Cut.the-variants as Cases
@@ -29,16 +31,17 @@ module _ (head : Head) (customers : List Customer) (distances times : List Float
   abbrev pub splitAnswer : Answer Result
   splitAnswer = splitOf value (cutLent head customers distances times tour (length served) (length ends) (length dropped))
 
-  abbrev pub splitTwAnswer : Answer Result
-  splitTwAnswer = splitTwOf value (cutLent head customers distances times tour (length served) (length ends) (length dropped))
+  abbrev pub splitTwAnswer : Placement → Answer Result
+  splitTwAnswer placement =
+      splitByOf value (placementOf placement) (cutLent head customers distances times tour (length served) (length ends) (length dropped))
 
 -- with whatever customers
 module _ (head : Head) (distances times : List Float) (tour served ends dropped : List ℕ) where
   abbrev pub splitFor : List Customer → Answer Result
   splitFor cs = splitAnswer head cs distances times tour served ends dropped
 
-  abbrev pub splitTwFor : List Customer → Answer Result
-  splitTwFor cs = splitTwAnswer head cs distances times tour served ends dropped
+  abbrev pub splitTwFor : Placement → List Customer → Answer Result
+  splitTwFor placement cs = splitTwAnswer head cs distances times tour served ends dropped placement
 
 -- ---- the answer
 

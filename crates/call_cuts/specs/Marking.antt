@@ -5,11 +5,13 @@ use mathlib.Core.List.{List, []}
 use lib.Ieee.{Float}
 use Rattle.definitions.specs.Lent.{Lent}
 use Rattle.definitions.specs.Marker as Whole
-use Rattle.definitions.specs.Answers.{Answer, refused, gives, markOf}
+use Rattle.definitions.specs.Answers.{Answer, refused, gives, markByOf}
 use Rattle.whole.specs.Value.{value}
 use Rattle.models.specs.declared.customer.Customer.{Customer}
 use Rattle.models.specs.declared.head.Head.{Head}
+use Rattle.models.specs.declared.placement.Placement.{Placement}
 use Rattle.refuse_order.specs.Lent.{sheetOf, lentOf}
+use Rattle.placements.specs.Chosen.{placementOf}
 use Rattle.split_tw.specs.SplitTw.{splitTwF}
 use Rattle.marker.specs.declared.verdict.Verdict as Code
 use Rattle.marker.specs.RunMark.{groundOf}
@@ -28,13 +30,14 @@ markIn (refused number) = Refused number
 markIn (gives verdict) = Verdict (flVerdict verdict)
 
 -- with whatever customers
-abbrev pub markFor : Head → List Float → List Float → (tour calls ends places : List ℕ) → List Customer → Marking
-markFor head distances times tour calls ends places cs = markIn (markOf value (markLent head cs distances times tour calls ends places))
+abbrev pub markFor : Head → List Float → List Float → (tour calls ends places : List ℕ) → Placement → List Customer → Marking
+markFor head distances times tour calls ends places placement cs =
+    markIn (markByOf value (placementOf placement) (markLent head cs distances times tour calls ends places))
 
 -- ---- as the code reckons it
 
 -- on floats: the mark against the planner's own cut of the tour
-abbrev pub markedF : Head → List Customer → List Float → List Float → (tour calls ends places : List ℕ) → Code.Verdict
-markedF head customers distances times tour calls ends places =
-    let cut = splitTwF (timedOf head customers distances times) tour in
+abbrev pub markedF : Head → List Customer → List Float → List Float → (tour calls ends places : List ℕ) → Placement → Code.Verdict
+markedF head customers distances times tour calls ends places placement =
+    let cut = splitTwF (timedOf head customers distances times placement) tour in
     markF (groundOf customers distances times head) (cut .served) (cut .cost) calls ends places

@@ -7,6 +7,7 @@ use lib.Ieee.{Float}
 use Rattle.definitions.specs.Bytes.{stored}
 use Rattle.models.specs.declared.customer.Customer.{Customer}
 use Rattle.models.specs.declared.head.Head.{Head}
+use Rattle.models.specs.declared.placement.Placement.{Placement}
 use Rattle.cut_rows.specs.Runs.{Instance, lent}
 use Rattle.split.specs.Split.{bareLent}
 use Rattle.split_tw.specs.Answer.{ResultF, Counted}
@@ -17,8 +18,9 @@ use Rattle.split_tw.specs.declared.answer.SplitResult.{SplitResult}
 abbrev pub plainOf : Head → List Customer → (distances times : List Float) → Instance
 plainOf h customers distances times = bareLent customers distances times (h .places) (h .capacity) (h .«fixed_cost»)
 
-abbrev pub timedOf : Head → List Customer → (distances times : List Float) → Instance
-timedOf h customers distances times = lent customers distances times (h .places) (h .capacity) (h .«fixed_cost») (h .limits)
+abbrev pub timedOf : Head → List Customer → (distances times : List Float) → Placement → Instance
+timedOf h customers distances times placement =
+    lent customers distances times (h .places) (h .capacity) (h .«fixed_cost») (h .limits) placement
 
 -- ---- the lists that are written: served customers, run ends, dropped positions
 

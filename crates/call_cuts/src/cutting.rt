@@ -5,6 +5,7 @@ use crate::stored::split_stored;
 use crate::stored::split_tw_stored;
 use models::customer::Customer;
 use models::head::Head;
+use models::placement::Placement;
 use refuse_order::by_call::refuse_cutting;
 use split_tw::answer::SplitResult;
 
@@ -61,7 +62,7 @@ pub fn split(
     Cut::Cut(counts)
 }
 
-// By loads, closed legs, windows, limits and break.
+// By loads, closed legs, windows, limits and break, which goes where the placement puts it.
 pub fn split_tw(
     head: Head,
     all: [Customer; 64],
@@ -72,13 +73,14 @@ pub fn split_tw(
     served: &mut [u8],
     run_ends: &mut [u8],
     dropped: &mut [u8],
+    placement: Placement,
 ) -> Cut
     ensures { λ r.
         let old = now (served .entry) in
         let ends = now («run_ends» .entry) in
         let gone = now (dropped .entry) in
         let calls = now (tour .entry) in
-        let answered = splitTwFor head (now (distances .entry)) (now (times .entry)) calls old ends gone in
+        let answered = splitTwFor head (now (distances .entry)) (now (times .entry)) calls old ends gone placement in
         ⌜ Cuts answered n all old ends gone r (now (served .exit)) (now («run_ends» .exit)) (now (dropped .exit)) ⌝ }
 {
     let number = refuse_cutting(
@@ -104,6 +106,7 @@ pub fn split_tw(
         &mut *served,
         &mut *run_ends,
         &mut *dropped,
+        placement,
     );
     Cut::Cut(counts)
 }

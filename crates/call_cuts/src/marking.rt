@@ -1,5 +1,5 @@
-// The marker on an array of customers: refused by number, or the verdict. The planner's cut is reckoned
-// in arrays of the call's own, and the cutting is marked against it.
+// The marker on an array of customers: refused by number, or the verdict. The planner's cut, with its breaks where the
+// placement puts them, is reckoned in arrays of the call's own, and the cutting is marked against it.
 ghost use mathlib.Core.Path.{_≡_};
 ghost use mathlib.Core.Bool.{false};
 ghost use Prim.Native.Nat.{_≤_};
@@ -16,6 +16,7 @@ use marker::verdict::Verdict;
 use models::customer::Customer;
 use models::domain::MOST_CALLS;
 use models::head::Head;
+use models::placement::Placement;
 use refuse_order::by_call::refuse_marking;
 use split_tw::split_tw::split_tw;
 
@@ -24,7 +25,7 @@ pub enum Marking {
     Verdict(Verdict),
 }
 
-// The mark without the refusals, on numbers.
+// The mark without the refusals, on numbers, against the cut by the chosen placement.
 fn mark_numbers(
     head: Head,
     all: [Customer; 64],
@@ -34,13 +35,14 @@ fn mark_numbers(
     calls: &[usize],
     ends: &[usize],
     places: &[usize],
+    chosen: Placement,
 ) -> Verdict
     requires { ⌜ (length (now tour) ≤ mostCut) × Below64 (now tour) ⌝ }
     requires { ⌜ (length (now calls) ≤ mostCalls) × (length (now ends) ≤ length (now places)) ⌝ }
     requires { ⌜ endsFall 0 (now ends) (length (now calls)) ≡ false ⌝ }
     ensures { λ r.
         ⌜ r ≡ markedF head all (now (distances .entry)) (now (times .entry)) (now (tour .entry))
-        (now (calls .entry)) (now (ends .entry)) (now (places .entry)) ⌝ }
+        (now (calls .entry)) (now (ends .entry)) (now (places .entry)) chosen ⌝ }
 {
     let mut served = [0usize; MOST_CUT];
     let mut run_ends = [0usize; MOST_CUT];
@@ -54,6 +56,7 @@ fn mark_numbers(
         head.capacity,
         head.fixed_cost,
         head.limits,
+        chosen,
         &mut served,
         &mut run_ends,
         &mut dropped,
@@ -83,10 +86,11 @@ pub fn mark(
     calls: &[u8],
     ends: &[u8],
     places: &[u8],
+    placement: Placement,
 ) -> Marking
     ensures { λ r.
         let answered = markFor head (now (distances .entry)) (now (times .entry)) (now (tour .entry))
-        (now (calls .entry)) (now (ends .entry)) (now (places .entry)) in
+        (now (calls .entry)) (now (ends .entry)) (now (places .entry)) placement in
         ⌜ Answers answered n all r ⌝ }
 {
     let number = refuse_marking(head, all, n, distances, times, tour, calls, ends, places);
@@ -108,6 +112,7 @@ pub fn mark(
         &call_numbers[..many],
         &end_numbers[..runs],
         &place_numbers[..placed],
+        placement,
     );
     Marking::Verdict(verdict)
 }

@@ -10,6 +10,7 @@ use byte_lists::narrow;
 use cut_table::cells::MOST_CUT;
 use models::customer::Customer;
 use models::head::Head;
+use models::placement::Placement;
 use split::split::split;
 use split_tw::answer::SplitResult;
 use split_tw::split_tw::split_tw;
@@ -53,7 +54,7 @@ pub fn split_stored(
     counts
 }
 
-// By loads, closed legs, windows, limits and break.
+// By loads, closed legs, windows, limits and break, which goes where the placement puts it.
 pub fn split_tw_stored(
     head: Head,
     all: [Customer; 64],
@@ -63,10 +64,12 @@ pub fn split_tw_stored(
     served: &mut [u8],
     run_ends: &mut [u8],
     dropped: &mut [u8],
+    placement: Placement,
 ) -> SplitResult
     requires { ⌜ (length (now tour) ≤ mostCut) × Below64 (now tour) ⌝ }
     ensures { λ r.
-        let cut = splitTwF (timedOf head all (now (distances .entry)) (now (times .entry))) (now (tour .entry)) in
+        let I = timedOf head all (now (distances .entry)) (now (times .entry)) placement in
+        let cut = splitTwF I (now (tour .entry)) in
         let old = cutLists (now (served .entry)) (now («run_ends» .entry)) (now (dropped .entry)) in
         let new = cutLists (now (served .exit)) (now («run_ends» .exit)) (now (dropped .exit)) in
         ⌜ CutStored cut r old new ⌝ }
@@ -83,6 +86,7 @@ pub fn split_tw_stored(
         head.capacity,
         head.fixed_cost,
         head.limits,
+        placement,
         &mut calls,
         &mut ends,
         &mut gone,

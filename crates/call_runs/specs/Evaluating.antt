@@ -8,9 +8,10 @@ use lib.Ieee.{Float}
 use Rattle.definitions.specs.Lent.{Lent}
 use Rattle.definitions.specs.Answers as Whole
 use Rattle.definitions.specs.Evaluation as Evaluated
-use Rattle.definitions.specs.Answers.{refused, gives, routeFeasibleOf, effectiveCostOf, routeEvalOf}
+use Rattle.definitions.specs.Answers.{refused, gives, routeFeasibleOf, effectiveCostOf, evalByOf}
 use Rattle.whole.specs.Value.{value}
 use Rattle.models.specs.declared.customer.Customer.{Customer}
+use Rattle.models.specs.declared.placement.Placement.{Placement}
 use Rattle.evaluation.specs.declared.route.Start.{Start}
 use Rattle.evaluation.specs.declared.route.Start.the-variants.{Unbroken, At}
 use Rattle.evaluation.specs.declared.route.RouteEval.{RouteEval}
@@ -18,6 +19,7 @@ use Rattle.evaluation.specs.Records.{EvaluationF}
 use Rattle.evaluation.specs.Image.{flCost, flEvaluation}
 use Rattle.models.specs.declared.head.Head.{Head}
 use Rattle.refuse_order.specs.Lent.{sheetOf, lentOf}
+use Rattle.placements.specs.Chosen.{placementOf}
 use Rattle.call_runs.specs.declared.evaluating.Feasible.{Feasible}
 use Rattle.call_runs.specs.declared.evaluating.Feasible.the-variants as Feasibles
 use Rattle.call_runs.specs.declared.evaluating.Cost.{Cost}
@@ -75,5 +77,6 @@ abbrev pub evaluationIn : Whole.Answer (Option Evaluated.Evaluation) → Evaluat
 evaluationIn (refused number) = Evaluations.Refused number
 evaluationIn (gives e) = allowedIn (Option·map flEvaluation e)
 
-abbrev pub evalAnswer : Head → List Customer → List Float → List Float → List ℕ → Evaluation
-evalAnswer head customers distances times run = evaluationIn (routeEvalOf value (runLent head customers distances times run))
+abbrev pub evalAnswer : Head → List Customer → List Float → List Float → List ℕ → Placement → Evaluation
+evalAnswer head customers distances times run placement =
+    evaluationIn (evalByOf value (placementOf placement) (runLent head customers distances times run))

@@ -8,6 +8,8 @@ use evaluation::route::RouteEval;
 use models::customer::Customer;
 use models::domain::MOST_CALLS;
 use models::head::Head;
+use models::placement::Placement;
+use placements::placed::eval_by;
 use refuse_order::by_call::refuse_evaluating;
 
 pub enum Feasible {
@@ -82,7 +84,7 @@ pub fn effective_cost(
     Cost::Answer(cost)
 }
 
-// What a run comes to, with its break, if it is allowed.
+// What a run comes to, with its break where the placement puts it, if it is allowed.
 pub fn route_eval(
     head: Head,
     all: [Customer; 64],
@@ -90,11 +92,12 @@ pub fn route_eval(
     distances: &[f64],
     times: &[f64],
     run: &[u8],
+    placement: Placement,
 ) -> Evaluation
     ensures { λ r.
         let d = now (distances .entry) in
         let t = now (times .entry) in
-        ⌜ Answers (λ cs. evalAnswer head cs d t (now (run .entry))) n all r ⌝ }
+        ⌜ Answers (λ cs. evalAnswer head cs d t (now (run .entry)) placement) n all r ⌝ }
 {
     let number = refuse_evaluating(head, all, n, distances, times, run);
     if number != 0 {
@@ -102,7 +105,15 @@ pub fn route_eval(
     }
     let mut calls = [0usize; MOST_CALLS];
     let k = widen(run, &mut calls);
-    match route::route_eval(&calls[..k], all, distances, times, head.places, head.limits) {
+    match eval_by(
+        &calls[..k],
+        all,
+        distances,
+        times,
+        head.places,
+        head.limits,
+        placement,
+    ) {
         Evaluated::NotAllowed => Evaluation::NotAllowed,
         Evaluated::Allowed(e) => Evaluation::Allowed(e),
     }

@@ -9,6 +9,7 @@ use Rattle.models.specs.declared.customer.Customer as Code
 use Rattle.models.specs.declared.load.Space.{Space}
 use Rattle.models.specs.declared.limits.RouteLimits.{RouteLimits}
 use Rattle.models.specs.Image.{flCustomer}
+use Rattle.models.specs.declared.placement.Placement.{Placement}
 use Rattle.cut_rows.specs.Runs.{lent}
 use Rattle.split.specs.Split.{bareLent}
 use Rattle.split.specs.Bare.{bareF}
@@ -19,8 +20,8 @@ held-bare : (l : List Customer) → map bareF (map flCustomer l) ≡ map flCusto
 held-bare [] = refl
 held-bare (c ∷ l) = ap (λ (t : List (CustomerOf Float)). bareF (flCustomer c) ∷ t) (held-bare l)
 
-pub bare-image : (s : Sheet) (customers : List Code.Customer) (distances times : List Float) (size : ℕ) (capacity : Space) (fixed : Float) (limits : RouteLimits)
-    → ImageTw s (lent customers distances times size capacity fixed limits) → ImageTw (bare s) (bareLent customers distances times size capacity fixed)
+pub bare-image : (s : Sheet) (customers : List Code.Customer) (distances times : List Float) (size : ℕ) (capacity : Space) (fixed : Float) (limits : RouteLimits) {placement : Placement}
+    → ImageTw s (lent customers distances times size capacity fixed limits placement) → ImageTw (bare s) (bareLent customers distances times size capacity fixed)
 unfolding bare
 bare-image s customers distances times size capacity fixed limits M =
     let T = M .tables-hold in

@@ -27,7 +27,8 @@ use Rattle.definitions.specs.Window.{late, lateness, Entry, enter}
 use Rattle.definitions.specs.Run.{Label, start, ready, serveAt, serve, serveAll, breakAt, lastOf, distanceFrom, Totals, home}
 use Rattle.definitions.specs.Clock.{Clock, tick, clockFrom, counts, clock}
 use Rattle.theorems.proofs.Roads.{by-leg, distance-home, home-is, homeBy}
-use Rattle.theorems.proofs.Legality.{clock-closed}
+use Rattle.theorems.proofs.Legality.{labelOf, clock-closed}
+use Rattle.theorems.proofs.Labels.{serve-more}
 use Rattle.whole.specs.Whole.{fl, limit}
 use Rattle.whole.proofs.WholeLaws.{fl-add, fl-sub, fl-mul}
 use Rattle.whole.proofs.LargerLaws.{larger-fl}
@@ -98,23 +99,6 @@ module _ (k : ℕ) (few : k < mostCalls) where
 
 -- ---- one call more at the end
 
-module _ (s : Sheet) where
-  serve-snoc : (j a : ℕ) → 0 < j → (m : Option Label) (l : List ℕ) (c : ℕ) → serveAll s 0 j a m (l ++ (c ∷ [])) ≡ (serveAll s 0 j a m l >>= serve s none (j + length l) (lastOf a l) c)
-  unfolding serveAll
-  serve-snoc j a pos m [] c = ap (λ (b : Option Break). m >>= serve s b j a c) (off j pos) ∙ ap (λ (n : ℕ). m >>= serve s none n a c) (sym (add-zero j))
-    where
-      nonzero : (j : ℕ) → 0 < j → 0 ≡ j → ⊥
-      nonzero j h e = omega arith
-
-      off : (j : ℕ) → 0 < j → breakAt s 0 j ≡ none
-      off j h = rw (ne-eqb 0 j (nonzero j h)) refl
-  serve-snoc j a pos m (x ∷ l) c =
-      serve-snoc (suc j) x (omega arith) (m >>= serve s (breakAt s 0 j) j a x) l c
-      ∙ ap (λ (n : ℕ). serveAll s 0 (suc j) x (m >>= serve s (breakAt s 0 j) j a x) l >>= serve s none n (lastOf x l) c) (shift j (length l))
-    where
-      shift : (j n : ℕ) → suc j + n ≡ j + suc n
-      shift j n = omega arith
-
 -- the clock, one call more
 clock-snoc : (s : Sheet) (j a : ℕ) (x : Clock) (l : List ℕ) (c : ℕ) → clockFrom s j a x (l ++ (c ∷ [])) ≡ tick s (j + length l) (lastOf a l) c (clockFrom s j a x l)
 unfolding clockFrom
@@ -132,39 +116,48 @@ home-parts s calls l = refl
 -- ---- the calls of a stretch
 
 module _ (s : Sheet) (S : Sized s) (t : Tables) (I : Image s t) (st : List ℕ) (inside : All (Place s) st) where
-  -- the label after the first m calls
-  abbrev after : ℕ → Option Label
-  after m = serveAll s 0 1 0 (some start) (take m st)
+  -- the label after the first m calls, with the break at call p
+  abbrev pub after : ℕ → ℕ → Option Label
+  after p m = labelOf s (take m st) p
 
-  after-early : (m : ℕ) → m ≤ length st → m ≤ mostCalls → Holds (Early m) (after m)
-  after-early m h few =
+  pub after-early : (p m : ℕ) → m ≤ length st → m ≤ mostCalls → Holds (Early m) (after p m)
+  after-early p m h few =
       let l = length-take-le m st h in
-      subst (λ (n : ℕ). Holds (Early n) (after m)) l (serve-all-most s S 0 (take m st) (omega (arith, l)))
+      subst (λ (n : ℕ). Holds (Early n) (after p m)) l (serve-all-most s S p (take m st) (omega (arith, l)))
+
+  pub after-more : (p m : ℕ) → m < length st → after p (suc m) ≡ (after p m >>= serve s (breakAt s p (suc m)) (suc m) (placeBefore st m) (getD st m 0))
+  after-more p m h =
+      ap (λ (l : List ℕ). labelOf s l p) (take-suc st m 0 h)
+      ∙ serve-more s p 1 0 (some start) (take m st) (getD st m 0)
+      ∙ ap₂ (λ (n a : ℕ). after p m >>= serve s (breakAt s p n) n a (getD st m 0)) (number (length (take m st)) (length-take-le m st (le-of-lt h))) (place-last s st m (le-of-lt h))
+    where
+      number : (n : ℕ) → n ≡ m → 1 + n ≡ suc m
+      number n e = omega arith
 
   -- the first leg's time stands alone
   joined-time : (m n d : ℕ) → (m ≡ 0 → n ≡ 0) → n ≤ limit → d ≤ limit → joinedF (fl n) (fl d) (eqb m 0) ≡ fl (n + d)
   joined-time zero n d z h k = let e = z refl in rw (e, zero-add d) refl
   joined-time (suc m) n d z h k = rw (ne-eqb (suc m) 0 (suc-ne-zero m)) (fl-add n d h k)
 
-  timed-exact : (m : ℕ) → m ≤ length st → m ≤ mostCalls → timedOf t st m ≡ Option·map flTimed (after m)
+  timed-exact : (m : ℕ) → m ≤ length st → m ≤ mostCalls → timedOf t st m ≡ Option·map flTimed (after 0 m)
   unfolding timedOf serveAll
   timed-exact zero h few = refl
   timed-exact (suc m) h few =
-      let c = getD st m 0 in
-      let l = length-take-le m st (le-of-lt h) in
       rw (timed-exact m (le-of-lt h) (le-of-lt few))
-      (through (after m) flTimed _ flTimed (serve s none (1 + m) (placeBefore st m) c) (λ x e. one x (subst (Holds (Early m)) e (after-early m (le-of-lt h) (le-of-lt few))) e)
-      ∙ ap (Option·map flTimed)
-      (sym (ap (serveAll s 0 1 0 (some start)) (take-suc st m 0 h) ∙ serve-snoc s 1 0 (omega arith) (some start) (take m st) c
-      ∙ ap₂ (λ (n a : ℕ). after m >>= serve s none (1 + n) a c) l (place-last s st m (le-of-lt h)))))
+      (through (after 0 m) flTimed _ flTimed (serve s none (suc m) (placeBefore st m) (getD st m 0))
+      (λ x e. one x (subst (Holds (Early m)) e (after-early 0 m (le-of-lt h) (le-of-lt few))) e)
+      ∙ ap (Option·map flTimed) (sym (after-more 0 m h ∙ ap (λ (o : Option Break). after 0 m >>= serve s o (suc m) (placeBefore st m) (getD st m 0)) nowhere)))
     where
-      none-yet : (m : ℕ) (x : Label) → after m ≡ some x → m ≡ 0 → x .time ≡ 0
+      nowhere : breakAt s 0 (suc m) ≡ none
+      nowhere = rw (ne-eqb 0 (suc m) (λ (e : 0 ≡ suc m). suc-ne-zero m (sym e))) refl
+
+      none-yet : (m : ℕ) (x : Label) → after 0 m ≡ some x → m ≡ 0 → x .time ≡ 0
       none-yet zero x e z = ap (λ (o : Label). o .time) (sym (same e))
       none-yet (suc m) x e z = absurd (suc-ne-zero m z)
 
-      one : (x : Label) → Early m x → after m ≡ some x
+      one : (x : Label) → Early m x → after 0 m ≡ some x
           → (legF t (placeBefore st m) (getD st m 0) >>= λ g. visitF (recordF t (getD st m 0)) (joinedF (fl (x .time)) (g .time) (eqb m 0)) (fl (x .pay)))
-          ≡ Option·map flTimed (serve s none (1 + m) (placeBefore st m) (getD st m 0) x)
+          ≡ Option·map flTimed (serve s none (suc m) (placeBefore st m) (getD st m 0) x)
       one x E e =
           let c = getD st m 0 in
           let a = placeBefore st m in
@@ -177,7 +170,7 @@ module _ (s : Sheet) (S : Sized s) (t : Tables) (I : Image s t) (st : List ℕ) 
             q,
             joined-time m (x .time) (g .travel) (none-yet m x e) (omega (arith, E .time-most)) (omega (arith, near)),
           )
-          (visit-exact m few (customer s c) (customer-small s S c) (1 + m) (g .travel) near x E))
+          (visit-exact m few (customer s c) (customer-small s S c) (suc m) (g .travel) near x E))
 
   -- ---- home
 
@@ -199,25 +192,39 @@ module _ (s : Sheet) (S : Sized s) (t : Tables) (I : Image s t) (st : List ℕ) 
     way-same : wayOf (legF t) st m ≡ Option·map fl (distanceFrom s 0 run)
     way-same = way-exact s st S inside (legF t) (leg-exact s S t I) m h few
 
+    -- what is made of distance and time at home is the image of what is made of the totals
+    pub home-through : {A B : Type 0} (image : B → A) (l : Label) (f : Float → Float → Option A) (g : Totals → Option B)
+        → ((d : ℕ) (w : Leg) → drive s (lastOf 0 run) 0 ≡ some w → home s run l ≡ some (homeBy s run d (w .travel) l)
+        → f (fl d) (fl (w .travel)) ≡ Option·map image (g (homeBy s run d (w .travel) l)))
+        → (wayOf (legF t) st m >>= λ far. backOf t st m >>= λ back. f far (back .time)) ≡ Option·map image (home s run l >>= g)
+    home-through image l f g same =
+        rw (way-same, back-exact) (go (distanceFrom s 0 run) (drive s (lastOf 0 run) 0) refl refl ∙ ap (λ (o : Option Totals). Option·map image (o >>= g)) (sym (home-parts s run l)))
+      where
+        go : (o : Option ℕ) (p : Option Leg) → distanceFrom s 0 run ≡ o → drive s (lastOf 0 run) 0 ≡ p
+            → (Option·map fl o >>= λ far. Option·map flLeg p >>= λ back. f far (back .time))
+            ≡ Option·map image ((o >>= λ d. p >>= λ w. some (homeBy s run d (w .travel) l)) >>= g)
+        go none p e q = refl
+        go (some d) none e q = refl
+        go (some d) (some w) e q = same d w q (home-is s run d w e q l)
+
     end-plain : s .head .rest ≡ none → endOf t st m none ≡ Option·map flEnd (clock s run)
     unfolding endOf
     end-plain z =
         rw (timed-exact m h few, plain-clock s S t I run run-few run-inside z)
-        (through (after m) flTimed _ flEnd (home s run) (λ l e. one l (subst (Holds (Early m)) e (after-early m h few))))
+        (through (after 0 m) flTimed _ flEnd (home s run) (λ l e. one l (subst (Holds (Early m)) e (after-early 0 m h few))))
       where
-        go : (l : Label) → Early m l → (o : Option ℕ) (p : Option Leg) → drive s (lastOf 0 run) 0 ≡ p
-            → (Option·map fl o >>= λ far. Option·map flLeg p >>= λ back. some (record { distance = far; duration = Ieee.add binary64 (fl (l .time)) (back .time); pay = fl (l .pay) }))
-            ≡ Option·map flEnd (o >>= λ d. p >>= λ b. some (homeBy s run d (b .travel) l))
-        go l E none p q = refl
-        go l E (some d) none q = refl
-        go l E (some d) (some b) q =
-            ap (λ (x : Float). some (record { distance = fl d; duration = x; pay = fl (l .pay) }))
-            (fl-add (l .time) (b .travel) (omega (arith, E .time-most)) (omega (arith, leg-small s S (lastOf 0 run) 0 b q .1)))
-
         one : (l : Label) → Early m l
             → (wayOf (legF t) st m >>= λ far. backOf t st m >>= λ back. some (record { distance = far; duration = Ieee.add binary64 (fl (l .time)) (back .time); pay = fl (l .pay) }))
             ≡ Option·map flEnd (home s run l)
-        one l E = rw (way-same, back-exact) (go l E (distanceFrom s 0 run) (drive s (lastOf 0 run) 0) refl ∙ ap (Option·map flEnd) (sym (home-parts s run l)))
+        one l E =
+            home-through flEnd l (λ far back. some (record { distance = far; duration = Ieee.add binary64 (fl (l .time)) back; pay = fl (l .pay) })) some
+            (λ d w q is. ap (λ (x : Float). some (record { distance = fl d; duration = x; pay = fl (l .pay) }))
+            (fl-add (l .time) (w .travel) (omega (arith, E .time-most)) (omega (arith, leg-small s S (lastOf 0 run) 0 w q .1))))
+            ∙ ap (Option·map flEnd) (whole (home s run l))
+          where
+            whole : (o : Option Totals) → (o >>= λ u. some u) ≡ o
+            whole none = refl
+            whole (some u) = refl
 
     -- ---- with a break
 

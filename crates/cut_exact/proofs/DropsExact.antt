@@ -11,17 +11,19 @@ use Rattle.basics.specs.Options.{present}
 use Rattle.basics.specs.Lists.{All, without}
 use Rattle.bounds.specs.Sized.{Sized, Place}
 use Rattle.bounds.proofs.Inside.{held-inside}
-use Rattle.bounds.proofs.CostBoundLaws.{arc-priced}
+use Rattle.bounds.proofs.CostBoundLaws.{arcs-priced}
 use Rattle.cut_theory.specs.First.{find}
 use Rattle.cut_theory.proofs.FirstLaws.{first-none, first-some}
 use Rattle.definitions.specs.Domain.{mostCalls}
 use Rattle.definitions.specs.Sheet.{Sheet, customer}
-use Rattle.definitions.specs.Clock.{Arc, arc}
+use Rattle.definitions.specs.Clock.{Arc}
+use Rattle.definitions.specs.Placement.{arcBy}
 use Rattle.definitions.specs.Cutting.{Best, cheapest, stuck}
 use Rattle.definitions.specs.Drop.{callAt, callsAt, Held, dropAt, allHeld, dropFrom, drops}
 use Rattle.theorems.proofs.Least.{best-of, best-reach}
 use Rattle.theorems.proofs.Shortest.{Cuttable, Stuck, never, at-call, stuck-is}
 use Rattle.evaluation.specs.Tables.{demandF}
+use Rattle.placements.specs.Chosen.{placementOf}
 use Rattle.cut_rows.specs.Runs.{Instance}
 use Rattle.cut_drops.specs.Drops.{haveF, stuckF, dropFromF, dropsF}
 use Rattle.cut_exact.proofs.TableExact.{has-exact}
@@ -72,6 +74,9 @@ shorter (suc k) (x ∷ l) = omega (arith, shorter k l)
 
 module _ (s : Sheet) (S : Sized s) (I : Instance) (M : ImageTw s I) (demand-exact : (c : ℕ) → Place s c → demandF (I .tables .customers) c ≡ customer s c .demand)
     (tour : List ℕ) (inside : All (Place s) tour) where
+  abbrev arcs : List ℕ → Option Arc
+  arcs = arcBy (placementOf (I .placement)) s
+
   module _ (h : Held) (few : length (h .held) ≤ mostCalls) where
     abbrev calls : List ℕ
     calls = callsAt tour (h .held)
@@ -79,28 +84,29 @@ module _ (s : Sheet) (S : Sized s) (I : Instance) (M : ImageTw s I) (demand-exac
     pub calls-few : length calls ≤ mostCalls
     calls-few = omega (arith, length-map (h .held) (callAt tour))
 
-    stuck-exact : stuckF I calls ≡ stuck (arc s) calls
+    stuck-exact : stuckF I calls ≡ stuck arcs calls
     stuck-exact =
         let ins = held-inside s S tour (h .held) inside in
-        found-stuck (arc s) (arc-priced s S .no-run) (haveF I calls) calls (λ j b. has-exact (X s S I M calls ins calls-few demand-exact) (run-is s S I M calls ins calls-few demand-exact) j b)
+        found-stuck arcs (arcs-priced s S (placementOf (I .placement)) .no-run) (haveF I calls) calls
+        (λ j b. has-exact (X s S I M calls ins calls-few demand-exact) (run-is s S I M calls ins calls-few demand-exact) j b)
 
-  drop-from-exact : (turns : ℕ) (h : Held) → length (h .held) ≤ mostCalls → dropFromF I tour turns h ≡ dropFrom (arc s) tour turns h
+  drop-from-exact : (turns : ℕ) (h : Held) → length (h .held) ≤ mostCalls → dropFromF I tour turns h ≡ dropFrom arcs tour turns h
   unfolding dropFromF dropFrom
   drop-from-exact zero h few = refl
   drop-from-exact (suc turns) h few =
-      rw (stuck-exact h few, dropFromF, dropFrom) (go (stuck (arc s) (callsAt tour (h .held))) (λ k. drop-from-exact turns (dropAt k h) (le-trans (shorter k (h .held)) few)))
+      rw (stuck-exact h few, dropFromF, dropFrom) (go (stuck arcs (callsAt tour (h .held))) (λ k. drop-from-exact turns (dropAt k h) (le-trans (shorter k (h .held)) few)))
     where
-      go : (o : Option ℕ) → ((k : ℕ) → dropFromF I tour turns (dropAt k h) ≡ dropFrom (arc s) tour turns (dropAt k h))
+      go : (o : Option ℕ) → ((k : ℕ) → dropFromF I tour turns (dropAt k h) ≡ dropFrom arcs tour turns (dropAt k h))
           → _≡_ {A = Held} (elim o [
             | none ↦ h
             | some k ↦ dropFromF I tour turns (dropAt k h)
           ]) (elim o [
             | none ↦ h
-            | some k ↦ dropFrom (arc s) tour turns (dropAt k h)
+            | some k ↦ dropFrom arcs tour turns (dropAt k h)
           ])
       go none ih = refl
       go (some k) ih = ih k
 
-  pub drops-exact : length (allHeld tour .held) ≤ mostCalls → dropsF I tour ≡ drops (arc s) tour
+  pub drops-exact : length (allHeld tour .held) ≤ mostCalls → dropsF I tour ≡ drops arcs tour
   unfolding dropsF drops
   drops-exact few = drop-from-exact (length tour) (allHeld tour) few

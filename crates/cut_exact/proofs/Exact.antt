@@ -1,9 +1,9 @@
 -- On a sheet within the limits, lent in floats, the answers of `split_tw` and of `split` are those of crates/definitions. Assumes nothing.
 use Prim.Native.Nat.{ℕ, _≤_, _<_}
 use native.Mathlib.Omega.{arith}
-use mathlib.Core.Path.{_≡_, sym, ap, _∙_}
+use mathlib.Core.Path.{_≡_, refl, sym, ap, _∙_, fun-ext}
 use mathlib.Core.List.{List, [], _∷_, map}
-use mathlib.Core.Option.{Option, some}
+use mathlib.Core.Option.{Option, none, some}
 use lib.ListN.{length, length-map}
 use lib.Ieee.{Float}
 use Rattle.basics.specs.Options.{valueOr}
@@ -11,19 +11,23 @@ use Rattle.basics.specs.Lists.{All}
 use Rattle.basics.proofs.ListLaws.{length-count}
 use Rattle.bounds.specs.Sized.{SmallCustomer, Sized, Place}
 use Rattle.bounds.proofs.Inside.{sized, few-calls, calls-inside, call-inside, held-inside}
-use Rattle.bounds.proofs.CostBoundLaws.{arc-priced, held-few}
+use Rattle.bounds.proofs.CostBoundLaws.{arcs-priced, held-few}
 use Rattle.definitions.specs.Domain.{mostCalls}
 use Rattle.definitions.specs.Sheet.{Customer, Sheet}
 use Rattle.definitions.specs.Clauses.{bare, bareCustomer}
-use Rattle.definitions.specs.Clock.{arc}
+use Rattle.definitions.specs.Clock.{Arc}
 use Rattle.definitions.specs.Cutting.{Best, nothing, runEnds, cheapest}
-use Rattle.definitions.specs.Drop.{callsAt, allHeld, result, split, drops, splitTw}
+use Rattle.definitions.specs.Placement.{Placement, byClock, arcBy}
+use Rattle.definitions.specs.Drop.{callsAt, allHeld, result, split, drops, planBy, splitTw, splitBy}
 use Rattle.definitions.specs.Refusals.{Within, WithinCalls}
-use Rattle.theorems.proofs.Placement.{cut}
-use Rattle.theorems.proofs.Promised.{by-clock}
+use Rattle.theorems.proofs.Pricing.{cut}
+use Rattle.theorems.proofs.Placing.{pricing}
+use Rattle.theorems.proofs.Promised.{split-plan}
+use Rattle.theorems.proofs.Beside.{unbroken-arcs}
 use Rattle.theorems.proofs.Bare.{split-by-clock}
 use Rattle.whole.specs.Whole.{fl}
 use Rattle.evaluation.proofs.ClockExact.{demand-exact}
+use Rattle.placements.specs.Chosen.{placementOf}
 use Rattle.cut_stops.specs.Stops.{Below64}
 use Rattle.cut_rows.specs.Tariff.{endsF, costF, distanceF}
 use Rattle.cut_rows.specs.Runs.{Instance, tariff}
@@ -54,24 +58,29 @@ pub below-64 : (s : Sheet) → Within s → (tour : List ℕ) → WithinCalls s 
 unfolding Below64
 below-64 s w tour e k h = let S = sized s w in omega (arith, call-inside s S tour k (calls-inside s tour e), S .few-places)
 
--- ---- by the clock
+-- ---- by windows, limits and break, for either placement of the break
 
-sized-exact : (s : Sheet) (S : Sized s) (tour : List ℕ) → length tour ≤ mostCalls → All (Place s) tour → (I : Instance) → ImageTw s I → splitTwF I tour ≡ flResult (splitTw s tour)
-unfolding splitTwF splitTw
-sized-exact s S tour short inside I M =
-    let C = by-clock s in
-    let h = drops (arc s) tour in
-    let held = callsAt tour (h .held) in
-    let m = cut s (arc s) C tour in
-    let few = held-few (arc s) (arc-priced s S) tour short in
-    let ins = held-inside s S tour (h .held) inside in
-    let D = demand-exact s S (I .tables .customers) (M .tables-hold .records-are) in
-    let all : length (allHeld tour .held) ≤ mostCalls = omega (arith, length-count 1 (length tour), short) in
-    ap (planF (tariff I) tour) (drops-exact s S I M D tour inside all)
-    ∙ cut-exact (X s S I M held ins few D) (run-is s S I M held ins few D) (h .dropped) (m .0) (m .1)
-    ∙ sym (ap (λ (o : Option Best). flResult (result s tour h (valueOr nothing o))) (m .1))
+module _ (s : Sheet) (S : Sized s) (tour : List ℕ) (short : length tour ≤ mostCalls) (inside : All (Place s) tour) (I : Instance) (M : ImageTw s I) where
+  abbrev p : Placement
+  p = placementOf (I .placement)
 
-pub split-tw-exact : (s : Sheet) → Within s → (tour : List ℕ) → WithinCalls s tour → (I : Instance) → ImageTw s I → splitTwF I tour ≡ flResult (splitTw s tour)
+  sized-exact : splitTwF I tour ≡ flResult (splitBy p s tour)
+  unfolding splitTwF
+  sized-exact =
+      let h = drops (arcBy p s) tour in
+      let held = callsAt tour (h .held) in
+      let m = cut s (arcBy p s) (pricing s p) tour in
+      let few = held-few (arcBy p s) (arcs-priced s S p) tour short in
+      let ins = held-inside s S tour (h .held) inside in
+      let D = demand-exact s S (I .tables .customers) (M .tables-hold .records-are) in
+      let all : length (allHeld tour .held) ≤ mostCalls = omega (arith, length-count 1 (length tour), short) in
+      ap (planF (tariff I) tour) (drops-exact s S I M D tour inside all)
+      ∙ cut-exact (X s S I M held ins few D) (run-is s S I M held ins few D) (h .dropped) (m .0) (m .1)
+      ∙ sym (ap (λ (o : Option Best). flResult (result s tour h (valueOr nothing o))) (m .1))
+      ∙ sym (ap flResult (split-plan p s tour))
+
+pub split-tw-exact : (s : Sheet) → Within s → (tour : List ℕ) → WithinCalls s tour → (I : Instance) → ImageTw s I
+    → splitTwF I tour ≡ flResult (splitBy (placementOf (I .placement)) s tour)
 split-tw-exact s W tour T I M = sized-exact s (sized s W) tour (few-calls s tour T) (calls-inside s tour T) I M
 
 -- ---- by loads and closed legs alone: the same cut of the sheet without windows, limits and break
@@ -105,7 +114,17 @@ module _ (s : Sheet) where
   unfolding bare
   bare-inside tour i = i
 
+  -- it has no break, so that every placement is the clock's
+  bare-placement : (p : Placement) (tour : List ℕ) → splitBy p (bare s) tour ≡ splitTw (bare s) tour
+  bare-placement p tour =
+      split-plan p (bare s) tour
+      ∙ ap (λ (f : List ℕ → Option Arc). planBy f (bare s) tour) (fun-ext (unbroken-arcs (bare s) unbroken p byClock))
+      ∙ sym (split-plan byClock (bare s) tour)
+    where
+      unbroken : bare s .head .rest ≡ none
+      unbroken = unfold bare in refl
+
 pub split-exact : (s : Sheet) → Within s → (tour : List ℕ) → WithinCalls s tour → (I : Instance) → ImageTw (bare s) I → splitTwF I tour ≡ flResult (split s tour)
 split-exact s W tour T I M =
     sized-exact (bare s) (bare-sized s (sized s W)) tour (few-calls s tour T) (bare-inside s tour (calls-inside s tour T)) I M
-    ∙ ap flResult (split-by-clock s tour)
+    ∙ ap flResult (bare-placement s (placementOf (I .placement)) tour ∙ split-by-clock s tour)

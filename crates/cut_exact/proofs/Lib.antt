@@ -4,8 +4,9 @@ pub mod Image
 pub mod StretchExact
 pub mod SameTable
 pub mod TableExact
--- On a sheet within the limits the clocks, the runs, the drops and the answers are those of crates/definitions.
+-- On a sheet within the limits the clocks, the break places, the runs, the drops and the answers are those of crates/definitions.
 pub mod ClocksExact
+pub mod PlacesExact
 pub mod SplitTwExact
 pub mod DropsExact
 pub mod BareImage

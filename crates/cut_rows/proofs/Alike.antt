@@ -1,4 +1,4 @@
--- Stretches that begin alike: place, load, time and clock of their first calls are the same. Assumes nothing.
+-- Stretches that begin alike: place, load, time, clock and labels of their first calls are the same. Assumes nothing.
 use Prim.Native.Nat.{ℕ, zero, suc, _<_, _≤_}
 use native.Mathlib.Omega.{arith}
 use mathlib.Core.Path.{_≡_, refl, sym, ap, _∙_}
@@ -11,6 +11,7 @@ use Rattle.definitions.specs.Sheet.{BreakOf}
 use Rattle.evaluation.specs.Records.{Tables}
 use Rattle.evaluation.specs.Tables.{placeBefore}
 use Rattle.cut_rows.specs.Stretch.{loadTo}
+use Rattle.cut_rows.specs.Places.{labelOf}
 use Rattle.cut_rows.specs.Runs.{timedOf, clockOf}
 
 module _ (m : ℕ) (st st' : List ℕ) (e : take m st ≡ take m st') where
@@ -36,3 +37,8 @@ module _ (m : ℕ) (st st' : List ℕ) (e : take m st ≡ take m st') where
   unfolding clockOf
   clock-alike t b zero h = refl
   clock-alike t b (suc k) h = rw (clock-alike t b k (omega arith), place-alike k (omega arith), call-alike k h) refl
+
+  pub label-alike : (t : Tables) (b : BreakOf Float) (p k : ℕ) → k ≤ m → labelOf t st b p k ≡ labelOf t st' b p k
+  unfolding labelOf
+  label-alike t b p zero h = refl
+  label-alike t b p (suc k) h = rw (label-alike t b p k (omega arith), place-alike k (omega arith), call-alike k h) refl

@@ -11,6 +11,8 @@ use lib.Ieee.{Float, binary64, add}
 use Rattle.basics.specs.Options.{_>>=_, Holds}
 use Rattle.basics.proofs.OptionLaws.{unbound}
 use Rattle.definitions.specs.Sheet.{BreakOf}
+use Rattle.models.specs.declared.placement.Placement.{Placement}
+use Rattle.models.specs.declared.placement.Placement.the-variants.{Clock, Least}
 use Rattle.models.specs.Limits.{allowF}
 use Rattle.distance.specs.declared.leg.Leg.{Leg}
 use Rattle.clock.specs.Records.{ClockF}
@@ -21,7 +23,23 @@ use Rattle.evaluation.specs.Records.{Tables}
 use Rattle.evaluation.specs.Tables.{recordF, legF, placeBefore}
 use Rattle.cut_rows.specs.declared.rows.Elapsed.{Elapsed}
 use Rattle.cut_rows.specs.Stretch.{joinedF, wayOf}
-use Rattle.cut_rows.specs.Runs.{Instance, visitF, timedOf, clockOf, End, backOf, endOf, allowedF, payF}
+use Rattle.cut_rows.specs.Runs.{Instance, visitF, timedOf, clockOf, End, backOf, endOf, leastEnd, endBy, endIn, allowedF, payF}
+
+-- ---- the end of a run by its placement
+
+-- without a break both placements are the plain way
+pub plain-end : (I : Instance) → I .limits .rest ≡ none → (st : List ℕ) (m : ℕ) → endIn I st m ≡ endOf (I .tables) st m none
+unfolding endBy leastEnd
+plain-end I e st m = go (I .placement)
+  where
+    go : (p : Placement) → endBy (I .tables) st m (I .limits) p ≡ endOf (I .tables) st m none
+    go Clock = rw e
+    go Least = rw e
+
+pub clock-end : (I : Instance) → I .placement ≡ Clock → (b : BreakOf Float) → I .limits .rest ≡ some b → (st : List ℕ) (m : ℕ)
+    → endIn I st m ≡ endOf (I .tables) st m (some b)
+unfolding endBy
+clock-end I p b e st m = rw (p, e)
 
 -- what the break clock reports of a run that is so far, as its end
 abbrev pub ended : Float → Option Scheduled → Option End
@@ -31,7 +49,7 @@ ended far o = o >>= λ s. some (record { distance = far; duration = s .duration;
 
 module _ (I : Instance) (st : List ℕ) (m : ℕ) where
   abbrev endIs : Option End → Type 0
-  endIs o = endOf (I .tables) st m (I .limits .rest) ≡ o
+  endIs o = endIn I st m ≡ o
 
   pub not-ended : endIs none → allowedF I st m ≡ false
   unfolding allowedF

@@ -4,24 +4,27 @@ use native.Mathlib.Nat.{le-refl}
 use native.Mathlib.Omega.{arith}
 use mathlib.Core.Path.{_≡_, sym, ap, ap₂, _∙_}
 use mathlib.Core.Bool.{Bool, false, _&&_, and-false}
-use mathlib.Core.List.{List}
+use mathlib.Core.List.{List, []}
 use mathlib.Core.Option.{none, some}
 use lib.ListN.{length, getD, take}
 use lib.Ieee.{Float}
 use Rattle.cut_table.specs.Table.{Table}
 use Rattle.definitions.specs.Sheet.{BreakOf}
 use Rattle.definitions.specs.Load.{Load, plus, carried}
+use Rattle.models.specs.declared.placement.Placement.the-variants.{Clock, Least}
 use Rattle.clock.specs.Records.{ClockF}
 use Rattle.clock.specs.Clock.{aliveF}
 use Rattle.evaluation.specs.Tables.{legF, placeBefore}
 use Rattle.cut_rows.specs.Stretch.{loadTo, fitsOf}
 use Rattle.cut_rows.specs.Tariff.{Tariff, legalOf, RowOf, Ended}
-use Rattle.cut_rows.specs.Runs.{Instance, tariff, timedOf, clockOf, endOf}
+use Rattle.cut_rows.specs.Places.{labelOf}
+use Rattle.cut_rows.specs.Runs.{Instance, tariff, timedOf, clockOf, keptOf}
 use Rattle.cut_rows.proofs.Fitting.{none-over}
-use Rattle.cut_rows.proofs.Alike.{call-alike, place-alike, load-alike, timed-alike, clock-alike}
+use Rattle.cut_rows.proofs.Alike.{call-alike, place-alike, load-alike, timed-alike, clock-alike, label-alike}
 use Rattle.cut_rows.proofs.Along.{Row, Along, load-next, stopped, at-end}
 use Rattle.cut_rows.proofs.Roads.{way-closed}
-use Rattle.cut_rows.proofs.Clocks.{not-ended, end-closed, timed-shut, end-shut, end-dead}
+use Rattle.cut_rows.proofs.Clocks.{plain-end, clock-end, not-ended, timed-shut, end-shut, end-dead}
+use Rattle.cut_rows.proofs.Placing.{allTo, labels-same, least-dead, asEnd, least-end, closed-end}
 
 -- ---- the ends
 
@@ -54,18 +57,33 @@ module _ (I : Instance) (st : List ℕ) (r : ℕ) (b : r ≤ length st) where
       not-allowed (tariff I) st r b
       (λ st' a m h.
       not-ended I st' m
-      (ap (endOf (I .tables) st' m) unbroken
+      (plain-end I unbroken st' m
       ∙ end-shut (I .tables) st' m (timed-shut (I .tables) st' (suc r) (timed-alike (suc r) st' st a (I .tables) (suc r) (le-refl _) ∙ e) m h)))
 
   -- a clock with no label left
-  pub dead-over : (rest : BreakOf Float) → I .limits .rest ≡ some rest → (x : ClockF) → clockOf (I .tables) st rest (suc r) ≡ some x → aliveF x ≡ false
+  pub dead-over : I .placement ≡ Clock → (rest : BreakOf Float) → I .limits .rest ≡ some rest → (x : ClockF) → clockOf (I .tables) st rest (suc r) ≡ some x → aliveF x ≡ false
       → Ended (tariff I) st r
-  dead-over rest broken x e z =
+  dead-over by rest broken x e z =
       not-allowed (tariff I) st r b
       (λ st' a m h.
       not-ended I st' m
-      (ap (endOf (I .tables) st' m) broken
+      (clock-end I by rest broken st' m
       ∙ end-dead (I .tables) st' rest (suc r) x (clock-alike (suc r) st' st a (I .tables) rest (suc r) (le-refl _) ∙ e) z m h))
+
+  -- no label of any break place left
+  pub unplaced-over : I .placement ≡ Least → (rest : BreakOf Float) → I .limits .rest ≡ some rest → labelOf (I .tables) st rest 0 (suc r) ≡ none
+      → allTo (I .tables) st rest (suc r) (suc r) ≡ [] → Ended (tariff I) st r
+  unplaced-over by rest broken gone none-left =
+      not-allowed (tariff I) st r b
+      (λ st' a m h.
+      not-ended I st' m
+      (least-end I by rest broken st' m
+      ∙ ap asEnd
+      (least-dead (I .tables) st' rest (keptOf (I .tables) st' m (I .limits)) (suc r) (label-alike (suc r) st' st a (I .tables) rest 0 (suc r) (le-refl _) ∙ gone)
+      (all-alike st' a (suc r) ∙ none-left) m h)))
+    where
+      all-alike : (st' : List ℕ) → take (suc r) st' ≡ take (suc r) st → (p : ℕ) → allTo (I .tables) st' rest p (suc r) ≡ allTo (I .tables) st rest p (suc r)
+      all-alike st' a p = labels-same (I .tables) st' st rest (suc r) (λ q. label-alike (suc r) st' st a (I .tables) rest q (suc r) (le-refl _)) p
 
   -- a closed leg to the next call
   pub closed-over : legF (I .tables) (placeBefore st r) (getD st r 0) ≡ none → Ended (tariff I) st r
@@ -75,7 +93,7 @@ module _ (I : Instance) (st : List ℕ) (r : ℕ) (b : r ≤ length st) where
       let same : legF (I .tables) (placeBefore st' r) (getD st' r 0) ≡ none
       = ap₂ (legF (I .tables)) (place-alike (suc r) st' st a r (omega arith)) (call-alike (suc r) st' st a r (omega arith)) ∙ e
       in
-      not-ended I st' m (end-closed (I .tables) st' m (way-closed (legF (I .tables)) st' r same m h) (I .limits .rest)))
+      not-ended I st' m (closed-end I st' m (way-closed (legF (I .tables)) st' r same m h)))
 
 -- ---- a row that ends after m calls
 

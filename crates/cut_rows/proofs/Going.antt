@@ -5,6 +5,7 @@ use mathlib.Core.Option.{Option}
 use lib.ListN.{length}
 use lib.Ieee.{Float}
 use Rattle.definitions.specs.Load.{Load}
+use Rattle.models.specs.declared.placement.Placement.{Placement}
 use Rattle.models.specs.Load.{UpTo}
 use Rattle.definitions.specs.Sheet.{BreakOf}
 use Rattle.evaluation.specs.Records.{Tables}
@@ -19,8 +20,9 @@ pub record Going (x : RowLists) (i : ℕ) (load : Load) (m : ℕ) (Keeps : Table
   pub light : UpTo 1 load
   pub keeps : (t : Tables) → StopsOf t (x .held) (x .stops) → LegsAre t (x .held) (x .legs) → Keeps t
 
--- breaks that are the same have the same rows
-pub same-break : (o o' : Option (BreakOf Float)) → o ≡ o' → (terms : Terms) (x : RowLists) (i : ℕ) (old new : Table) (r : ℕ)
-    → Rowed (λ t. overBy t terms o) x i old new r → Rowed (λ t. overBy t terms o') x i old new r
-same-break o o' e terms x i old new r R =
-    subst (λ (b : Option (BreakOf Float)). Rowed (λ t. overBy t terms b) x i old new r) e R
+-- placements and breaks that are the same have the same rows
+pub same-terms : (p p' : Placement) → p ≡ p' → (o o' : Option (BreakOf Float)) → o ≡ o' → (terms : Terms) (x : RowLists) (i : ℕ) (old new : Table) (r : ℕ)
+    → Rowed (λ t. overBy t terms p o) x i old new r → Rowed (λ t. overBy t terms p' o') x i old new r
+same-terms p p' ep o o' e terms x i old new r R =
+    subst (λ (q : Placement). Rowed (λ t. overBy t terms q o') x i old new r) ep
+    (subst (λ (b : Option (BreakOf Float)). Rowed (λ t. overBy t terms p b) x i old new r) e R)

@@ -2,7 +2,7 @@
 use Prim.Native.Nat.{ℕ, zero, suc, _+_, _-_, _<_, _≤_}
 use native.Mathlib.Nat.{le-refl}
 use native.Mathlib.Omega.{arith}
-use mathlib.Core.Path.{_≡_, refl, sym, ap, _∙_}
+use mathlib.Core.Path.{_≡_, refl, sym, ap, ap₂, _∙_}
 use mathlib.Core.List.{List}
 use mathlib.Core.Option.{Option, none, some}
 use lib.ListN.{length, take, drop, length-drop}
@@ -15,14 +15,19 @@ use Rattle.basics.proofs.Parts.{parts-alike, shorter, long-alike}
 use Rattle.cut_theory.specs.Rows.{rule64}
 use Rattle.definitions.specs.Load.{Load}
 use Rattle.definitions.specs.Sheet.{BreakOf}
+use Rattle.models.specs.declared.placement.Placement.{Placement}
+use Rattle.models.specs.declared.placement.Placement.the-variants.{Clock, Least}
 use Rattle.whole.specs.Whole.{fl}
+use Rattle.clock.specs.Least.{KeptF, pickF}
 use Rattle.distance.specs.declared.leg.Leg.{Leg}
 use Rattle.evaluation.specs.Records.{Tables}
 use Rattle.evaluation.specs.Tables.{legF}
 use Rattle.cut_rows.specs.Stretch.{fitsOf, goneOf, wayOf}
 use Rattle.cut_rows.specs.Tariff.{Tariff, stretches, legalOf, farOf, runsOf, farsOf, Ended}
-use Rattle.cut_rows.specs.Runs.{Instance, tariff, endOf, allowedF, payF}
-use Rattle.cut_rows.proofs.Alike.{call-alike, place-alike, load-alike, timed-alike, clock-alike}
+use Rattle.cut_rows.specs.Places.{homeOf, leastTo}
+use Rattle.cut_rows.specs.Runs.{Instance, tariff, endOf, keptOf, leastEnd, endBy, endIn, allowedF, payF}
+use Rattle.cut_rows.proofs.Alike.{call-alike, place-alike, load-alike, timed-alike, clock-alike, label-alike}
+use Rattle.cut_rows.proofs.Placing.{asEnd}
 
 -- ---- stretches that begin alike
 
@@ -46,6 +51,27 @@ module _ (m : ℕ) (st st' : List ℕ) (e : take m st ≡ take m st') where
   end-alike t none = rw (timed-alike m st st' e t m (le-refl m), way-alike (legF t), place-alike m st st' e m (le-refl m)) refl
   end-alike t (some b) = rw (clock-alike m st st' e t b m (le-refl m), way-alike (legF t), place-alike m st st' e m (le-refl m)) refl
 
+  home-alike : (t : Tables) (b : BreakOf Float) (limits : KeptF) (p : ℕ) → homeOf t st b limits m p ≡ homeOf t st' b limits m p
+  unfolding homeOf
+  home-alike t b limits p = rw (label-alike m st st' e t b p m (le-refl m), way-alike (legF t), place-alike m st st' e m (le-refl m)) refl
+
+  least-alike : (t : Tables) (b : BreakOf Float) (limits : KeptF) (p : ℕ) → leastTo t st b limits m p ≡ leastTo t st' b limits m p
+  unfolding leastTo
+  least-alike t b limits zero = home-alike t b limits 0
+  least-alike t b limits (suc p) = ap₂ pickF (least-alike t b limits p) (home-alike t b limits (suc p))
+
+  in-alike : (I : Instance) → endIn I st m ≡ endIn I st' m
+  unfolding endBy leastEnd
+  in-alike I = go (I .placement)
+    where
+      least : (o : Option (BreakOf Float)) → leastEnd (I .tables) st m (I .limits) o ≡ leastEnd (I .tables) st' m (I .limits) o
+      least none = end-alike (I .tables) none
+      least (some b) = ap asEnd (least-alike (I .tables) b (keptOf (I .tables) st m (I .limits)) m)
+
+      go : (p : Placement) → endBy (I .tables) st m (I .limits) p ≡ endBy (I .tables) st' m (I .limits) p
+      go Clock = end-alike (I .tables) (I .limits .rest)
+      go Least = least (I .limits .rest)
+
 -- ---- tariffs that turn on the calls of a run alone
 
 pub record Local (T : Tariff) : Type 0 where
@@ -56,8 +82,8 @@ pub tariff-local : (I : Instance) → Local (tariff I)
 unfolding allowedF payF
 tariff-local I =
     record {
-      allowed-local = λ m st st' e. rw (end-alike m st st' e (I .tables) (I .limits .rest)) refl;
-      pays-local = λ m st st' e. rw (end-alike m st st' e (I .tables) (I .limits .rest)) refl;
+      allowed-local = λ m st st' e. rw (in-alike m st st' e I) refl;
+      pays-local = λ m st st' e. rw (in-alike m st st' e I) refl;
     }
 
 module _ (T : Tariff) (L : Local T) where

@@ -19,10 +19,11 @@ use Rattle.cut_stops.specs.Stops.{StopF}
 use Rattle.cut_rows.specs.declared.rows.Elapsed.{Elapsed}
 use Rattle.cut_rows.specs.Stretch.{joinedF}
 use Rattle.cut_rows.specs.Tariff.{RowOf, Ended}
-use Rattle.cut_rows.specs.Runs.{Instance, tariff, visitF, timedOf, End, endOf, allowedF}
+use Rattle.cut_rows.specs.Runs.{Instance, tariff, visitF, timedOf, End, endIn, allowedF}
 use Rattle.cut_rows.proofs.Along.{Row, Along, OneMore, stopped, far-is, over, onward}
 use Rattle.cut_rows.proofs.Roads.{home-closed}
-use Rattle.cut_rows.proofs.Clocks.{not-ended, allowed-is, pay-is, end-closed, timed-more, end-timed}
+use Rattle.cut_rows.proofs.Clocks.{plain-end, not-ended, allowed-is, pay-is, timed-more, end-timed}
+use Rattle.cut_rows.proofs.Placing.{closed-end}
 use Rattle.cut_rows.proofs.Ends.{shut-over}
 use Rattle.cut_rows.proofs.Calls.{CallIs, leg-closed, leg-open}
 
@@ -92,7 +93,7 @@ module _ (I : Instance) (unbroken : I .limits .rest ≡ none) {R : Row} {new : T
         next new
         (over (A .along) one-more
         (not-ended I (R .st) (suc m)
-        (end-closed (I .tables) (R .st) (suc m) (home-closed (legF (I .tables)) (R .st) (suc m) (leg-closed _ (s .back) (s .timeBack) (C .home-is) z)) (I .limits .rest))))
+        (closed-end I (R .st) (suc m) (home-closed (legF (I .tables)) (R .st) (suc m) (leg-closed _ (s .back) (s .timeBack) (C .home-is) z)))))
 
     -- it is open
     module _ (back : Float) (eb : roadF (s .back) ≡ some back) where
@@ -108,10 +109,10 @@ module _ (I : Instance) (unbroken : I .limits .rest ≡ none) {R : Row} {new : T
       abbrev ending : End
       ending = record { distance = total; duration = add binary64 (v .time) (s .timeBack); pay = v .«late_cost» }
 
-      end-is : endOf (I .tables) (R .st) (suc m) (I .limits .rest) ≡ some ending
+      end-is : endIn I (R .st) (suc m) ≡ some ending
       unfolding placeBefore
       end-is =
-          ap (endOf (I .tables) (R .st) (suc m)) unbroken
+          plain-end I unbroken (R .st) (suc m)
           ∙ end-timed (I .tables) (R .st) (suc m) total home (far-is (A .along) one-more home home-is) home-is v (timed-is ∙ ev)
 
       abbrev allows : Bool

@@ -1,4 +1,4 @@
--- Row i with a break, call by call: beside what every row keeps, the clock after m calls. Assumes nothing.
+-- Row i with a break where the clock puts it, call by call: beside what every row keeps, the clock after m calls. Assumes nothing.
 use Prim.Native.Nat.{ℕ, suc, _+_, _<_, _≤_}
 use native.Mathlib.Numerals.{add-one}
 use mathlib.Core.Path.{_≡_, sym, ap, _∙_}
@@ -9,6 +9,7 @@ use lib.Dec.{eqb}
 use lib.Ieee.{Float, binary64, add}
 use Rattle.cut_theory.specs.Tab.{mostCut}
 use Rattle.definitions.specs.Sheet.{BreakOf, CustomerOf}
+use Rattle.models.specs.declared.placement.Placement.the-variants.{Clock}
 use Rattle.models.specs.Limits.{allowF}
 use Rattle.distance.specs.declared.leg.Leg.{Leg}
 use Rattle.distance.specs.Lookup.{roadF}
@@ -21,10 +22,11 @@ use Rattle.definitions.specs.Load.{Load, plus, carried}
 use Rattle.cut_stops.specs.Stops.{StopF}
 use Rattle.cut_rows.specs.Stretch.{joinedF}
 use Rattle.cut_rows.specs.Tariff.{RowOf, Ended}
-use Rattle.cut_rows.specs.Runs.{Instance, tariff, clockOf, End, endOf, allowedF}
+use Rattle.cut_rows.specs.Runs.{Instance, tariff, clockOf, End, endIn, allowedF}
 use Rattle.cut_rows.proofs.Along.{Row, Along, OneMore, stopped, far-is, over, onward}
 use Rattle.cut_rows.proofs.Roads.{home-closed}
-use Rattle.cut_rows.proofs.Clocks.{not-ended, allowed-is, pay-is, end-closed, clock-more, ended, end-finished}
+use Rattle.cut_rows.proofs.Clocks.{clock-end, not-ended, allowed-is, pay-is, clock-more, ended, end-finished}
+use Rattle.cut_rows.proofs.Placing.{closed-end}
 use Rattle.cut_rows.proofs.Ends.{dead-over}
 use Rattle.cut_rows.proofs.Calls.{CallIs, leg-closed, leg-open}
 
@@ -48,7 +50,7 @@ unfolding pushF
 next-index clock clock' cid c travel m e h = ap (λ (x : ClockF). x .index) e ∙ ap (λ (n : ℕ). n + 1) h
 
 -- a call whose load fits, with the leg to it, which is open
-module _ (I : Instance) (rest : BreakOf Float) (broken : I .limits .rest ≡ some rest) {R : Row} {new : Table} {load : Load} {gone : Float}
+module _ (I : Instance) (by : I .placement ≡ Clock) (rest : BreakOf Float) (broken : I .limits .rest ≡ some rest) {R : Row} {new : Table} {load : Load} {gone : Float}
     {clock : ClockF} {m : ℕ} {load' : Load} {gone' : Float} {clock' : ClockF} (s : StopF) (listed travel leg : Float)
     (A : RestAlong I rest R new load gone clock m) (C : CallIs (I .tables) (R .st) m s listed travel)
     (b : m < length (R .st)) (short : R .i + length (R .st) ≤ mostCut)
@@ -86,7 +88,7 @@ module _ (I : Instance) (rest : BreakOf Float) (broken : I .limits .rest ≡ som
   -- no label is left
   pub dead : aliveF clock' ≡ false → RowOf (tariff I) (R .st) (R .i) (R .old) new × Ended (tariff I) (R .st) m
   dead e =
-      let E = dead-over I (R .st) m (A .along .within) rest broken clock' clock-is e in
+      let E = dead-over I (R .st) m (A .along .within) by rest broken clock' clock-is e in
       (stopped (A .along) b E, E)
 
   -- after it
@@ -97,7 +99,7 @@ module _ (I : Instance) (rest : BreakOf Float) (broken : I .limits .rest ≡ som
   next new' N = record { along = N; is-clock = ap (clockOf (I .tables) (R .st) rest) (add-one m) ∙ clock-is }
 
   -- the run has no end
-  no-end : endOf (I .tables) (R .st) (suc m) (I .limits .rest) ≡ none → Next new
+  no-end : endIn I (R .st) (suc m) ≡ none → Next new
   no-end z = next new (over (A .along) one-more (not-ended I (R .st) (suc m) z))
 
   -- the way home is closed
@@ -105,7 +107,7 @@ module _ (I : Instance) (rest : BreakOf Float) (broken : I .limits .rest ≡ som
   unfolding placeBefore
   homeless z =
       no-end
-      (end-closed (I .tables) (R .st) (suc m) (home-closed (legF (I .tables)) (R .st) (suc m) (leg-closed _ (s .back) (s .timeBack) (C .home-is) z)) (I .limits .rest))
+      (closed-end I (R .st) (suc m) (home-closed (legF (I .tables)) (R .st) (suc m) (leg-closed _ (s .back) (s .timeBack) (C .home-is) z)))
 
   -- it is open, and this is what the clock reports of the run that ends here
   module _ (back : Float) (eb : roadF (s .back) ≡ some back) (o : Option Scheduled) (eo : o ≡ finishF (add binary64 gone' back) (s .timeBack) clock') where
@@ -118,10 +120,10 @@ module _ (I : Instance) (rest : BreakOf Float) (broken : I .limits .rest ≡ som
     abbrev total : Float
     total = add binary64 gone' back
 
-    end-is : endOf (I .tables) (R .st) (suc m) (I .limits .rest) ≡ ended total o
+    end-is : endIn I (R .st) (suc m) ≡ ended total o
     unfolding placeBefore
     end-is =
-        ap (endOf (I .tables) (R .st) (suc m)) broken
+        clock-end I by rest broken (R .st) (suc m)
         ∙ end-finished (I .tables) (R .st) (suc m) total home (far-is (A .along) one-more home home-is) home-is rest clock' o clock-is (sym eo)
 
     -- the clock has no end
@@ -133,7 +135,7 @@ module _ (I : Instance) (rest : BreakOf Float) (broken : I .limits .rest ≡ som
       abbrev ending : End
       ending = record { distance = total; duration = x .duration; pay = x .cost }
 
-      some-end : endOf (I .tables) (R .st) (suc m) (I .limits .rest) ≡ some ending
+      some-end : endIn I (R .st) (suc m) ≡ some ending
       some-end = end-is ∙ ap (ended total) ex
 
       abbrev allows : Bool

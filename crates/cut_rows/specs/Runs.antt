@@ -1,5 +1,5 @@
--- The runs along a stretch by windows, limits and break on floats, as the code has them: the clocks of a stretch, the price of a run, and
--- what a row does. Definitions only.
+-- The runs along a stretch by windows, limits and break on floats, as the code has them: the clocks of a stretch, the price of a run for
+-- either placement of its break, and what a row does. Definitions only.
 use Prim.Native.Nat.{ℕ, zero, suc, _≤_}
 use mathlib.Core.Bool.{Bool, cond}
 use mathlib.Core.List.{List, [], _∷_}
@@ -16,6 +16,8 @@ use Rattle.models.specs.declared.customer.Customer.{Customer}
 use Rattle.models.specs.declared.load.Space.{Space}
 use Rattle.models.specs.Load.{spaceOf}
 use Rattle.models.specs.declared.limits.RouteLimits.{RouteLimits}
+use Rattle.models.specs.declared.placement.Placement.{Placement}
+use Rattle.models.specs.declared.placement.Placement.the-variants.{Clock, Least}
 use Rattle.models.specs.Records.{restOf, limitOf}
 use Rattle.models.specs.Limits.{allowF}
 use Rattle.models.specs.Window.{lateF}
@@ -24,6 +26,7 @@ use Rattle.whole.specs.Larger.{largerF}
 use Rattle.distance.specs.declared.leg.Leg.{Leg}
 use Rattle.clock.specs.Records.{ClockF}
 use Rattle.clock.specs.Clock.{begunF, pushF, finishF}
+use Rattle.clock.specs.Least.{KeptF}
 use Rattle.evaluation.specs.Records.{Tables, LimitsF}
 use Rattle.evaluation.specs.Records as Evaluation
 use Rattle.evaluation.specs.Tables.{recordF, demandF, legF, placeBefore}
@@ -35,6 +38,7 @@ use Rattle.cut_rows.specs.declared.rows.Visited.{Visited}
 use Rattle.cut_rows.specs.declared.rows.Visited.the-variants.{Shut, Open}
 use Rattle.cut_rows.specs.Stretch.{joinedF, wayOf}
 use Rattle.cut_rows.specs.Tariff.{Tariff, RowOf, Ended}
+use Rattle.cut_rows.specs.Places.{leastOf}
 
 -- ---- what is lent
 
@@ -44,10 +48,12 @@ pub record Instance : Type 0 where
   -- the cost added for every run
   pub fixed : Float
   pub limits : LimitsF
+  -- where a run's break goes
+  pub placement : Placement
 
--- over tables and on these terms, with this break, whatever break the limits have
-abbrev pub overBy : Tables → Terms → Option (BreakOf Float) → Instance
-overBy t terms rest =
+-- over tables and on these terms, with this placement and this break, whatever the terms have
+abbrev pub overBy : Tables → Terms → Placement → Option (BreakOf Float) → Instance
+overBy t terms placement rest =
     record {
       tables = t;
       capacity = spaceOf (terms .capacity);
@@ -58,14 +64,16 @@ overBy t terms rest =
             maxDuration = limitOf (terms .limits .«max_duration»);
             rest = rest;
           };
+      placement = placement;
     }
 
 abbrev pub over : Tables → Terms → Instance
-over t terms = overBy t terms (restOf (terms .limits .rest))
+over t terms = overBy t terms (terms .placement) (restOf (terms .limits .rest))
 
-abbrev pub lent : List Customer → List Float → List Float → ℕ → Space → Float → RouteLimits → Instance
-lent customers distances times size capacity fixed limits =
-    over (Evaluation.lent customers distances times size) (record { capacity = capacity; fixed = fixed; limits = limits })
+abbrev pub lent : List Customer → List Float → List Float → ℕ → Space → Float → RouteLimits → Placement → Instance
+lent customers distances times size capacity fixed limits placement =
+    over (Evaluation.lent customers distances times size)
+    (record { capacity = capacity; fixed = fixed; limits = limits; placement = placement })
 
 -- ---- a call without a break, reached at this time with so much lateness cost
 
@@ -135,6 +143,20 @@ module _ (t : Tables) (st : List ℕ) (m : ℕ) where
     s ← finishF far (back .time) x
     some (record { distance = far; duration = s .duration; pay = s .cost })
 
+-- by the placement of the break: where the clock puts it, or with the best of all places
+module _ (t : Tables) (st : List ℕ) (m : ℕ) (limits : LimitsF) where
+  abbrev pub keptOf : KeptF
+  keptOf = record { maxDistance = limits .maxDistance; maxDuration = limits .maxDuration }
+
+  unfoldable pub leastEnd : Option (BreakOf Float) → Option End
+  leastEnd none = endOf t st m none
+  leastEnd (some b) =
+      leastOf t st b keptOf m >>= λ s. some (record { distance = s .distance; duration = s .duration; pay = s .cost })
+
+  unfoldable pub endBy : Placement → Option End
+  endBy Clock = endOf t st m (limits .rest)
+  endBy Least = leastEnd (limits .rest)
+
 abbrev pub payOf : Option End → Float
 payOf none = fl 0
 payOf (some e) = e .pay
@@ -142,14 +164,17 @@ payOf (some e) = e .pay
 -- ---- the price of a run
 
 module _ (I : Instance) where
-  -- its clock gives an end, and its totals are allowed
+  abbrev pub endIn : List ℕ → ℕ → Option End
+  endIn st m = endBy (I .tables) st m (I .limits) (I .placement)
+
+  -- it has an end, and its totals are allowed
   unfoldable pub allowedF : List ℕ → ℕ → Bool
   allowedF st m =
-      holds (endOf (I .tables) st m (I .limits .rest))
+      holds (endIn st m)
       (λ e. allowF (I .limits .maxDistance) (I .limits .maxDuration) (e .distance) (e .duration))
 
   unfoldable pub payF : List ℕ → ℕ → Float
-  payF st m = payOf (endOf (I .tables) st m (I .limits .rest))
+  payF st m = payOf (endIn st m)
 
   abbrev pub tariff : Tariff
   tariff =

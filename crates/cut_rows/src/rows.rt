@@ -4,6 +4,7 @@ ghost use mathlib.Core.Path.{_≡_};
 ghost use mathlib.Core.Option.{none, some};
 ghost use Prim.Native.Nat.{_+_, _<_, _≤_};
 ghost use lib.ListN.{length};
+ghost use Rattle.models.specs.declared.placement.Placement.the-variants.{Clock, Least};
 ghost use Rattle.models.specs.Records.{openingOf, penaltyOf, customerOf, breakOf};
 ghost use Rattle.clock.specs.Records.{clockOf};
 ghost use Rattle.clock.specs.Clock.{pushF};
@@ -16,6 +17,12 @@ use crate::way::leg_to;
 use crate::way::way_to;
 use clock::schedule::BreakClock;
 use clock::schedule::Finished;
+use clock::schedule::Label;
+use clock::schedule::Reached;
+use clock::schedule::carry;
+use cut_labels::labels::best_home;
+use cut_labels::labels::call_served;
+use cut_labels::labels::some_left;
 use cut_stops::stops::stop_at;
 use cut_table::cells::CELLS;
 use cut_table::cells::offer;
@@ -25,6 +32,7 @@ use models::customer::Customer;
 use models::customer::Opening;
 use models::customer::Penalty;
 use models::load::Load;
+use models::placement::Placement;
 use models::vehicle::Rest;
 use models::vehicle::VehicleBreak;
 use whole::larger;
@@ -101,7 +109,7 @@ pub fn plain_row(
         (now (codes .entry)) (now (figures .entry)) in
         let old = table (now (cost .entry)) (now (dist .entry)) (now (pred .entry)) in
         let new = table (now (cost .exit)) (now (dist .exit)) (now (pred .exit)) in
-        ⌜ Rowed (λ t. overBy t terms none) x i old new r ⌝ }
+        ⌜ Rowed (λ t. overBy t terms (terms .placement) none) x i old new r ⌝ }
     ensures { λ r. ⌜ i + r ≤ length (now (held .entry)) ⌝ }
 {
     let base = cost[i] + terms.fixed;
@@ -163,7 +171,8 @@ fn pushed(clock: BreakClock, run: &[usize], customer: Customer, travel: f64) -> 
     }
 }
 
-// Row i with a break: the clock is handed each run, which is a call longer than the one before it.
+// Row i with a break where the clock puts it: the clock is handed each run, which is a call longer than the one
+// before it.
 pub fn rest_row(
     cost: &mut [f64; CELLS],
     dist: &mut [f64; CELLS],
@@ -184,7 +193,7 @@ pub fn rest_row(
         (now (codes .entry)) (now (figures .entry)) in
         let old = table (now (cost .entry)) (now (dist .entry)) (now (pred .entry)) in
         let new = table (now (cost .exit)) (now (dist .exit)) (now (pred .exit)) in
-        ⌜ Rowed (λ t. overBy t terms (some (breakOf rest))) x i old new r ⌝ }
+        ⌜ Rowed (λ t. overBy t terms Clock (some (breakOf rest))) x i old new r ⌝ }
     ensures { λ r. ⌜ i + r ≤ length (now (held .entry)) ⌝ }
 {
     let base = cost[i] + terms.fixed;
@@ -230,7 +239,155 @@ pub fn rest_row(
     m
 }
 
-// Row i, with the break of the limits or without one.
+// Row i with a break at its best place: the labels of all places are handed each run in turn.
+pub fn least_row(
+    cost: &mut [f64; CELLS],
+    dist: &mut [f64; CELLS],
+    pred: &mut [usize; CELLS],
+    held: &[usize],
+    legs: &[f64],
+    time_legs: &[f64],
+    codes: &[u32],
+    figures: &[f64],
+    terms: Terms,
+    rest: VehicleBreak,
+    i: usize,
+) -> usize
+    requires { let x = rowLists (now held) (now legs) (now «time_legs») (now codes) (now figures) in
+        ⌜ RowReady x i (table (now cost) (now dist) (now pred)) ⌝ }
+    ensures { λ r.
+        let x = rowLists (now (held .entry)) (now (legs .entry)) (now («time_legs» .entry))
+        (now (codes .entry)) (now (figures .entry)) in
+        let old = table (now (cost .entry)) (now (dist .entry)) (now (pred .entry)) in
+        let new = table (now (cost .exit)) (now (dist .exit)) (now (pred .exit)) in
+        ⌜ Rowed (λ t. overBy t terms Least (some (breakOf rest))) x i old new r ⌝ }
+    ensures { λ r. ⌜ i + r ≤ length (now (held .entry)) ⌝ }
+{
+    let base = cost[i] + terms.fixed;
+    let ahead = dist[i];
+    let mut times = [0.0; CELLS];
+    let mut lates = [0.0; CELLS];
+    let mut pays = [0.0; CELLS];
+    let mut places = [0usize; CELLS];
+    let mut n = 0;
+    let mut before = Reached::At(Label::start());
+    let mut load = Load::none();
+    let mut gone = 0.0;
+    let left = held.len() - i;
+    let mut m = 0;
+    while m < left {
+        let last = i + m;
+        let j = last + 1;
+        let run = &held[i..j];
+        let stop = stop_at(codes, figures, last_call(run));
+        load = load.plus(stop.customer.demand);
+        if !load.fits(terms.capacity) {
+            return m;
+        }
+        let Road::Length(leg) = road_of(leg_to(run, stop.out, legs[last])) else {
+            return m;
+        };
+        gone = way_to(run, gone, leg);
+        let travel = leg_to(run, stop.time_out, time_legs[last]);
+        let number = m + 1;
+        n = call_served(
+            &mut times,
+            &mut lates,
+            &mut pays,
+            &mut places,
+            n,
+            before,
+            travel,
+            stop.customer,
+            number,
+            rest,
+        );
+        before = carry(before, travel, stop.customer, number, Rest::Unbroken);
+        if !some_left(before, n) {
+            return m;
+        }
+        m = number;
+        let Road::Length(back) = road_of(stop.back) else {
+            continue;
+        };
+        let total = gone + back;
+        let Finished::Home(done) = best_home(
+            &times,
+            &lates,
+            &pays,
+            &places,
+            n,
+            before,
+            rest,
+            terms.limits,
+            total,
+            stop.time_back,
+        ) else {
+            continue;
+        };
+        let new = base + total + done.cost;
+        let far = ahead + total;
+        offer(&mut *cost, &mut *dist, &mut *pred, j, i, new, far);
+    }
+    m
+}
+
+// Row i with this break, by the placement.
+pub fn broken_row(
+    cost: &mut [f64; CELLS],
+    dist: &mut [f64; CELLS],
+    pred: &mut [usize; CELLS],
+    held: &[usize],
+    legs: &[f64],
+    time_legs: &[f64],
+    codes: &[u32],
+    figures: &[f64],
+    terms: Terms,
+    rest: VehicleBreak,
+    i: usize,
+) -> usize
+    requires { let x = rowLists (now held) (now legs) (now «time_legs») (now codes) (now figures) in
+        ⌜ RowReady x i (table (now cost) (now dist) (now pred)) ⌝ }
+    ensures { λ r.
+        let x = rowLists (now (held .entry)) (now (legs .entry)) (now («time_legs» .entry))
+        (now (codes .entry)) (now (figures .entry)) in
+        let old = table (now (cost .entry)) (now (dist .entry)) (now (pred .entry)) in
+        let new = table (now (cost .exit)) (now (dist .exit)) (now (pred .exit)) in
+        ⌜ Rowed (λ t. overBy t terms (terms .placement) (some (breakOf rest))) x i old new r ⌝ }
+    ensures { λ r. ⌜ i + r ≤ length (now (held .entry)) ⌝ }
+{
+    let placement = terms.placement;
+    match placement {
+        Placement::Clock => rest_row(
+            &mut *cost,
+            &mut *dist,
+            &mut *pred,
+            held,
+            legs,
+            time_legs,
+            codes,
+            figures,
+            terms,
+            rest,
+            i,
+        ),
+        Placement::Least => least_row(
+            &mut *cost,
+            &mut *dist,
+            &mut *pred,
+            held,
+            legs,
+            time_legs,
+            codes,
+            figures,
+            terms,
+            rest,
+            i,
+        ),
+    }
+}
+
+// Row i, without a break or with that of the limits.
 pub fn row(
     cost: &mut [f64; CELLS],
     dist: &mut [f64; CELLS],
@@ -268,7 +425,7 @@ pub fn row(
             terms,
             i,
         ),
-        Rest::Break(b) => rest_row(
+        Rest::Break(b) => broken_row(
             &mut *cost,
             &mut *dist,
             &mut *pred,

@@ -1,6 +1,7 @@
 // What every run of a cut is held to, and the cost that is added for it.
 use models::limits::RouteLimits;
 use models::load::Space;
+use models::placement::Placement;
 
 pub struct Terms {
     // what a vehicle holds
@@ -8,4 +9,6 @@ pub struct Terms {
     // the cost added for every run
     pub fixed: f64,
     pub limits: RouteLimits,
+    // where a run's break goes
+    pub placement: Placement,
 }

@@ -8,17 +8,18 @@ use Rattle.definitions.specs.Sheet.{asking, Window, Break, Customer, She
 use Rattle.definitions.specs.Window.{enter}
 use Rattle.definitions.specs.Run.{serveAt, Totals, Run, ready, serveAll, closedFrom, home, ride, placed, legal, runCost}
 use Rattle.definitions.specs.Clock.{clockFrom, clock, startOf, arc}
-use Rattle.definitions.specs.Evaluation.{routeEval, routeFeasible, effectiveCost}
+use Rattle.definitions.specs.Placement.{rideAt, leastRide, leastArc}
+use Rattle.definitions.specs.Evaluation.{routeEval, leastEval, routeFeasible, effectiveCost}
 use Rattle.definitions.specs.Cutting.{pointsFrom, cheapest, stuck}
-use Rattle.definitions.specs.Drop.{dropFrom, drops, Result, splitTw, plainArc, split}
+use Rattle.definitions.specs.Drop.{dropFrom, drops, Result, splitTw, splitLeast, plainArc, split}
 use Rattle.definitions.specs.Visits.{visited, visitsFrom, windowsFrom, lastLabel, openRoute, buildRoute}
 use Rattle.definitions.specs.Marker.{walkFault, runFault, markAgainst}
 
 -- what the cases are computed through
 unfoldable pub opened : Unit {0}
-unfolding splitTw drops dropFrom stuck cheapest pointsFrom arc clock clockFrom serveAt ready enter split plainArc drive closedFrom home
-    routeEval routeFeasible effectiveCost startOf serveAll ride placed legal
-    runCost visited visitsFrom windowsFrom lastLabel openRoute buildRoute markAgainst runFault walkFault
+unfolding splitTw splitLeast drops dropFrom stuck cheapest pointsFrom arc clock clockFrom serveAt ready enter split plainArc drive closedFrom home
+    routeEval leastEval routeFeasible effectiveCost startOf serveAll ride placed legal
+    rideAt leastRide leastArc runCost visited visitsFrom windowsFrom lastLabel openRoute buildRoute markAgainst runFault walkFault
 opened = tt
 
 -- ---- the sheets: places 3, demands 2, fixed 0, no service

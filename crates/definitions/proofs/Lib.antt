@@ -12,6 +12,8 @@ pub mod AnswerCases
 pub mod EvaluationCases
 pub mod VisitCases
 pub mod MarkCases
+-- The break where the least is paid for lateness.
+pub mod PlacementCases
 -- The improvers.
 pub mod ImproverCases
 -- What these do not tell apart: sheets without numbers that are alike by chance, and the range of each number.

@@ -5,10 +5,11 @@ use mathlib.Core.Bool.{Bool}
 use mathlib.Core.List.{List, []}
 use mathlib.Core.Option.{Option, none, some}
 use Rattle.definitions.specs.Sheet.{Customer, Sheet}
-use Rattle.definitions.specs.Evaluation.{Evaluation, routeFeasible, routeEval, effectiveCost}
-use Rattle.definitions.specs.Drop.{Result, splitTw, split}
+use Rattle.definitions.specs.Placement.{Placement, byClock}
+use Rattle.definitions.specs.Evaluation.{Evaluation, routeFeasible, evalBy, effectiveCost}
+use Rattle.definitions.specs.Drop.{Result, splitBy, split}
 use Rattle.definitions.specs.Visits.{Route, buildRoute}
-use Rattle.definitions.specs.Marker.{Verdict, withPlaces, mark}
+use Rattle.definitions.specs.Marker.{Verdict, withPlaces, markBy}
 use Rattle.definitions.specs.Improver.{givenOf}
 use Rattle.definitions.specs.RunList.{runsOf, callsOf, endsOf}
 use Rattle.definitions.specs.TwoOpt.{improved, improvedDistance}
@@ -56,16 +57,22 @@ module _ {F : Type 0} (value : F → Option ℕ) where
   abbrev pub routeFeasibleOf : Lent F → Answer Bool
   routeFeasibleOf l = answer evaluating (λ s. routeFeasible s (l .calls)) l
 
+  abbrev pub evalByOf : Placement → Lent F → Answer (Option Evaluation)
+  evalByOf p l = answer evaluating (λ s. evalBy p s (l .calls)) l
+
   abbrev pub routeEvalOf : Lent F → Answer (Option Evaluation)
-  routeEvalOf l = answer evaluating (λ s. routeEval s (l .calls)) l
+  routeEvalOf l = evalByOf byClock l
 
   abbrev pub effectiveCostOf : Lent F → Answer (Option ℕ)
   effectiveCostOf l = answer evaluating (λ s. effectiveCost s (l .calls)) l
 
   -- ---- cutting: `served`, `ends` and `dropped` are written
 
+  abbrev pub splitByOf : Placement → Lent F → Answer Result
+  splitByOf p l = answer cutting (λ s. splitBy p s (l .tour)) l
+
   abbrev pub splitTwOf : Lent F → Answer Result
-  splitTwOf l = answer cutting (λ s. splitTw s (l .tour)) l
+  splitTwOf l = splitByOf byClock l
 
   abbrev pub splitOf : Lent F → Answer Result
   splitOf l = answer cutting (λ s. split s (l .tour)) l
@@ -77,8 +84,11 @@ module _ {F : Type 0} (value : F → Option ℕ) where
 
   -- ---- the marker: nothing is written
 
+  abbrev pub markByOf : Placement → Lent F → Answer Verdict
+  markByOf p l = answer marking (λ s. markBy p s (l .tour) (withPlaces (runsOf (l .calls) (l .ends)) (l .breaks))) l
+
   abbrev pub markOf : Lent F → Answer Verdict
-  markOf l = answer marking (λ s. mark s (l .tour) (withPlaces (runsOf (l .calls) (l .ends)) (l .breaks))) l
+  markOf l = markByOf byClock l
 
   -- ---- the improvers: `calls`, and `ends`, are written
 

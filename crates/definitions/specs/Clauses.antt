@@ -11,35 +11,34 @@ use Rattle.definitions.specs.Run.{Run}
 use Rattle.definitions.specs.RunList.{runsOf}
 use Rattle.definitions.specs.Cutting.{joined, legalCutting, cuttingCost}
 use Rattle.definitions.specs.Drop.{callsAt, allHeld}
-use Rattle.definitions.specs.Promise.{HasCutting, Settles, Parts, clockRun, ClockRival, Ties}
+use Rattle.definitions.specs.Placement.{Placement, byClock, byPay}
+use Rattle.definitions.specs.Promise.{HasCutting, Settles, Parts, placedRun, AnyRival, ClockRival, Rival, Ties}
 
--- the runs that served customers and run ends make, with their breaks where the clock puts them
-abbrev pub returned : Sheet → (served ends : List ℕ) → List Run
-returned s served ends = map (clockRun s) (runsOf served ends)
+-- the runs that served customers and run ends make, with their breaks where the placement puts them
+abbrev pub returned : Placement → Sheet → (served ends : List ℕ) → List Run
+returned p s served ends = map (placedRun p s) (runsOf served ends)
 
 -- the cutting returned is a legal cutting of the served calls
-abbrev pub Legal : Sheet → (served ends : List ℕ) → Type 0
-Legal s served ends = (joined (returned s served ends) ≡ served) × (legalCutting s (returned s served ends) ≡ true)
+abbrev pub Legal : Placement → Sheet → (served ends : List ℕ) → Type 0
+Legal p s served ends = (joined (returned p s served ends) ≡ served) × (legalCutting s (returned p s served ends) ≡ true)
 
 -- its run costs add up to the returned cost
-abbrev pub Sum : Sheet → (served ends : List ℕ) (cost : ℕ) → Type 0
-Sum s served ends cost = cuttingCost s (returned s served ends) ≡ cost
+abbrev pub Sum : Placement → Sheet → (served ends : List ℕ) (cost : ℕ) → Type 0
+Sum p s served ends cost = cuttingCost s (returned p s served ends) ≡ cost
 
--- every other legal cutting of the served calls costs at least as much: without lateness pay, whatever legal break places its runs have ..
-abbrev pub LeastFree : Sheet → (served : List ℕ) (cost : ℕ) → Type 0
-LeastFree s served cost =
-    latenessPay s ≡ false → (rival : List Run) → joined rival ≡ served → legalCutting s rival ≡ true → cost ≤ cuttingCost s rival
+-- every other cutting of the served calls that is among these costs at least as much
+abbrev pub LeastAmong : (List Run → Type 0) → Sheet → (served : List ℕ) (cost : ℕ) → Type 0
+LeastAmong Among s served cost = (rival : List Run) → joined rival ≡ served → Among rival → cost ≤ cuttingCost s rival
 
--- .. with it, with breaks where the clock puts them. It is stronger than asked: it holds without lateness pay too.
-abbrev pub LeastByClock : Sheet → (served : List ℕ) (cost : ℕ) → Type 0
-LeastByClock s served cost = (rival : List Run) → joined rival ≡ served → ClockRival s rival → cost ≤ cuttingCost s rival
-
-abbrev pub Least : Sheet → (served : List ℕ) (cost : ℕ) → Type 0
-Least s served cost = LeastFree s served cost × LeastByClock s served cost
+-- By the clock: without lateness pay every legal one, whatever its break places; with it every legal one with breaks where the clock puts
+-- them, which is stronger than asked, since it holds without lateness pay too. By least pay: every legal one, lateness pay or not.
+abbrev pub Least : Placement → Sheet → (served : List ℕ) (cost : ℕ) → Type 0
+Least byClock s served cost = (latenessPay s ≡ false → LeastAmong (AnyRival s) s served cost) × LeastAmong (ClockRival s) s served cost
+Least byPay s served cost = LeastAmong (AnyRival s) s served cost
 
 -- of equal cost the earlier cut point is kept
-abbrev pub Tied : Sheet → (served ends : List ℕ) → Type 0
-Tied s served ends = Ties s (ClockRival s) (returned s served ends)
+abbrev pub Tied : Placement → Sheet → (served ends : List ℕ) → Type 0
+Tied p s served ends = Ties s (Rival p s) (returned p s served ends)
 
 -- A call is dropped exactly when it is, among the calls then held, the end of the shortest beginning without a legal cutting, and the drops
 -- are returned in that order. When no such beginning is left, these positions are held ..
@@ -77,11 +76,11 @@ bare s =
 
 -- ---- all of them, with one list of positions held for the last three
 
-pub record Clauses (s : Sheet) (tour served ends dropped : List ℕ) (cost : ℕ) : Type 0 where
-  pub legal : Legal s served ends
-  pub sum : Sum s served ends cost
-  pub least : Least s served cost
-  pub ties : Tied s served ends
+pub record Clauses (p : Placement) (s : Sheet) (tour served ends dropped : List ℕ) (cost : ℕ) : Type 0 where
+  pub legal : Legal p s served ends
+  pub sum : Sum p s served ends cost
+  pub least : Least p s served cost
+  pub ties : Tied p s served ends
   pub held : List ℕ
   pub served-are : Served tour held served
   pub drops : Drops s tour held dropped

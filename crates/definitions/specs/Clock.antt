@@ -74,8 +74,11 @@ pub record Arc : Type 0 where
   pub place : ℕ
   pub cost : ℕ
 
--- the run by the clock; none where it is not legal
+-- the price of a run that comes to t; none where it is not legal
+abbrev pub arcOf : Sheet → List ℕ → Totals → Option Arc
+arcOf s calls t =
+    given (not (isEmpty calls) && fits s calls && allowed s t) (record { place = t .place; cost = price s (t .distance) (t .pay) })
+
+-- by the clock
 unfoldable pub arc : Sheet → List ℕ → Option Arc
-arc s calls = do
-  t ← clock s calls
-  given (not (isEmpty calls) && fits s calls && allowed s t) (record { place = t .place; cost = price s (t .distance) (t .pay) })
+arc s calls = clock s calls >>= arcOf s calls

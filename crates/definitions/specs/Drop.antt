@@ -9,6 +9,7 @@ use Rattle.basics.specs.Lists.{isEmpty, sum, without, count}
 use Rattle.definitions.specs.Sheet.{Sheet}
 use Rattle.definitions.specs.Run.{distanceFrom, fits, price, lengthOf}
 use Rattle.definitions.specs.Clock.{Arc, arc}
+use Rattle.definitions.specs.Placement.{Placement, byClock, byPay, leastArc}
 use Rattle.definitions.specs.Cutting.{Best, nothing, runEnds, cheapest, stuck}
 
 -- a call is a tour position, from 1: its customer
@@ -80,6 +81,15 @@ planBy arc s tour = let h = drops arc tour in result s tour h (cutOf arc tour h)
 -- by the clock
 unfoldable pub splitTw : Sheet → List ℕ → Result
 splitTw s tour = planBy (arc s) s tour
+
+-- by the least lateness pay
+unfoldable pub splitLeast : Sheet → List ℕ → Result
+splitLeast s tour = planBy (leastArc s) s tour
+
+-- for either placement of the breaks
+abbrev pub splitBy : Placement → Sheet → List ℕ → Result
+splitBy byClock s tour = splitTw s tour
+splitBy byPay s tour = splitLeast s tour
 
 -- by loads and closed legs alone: windows, limits and break are ignored
 unfoldable pub plainArc : Sheet → List ℕ → Option Arc

@@ -9,6 +9,7 @@ use Rattle.basics.specs.Options.{_>>=_, present, given}
 use Rattle.definitions.specs.Sheet.{Sheet}
 use Rattle.definitions.specs.Run.{Totals, allowed}
 use Rattle.definitions.specs.Clock.{clock, startOf}
+use Rattle.definitions.specs.Placement.{Placement, byClock, byPay, leastRide}
 
 -- what a run that is allowed comes to
 pub record Evaluation : Type 0 where
@@ -17,11 +18,22 @@ pub record Evaluation : Type 0 where
   -- when the break starts, if there is one
   pub start : Option ℕ
 
--- none where the run is not allowed
+-- of a run that comes to t; none where it is not allowed
+abbrev pub evalOf : Sheet → List ℕ → Totals → Option Evaluation
+evalOf s calls t = given (allowed s t) (record { totals = t; start = startOf s (record { calls = calls; place = t .place }) })
+
+-- by the clock
 unfoldable pub routeEval : Sheet → List ℕ → Option Evaluation
-routeEval s calls = do
-  t ← clock s calls
-  given (allowed s t) (record { totals = t; start = startOf s (record { calls = calls; place = t .place }) })
+routeEval s calls = clock s calls >>= evalOf s calls
+
+-- by the least lateness pay
+unfoldable pub leastEval : Sheet → List ℕ → Option Evaluation
+leastEval s calls = leastRide s calls >>= evalOf s calls
+
+-- for either placement
+abbrev pub evalBy : Placement → Sheet → List ℕ → Option Evaluation
+evalBy byClock s calls = routeEval s calls
+evalBy byPay s calls = leastEval s calls
 
 unfoldable pub routeFeasible : Sheet → List ℕ → Bool
 routeFeasible s calls = present (routeEval s calls)

@@ -3,11 +3,12 @@
 pub mod Domain
 pub mod Load
 pub mod Sheet
--- A run: windows, limits, the break at a given call, and by the clock.
+-- A run: windows, limits, the break at a given call, by the clock, and with the least lateness pay.
 pub mod Window
 pub mod Limits
 pub mod Run
 pub mod Clock
+pub mod Placement
 pub mod Evaluation
 -- Run lists; the cutting, which calls are dropped, and demand 3.
 pub mod RunList

@@ -12,7 +12,8 @@ use Rattle.definitions.specs.Window.{dueOf}
 use Rattle.definitions.specs.Limits.{within}
 use Rattle.definitions.specs.Run.{breakStart, ready, Label, start, serve, Run, breakAt, firstClosed, Totals, ride, load, fits, placed}
 use Rattle.definitions.specs.Cutting.{joined, cuttingCost}
-use Rattle.definitions.specs.Drop.{Result, splitTw}
+use Rattle.definitions.specs.Placement.{Placement, byClock}
+use Rattle.definitions.specs.Drop.{Result, splitBy}
 
 -- ---- the runs given: calls and each run's break place (1 up, 0 none); places beyond the runs are not read
 
@@ -151,6 +152,10 @@ markAgainst s plan runs =
       | none ↦ valueOr (against (plan .cost) (cuttingCost s runs)) (firstFault s 1 runs)
     ]
 
--- the planner's is that of `split_tw`
+-- the planner's is that of `split_tw`, for either placement of its breaks ..
+abbrev pub markBy : Placement → Sheet → List ℕ → List Run → Verdict
+markBy p s tour runs = markAgainst s (splitBy p s tour) runs
+
+-- .. and by the clock
 abbrev pub mark : Sheet → List ℕ → List Run → Verdict
-mark s tour runs = markAgainst s (splitTw s tour) runs
+mark s tour runs = markBy byClock s tour runs

@@ -12,7 +12,7 @@ use Rattle.definitions.specs.Sheet.{Window, Break, Sheet, Leg, customer,
 use Rattle.definitions.specs.Limits.{within, excused}
 use Rattle.definitions.specs.Run.{breakStart, ready, Label, start, Run, breakAt, serveAll, lastOf, firstClosed, Totals, ride, load, fits, placed}
 use Rattle.definitions.specs.Cutting.{joined, legalCutting, cuttingCost}
-use Rattle.definitions.specs.Drop.{splitTw}
+use Rattle.definitions.specs.Drop.{Result}
 use Rattle.definitions.specs.Marker.{Verdict, otherCalls, overload, breakTooLate, windowMissed, breakMissing, tooFar, tooLong, best, dearer, cheaper, wheelchairOverload, roadClosed}
 
 -- ---- the runs that are marked: what refusal 5 leaves
@@ -168,12 +168,8 @@ pub record FirstFails (s : Sheet) (n : ℕ) (rs : List Run) (v : Verdict) : Type
 -- ---- against the planner's cost
 
 -- the runs are legal with their places, and join to the planner's served customers
-abbrev pub Cuts : Sheet → List ℕ → List Run → Type 0
-Cuts s tour rs = (joined rs ≡ splitTw s tour .served) × (legalCutting s rs ≡ true)
-
--- the planner's is that of `split_tw`
-abbrev pub plannerCost : Sheet → List ℕ → ℕ
-plannerCost s tour = splitTw s tour .cost
+abbrev pub Cuts : Sheet → Result → List Run → Type 0
+Cuts s plan rs = (joined rs ≡ plan .served) × (legalCutting s rs ≡ true)
 
 -- the same cost, or dearer or cheaper by something
 pub data Compared (planner cost : ℕ) : Verdict → Type 0 where
@@ -181,12 +177,12 @@ pub data Compared (planner cost : ℕ) : Verdict → Type 0 where
   above : {d : ℕ} → cost ≡ planner + d → 0 < d → Compared planner cost (dearer d)
   below : {d : ℕ} → planner ≡ cost + d → 0 < d → Compared planner cost (cheaper d)
 
--- ---- what a verdict on runs says
+-- ---- what a verdict on runs says, held against the planner's
 
-pub data Says (s : Sheet) (tour : List ℕ) (rs : List Run) : Verdict → Type 0 where
+pub data Says (s : Sheet) (plan : Result) (rs : List Run) : Verdict → Type 0 where
   -- other calls, first at that position
-  other : {p : ℕ} → Differs 1 (joined rs) (splitTw s tour .served) p → Says s tour rs (otherCalls p)
+  other : {p : ℕ} → Differs 1 (joined rs) (plan .served) p → Says s plan rs (otherCalls p)
   -- the served calls, and the first fault
-  fault : {v : Verdict} → joined rs ≡ splitTw s tour .served → FirstFails s 1 rs v → Says s tour rs v
+  fault : {v : Verdict} → joined rs ≡ plan .served → FirstFails s 1 rs v → Says s plan rs v
   -- the served calls, legal runs, and their cost against the planner's
-  priced : {v : Verdict} → Cuts s tour rs → Compared (plannerCost s tour) (cuttingCost s rs) v → Says s tour rs v
+  priced : {v : Verdict} → Cuts s plan rs → Compared (plan .cost) (cuttingCost s rs) v → Says s plan rs v

@@ -6,7 +6,8 @@ use mathlib.Core.List.{List, [], _∷_, _++_, map}
 use lib.ListN.{length, take}
 use Rattle.definitions.specs.Sheet.{Sheet}
 use Rattle.definitions.specs.Run.{Run}
-use Rattle.definitions.specs.Clock.{clock, placeOr}
+use Rattle.definitions.specs.Clock.{placeOr}
+use Rattle.definitions.specs.Placement.{Placement, byClock, byPay, totalsBy}
 use Rattle.definitions.specs.Cutting.{callsIn, joined, legalCutting, cuttingCost}
 use Rattle.definitions.specs.Drop.{callsAt, Held, dropAt}
 
@@ -38,13 +39,22 @@ pub data Parts : List ℕ → List ℕ → List ℕ → Type 0 where
 
 -- ---- rivals
 
--- a run with its break where the clock puts it
-abbrev pub clockRun : Sheet → List ℕ → Run
-clockRun s calls = record { calls = calls; place = placeOr (clock s calls) }
+-- a run with its break where the placement puts it
+abbrev pub placedRun : Placement → Sheet → List ℕ → Run
+placedRun p s calls = record { calls = calls; place = placeOr (totalsBy p s calls) }
 
--- rivals with lateness pay: legal, with their breaks where the clock puts them
+-- legal, whatever its break places
+abbrev pub AnyRival : Sheet → List Run → Type 0
+AnyRival s runs = legalCutting s runs ≡ true
+
+-- legal, with its breaks where the clock puts them
 abbrev pub ClockRival : Sheet → List Run → Type 0
-ClockRival s runs = (legalCutting s runs ≡ true) × (map (clockRun s) (callsIn runs) ≡ runs)
+ClockRival s runs = AnyRival s runs × (map (placedRun byClock s) (callsIn runs) ≡ runs)
+
+-- whom a cutting is held against, with lateness pay or without
+abbrev pub Rival : Placement → Sheet → List Run → Type 0
+Rival byClock s runs = ClockRival s runs
+Rival byPay s runs = AnyRival s runs
 
 -- ---- ties
 

@@ -12,11 +12,17 @@ use Rattle.bounds.proofs.InBytes.{InBytes, bytes-read-back}
 use Rattle.sheet_read.specs.Summary as Summary
 use Rattle.sheet_read.specs.Summary.{summaryOf}
 use Rattle.sheet_loaded.proofs.Reading.{refused-is}
-use Rattle.exports.specs.Answer.{Answer, refusedAt, refused, gives, Outputs, outputs, Kept, ReadsBack, byCall, onReading, unlessShort}
+use Rattle.exports.specs.Answer.{Answer, refusedAt, refused, gives, IfGiven, Outputs, outputs, Kept, ReadsBack, byCall, onReading, unlessShort}
 
 -- numbers that a byte holds are read back
 pub reads-back : (numbers old new : List ℕ) → InBytes numbers → new ≡ stored numbers old → ReadsBack numbers old new
 reads-back numbers old new h e = record { left = e; read-back = ap (readBack (length numbers)) e ∙ bytes-read-back numbers old h }
+
+-- what follows from what is said of a result that is given
+pub if-given : {A : Type 0} (a : Answer A) (P Q : A → Type 0) → ((x : A) → a ≡ gives x → P x → Q x) → IfGiven a P → IfGiven a Q
+if-given (refusedAt number word) P Q f h = tt
+if-given (refused number) P Q f h = tt
+if-given (gives x) P Q f h = f x refl h
 
 module _ {A L : Type 0} (Written : A → (old new : L) → Type 0) (old : Outputs L) where
   -- an answer that is known to be another keeps what that keeps

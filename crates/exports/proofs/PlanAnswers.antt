@@ -1,4 +1,4 @@
--- What the plan call keeps, in each case of its answer. Assumes nothing.
+-- What a plan call keeps, in each case of its answer. Assumes nothing.
 use Prim.Native.Nat.{ℕ, _≤_}
 use mathlib.Core.Path.{_≡_, refl, sym, _∙_}
 use mathlib.Core.Bool.{Bool, true, false}
@@ -11,12 +11,13 @@ use Rattle.cut_theory.specs.Tab.{mostCut}
 use Rattle.definitions.specs.Sheet.{Sheet}
 use Rattle.definitions.specs.Words.{wordsOf, leftOver}
 use Rattle.definitions.specs.Reader.{sheet, read}
-use Rattle.definitions.specs.Drop.{splitTw}
+use Rattle.definitions.specs.Placement.{Placement}
+use Rattle.definitions.specs.Drop.{splitBy}
 use Rattle.definitions.specs.Room.{short}
 use Rattle.definitions.specs.Answers as Call
 use Rattle.round_trip.proofs.OnlySheets.{only-sheets}
 use Rattle.bounds.proofs.Inside.{few-calls}
-use Rattle.bounds.proofs.InBytes.{CutInBytes, calls-in-bytes, split-tw-in-bytes}
+use Rattle.bounds.proofs.InBytes.{CutInBytes, calls-in-bytes, split-by-in-bytes}
 use Rattle.sheet_read.specs.Summary as Summary
 use Rattle.sheet_read.specs.Summary.{summaryOf}
 use Rattle.split_tw.specs.declared.answer.SplitResult.{SplitResult}
@@ -32,38 +33,38 @@ roomy a b c d e t told h =
     let f : Falses tests = falses tests (sym told ∙ h) in
     (ltb-false a mostCut (f .0), ltb-false b mostCut (f .1 .0), ltb-false c mostCut (f .1 .1 .0), ltb-false d mostCut (f .1 .1 .1 .0), ltb-false e mostCut (f .1 .1 .1 .1 .0))
 
-abbrev planOf : Sheet → List ℕ → Call.Answer Plan
-planOf s tour = Call.gives (plan s tour)
+abbrev planOf : Placement → Sheet → List ℕ → Call.Answer Plan
+planOf p s tour = Call.gives (plan p s tour)
 
 -- t is whether a list was found too short
-module _ (bytes : List ℕ) (old : Outputs PlanRoom) (t : Bool) (told : t ≡ short planNeeds (roomsOf (old .room .lists))) where
+module _ (p : Placement) (bytes : List ℕ) (old : Outputs PlanRoom) (t : Bool) (told : t ≡ short planNeeds (roomsOf (old .room .lists))) where
   abbrev on-sheet : Answer Plan
-  on-sheet = onReading planOf (read bytes)
+  on-sheet = onReading (planOf p) (read bytes)
 
-  pub plan-short : t ≡ true → PlanKept bytes old 13 (outputs 0 (old .room))
+  pub plan-short : t ≡ true → PlanKept p bytes old 13 (outputs 0 (old .room))
   plan-short h = kept-short PlanWritten old on-sheet (short planNeeds (roomsOf (old .room .lists))) t told h
 
   module _ (h : t ≡ false) where
-    pub plan-unread : (number word : ℕ) → Summary.refused number word ≡ summaryOf (read bytes) → PlanKept bytes old number (outputs word (old .room))
-    plan-unread number word e = kept-roomy PlanWritten old on-sheet (short planNeeds (roomsOf (old .room .lists))) t told h (kept-unread PlanWritten old bytes planOf number word e)
+    pub plan-unread : (number word : ℕ) → Summary.refused number word ≡ summaryOf (read bytes) → PlanKept p bytes old number (outputs word (old .room))
+    plan-unread number word e = kept-roomy PlanWritten old on-sheet (short planNeeds (roomsOf (old .room .lists))) t told h (kept-unread PlanWritten old bytes (planOf p) number word e)
 
     -- the plan: all but the word is written
     module _ (s : Sheet) (tour : List ℕ) (e : read bytes ≡ sheet s tour) where
       -- each number of the cut is one that a byte holds
-      small : CutInBytes (splitTw s tour)
+      small : CutInBytes (splitBy p s tour)
       unfolding read
       small =
           let I = only-sheets (wordsOf bytes) (leftOver bytes) s tour e in
-          split-tw-in-bytes tour (calls-in-bytes s (I .within) tour (I .calls)) (few-calls s tour (I .calls)) s
+          split-by-in-bytes p tour (calls-in-bytes s (I .within) tour (I .calls)) (few-calls s tour (I .calls)) s
 
-      module _ {r : SplitResult} {new : PlanLists} (L : LeftInBytes (plan s tour) r (old .room .lists) new) where
+      module _ {r : SplitResult} {new : PlanLists} (L : LeftInBytes (plan p s tour) r (old .room .lists) new) where
         abbrev room : PlanRoom
         room = record { lists = new; counts = r .served ∷ r .runs ∷ r .dropped ∷ []; totals = r .cost ∷ r .distance ∷ [] }
 
-        written : PlanWritten (plan s tour) (old .room) room
+        written : PlanWritten (plan p s tour) (old .room) room
         unfolding plan
         written =
-            let x = splitTw s tour in
+            let x = splitBy p s tour in
             let lists = old .room .lists in
             record {
               served = reads-back (x .served) (lists .cut .served) (new .cut .served) (small .served) (L .served-left);
@@ -75,7 +76,7 @@ module _ (bytes : List ℕ) (old : Outputs PlanRoom) (t : Bool) (told : t ≡ sh
               totals = L .totals;
             }
 
-        pub plan-given : PlanKept bytes old 0 (outputs (old .word) room)
+        pub plan-given : PlanKept p bytes old 0 (outputs (old .word) room)
         plan-given =
             kept-roomy PlanWritten old on-sheet (short planNeeds (roomsOf (old .room .lists))) t told h
-            (kept-given PlanWritten old bytes planOf s tour e room (plan s tour) refl written)
+            (kept-given PlanWritten old bytes (planOf p) s tour e room (plan p s tour) refl written)

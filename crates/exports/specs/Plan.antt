@@ -1,4 +1,4 @@
--- The contract of the plan call, over the bytes and the lists that it is lent. Definitions only.
+-- The contract of the plan calls, over the bytes and the lists that they are lent. Definitions only.
 use Prim.Native.Nat.{ℕ}
 use mathlib.Core.Path.{_≡_}
 use mathlib.Core.List.{List, [], _∷_, map}
@@ -6,6 +6,7 @@ use lib.Ieee.{Float}
 use lib.ListN.{length}
 use Rattle.whole.specs.Whole.{fl}
 use Rattle.cut_theory.specs.Tab.{mostCut}
+use Rattle.definitions.specs.Placement.{Placement}
 use Rattle.definitions.specs.Reader.{read}
 use Rattle.definitions.specs.Room.{short, written}
 use Rattle.definitions.specs.Answers as Call
@@ -32,9 +33,10 @@ planNeeds = mostCut ∷ mostCut ∷ mostCut ∷ mostCut ∷ mostCut ∷ []
 abbrev pub roomsOf : PlanLists → List ℕ
 roomsOf l = length (l .cut .served) ∷ length (l .cut .ends) ∷ length (l .places) ∷ length (l .starts) ∷ length (l .cut .dropped) ∷ []
 
--- the plan of the sheet that the bytes are
-abbrev pub planAnswer : (bytes : List ℕ) → PlanRoom → Answer Plan
-planAnswer bytes lent = unlessShort (short planNeeds (roomsOf (lent .lists))) (onReading (λ s tour. Call.gives (plan s tour)) (read bytes))
+-- the plan of the sheet that the bytes are, for either placement of its breaks
+abbrev pub planAnswer : Placement → (bytes : List ℕ) → PlanRoom → Answer Plan
+planAnswer p bytes lent =
+    unlessShort (short planNeeds (roomsOf (lent .lists))) (onReading (λ s tour. Call.gives (plan p s tour)) (read bytes))
 
 -- ---- the contract
 
@@ -48,5 +50,5 @@ pub record PlanWritten (p : Plan) (old new : PlanRoom) : Type 0 where
   pub counts : new .counts ≡ countsOf p
   pub totals : new .totals ≡ totalsOf p
 
-abbrev pub PlanKept : (bytes : List ℕ) (old : Outputs PlanRoom) (r : ℕ) (new : Outputs PlanRoom) → Type 0
-PlanKept bytes old r new = Kept PlanWritten (planAnswer bytes (old .room)) old r new
+abbrev pub PlanKept : Placement → (bytes : List ℕ) (old : Outputs PlanRoom) (r : ℕ) (new : Outputs PlanRoom) → Type 0
+PlanKept p bytes old r new = Kept PlanWritten (planAnswer p bytes (old .room)) old r new

@@ -15,17 +15,19 @@ use Rattle.definitions.specs.Sheet.{Sheet}
 use Rattle.definitions.specs.Run.{Run, legal}
 use Rattle.definitions.specs.RunList.{runsOf}
 use Rattle.definitions.specs.Clock.{startOf, arc}
+use Rattle.definitions.specs.Placement.{byClock}
 use Rattle.definitions.specs.Cutting.{callsIn, joined, legalCutting}
 use Rattle.definitions.specs.Drop.{Result, splitTw}
 use Rattle.definitions.specs.Listing.{text, customersText, restText, endOfLine, runLine, runLines, dropLines, totalLine, planText}
 use Rattle.theorems.proofs.RunListLaws.{RiseTo}
-use Rattle.theorems.proofs.Promised.{Promise, promised}
+use Rattle.theorems.proofs.Promised.{Promise, promised-by}
 use Rattle.bounds.specs.Sized.{Sized}
 use Rattle.bounds.proofs.Inside.{sized, few-calls}
 use Rattle.bounds.proofs.BoundLaws.{start-most}
 use Rattle.bounds.proofs.CostBoundLaws.{arc-priced, plan-fits}
 use Rattle.models.specs.declared.customer.Customer.{Customer}
 use Rattle.models.specs.declared.head.Head.{Head}
+use Rattle.models.specs.declared.placement.Placement.the-variants.{Clock}
 use Rattle.split_tw.specs.declared.answer.SplitResult.{SplitResult}
 use Rattle.listing_lines.specs.Lines.{startIf, runText}
 use Rattle.listing_lines.specs.Number.{wholePart}
@@ -65,21 +67,21 @@ module _ (s : Sheet) (tour : List ℕ) where
   x = splitTw s tour
 
   abbrev P : Promise s tour x
-  P = promised s tour
+  P = promised-by s tour byClock
 
   runs-printed : let runs = runsOf (x .served) (x .ends) in runsText runs (x .places) (startsOf s x) ≡ runLines s (P .runs)
   runs-printed =
-      ap (λ (rs : List (List ℕ)). runsText rs (x .places) (startsOf s x)) (runs-are s tour)
+      ap (λ (rs : List (List ℕ)). runsText rs (x .places) (startsOf s x)) (runs-are byClock s tour)
       ∙ ap (λ (ps : List ℕ). runsText (callsIn (P .runs)) ps (startsOf s x)) (sym (P .places-are))
-      ∙ ap (λ (rs : List Run). runsText (callsIn (P .runs)) (map (λ r. r .place) (P .runs)) (starts s rs)) (placed-are s tour)
+      ∙ ap (λ (rs : List Run). runsText (callsIn (P .runs)) (map (λ r. r .place) (P .runs)) (starts s rs)) (placed-are byClock s tour)
       ∙ lines-are s (P .runs) (P .all-legal)
 
   -- the text of the plan's lists
-  pub text-of-plan : resultText tour (plan s tour .cut) (plan s tour .starts) ≡ planText s tour (splitTw s tour)
+  pub text-of-plan : resultText tour (plan byClock s tour .cut) (plan byClock s tour .starts) ≡ planText s tour (splitTw s tour)
   unfolding plan resultText planText
   text-of-plan =
       ap (λ (l : List ℕ). l ++ dropLines tour (x .dropped) ++ totalLine x)
-      (runs-printed ∙ ap (λ (rs : List Run). runLines s rs) (sym (placed-are s tour)))
+      (runs-printed ∙ ap (λ (rs : List Run). runLines s rs) (sym (placed-are byClock s tour)))
 
 -- ---- in floats
 
@@ -102,17 +104,17 @@ module _ (s : Sheet) (S : Sized s) where
     unfolding splitTw
     fits = plan-fits (arc s) (arc-priced s S) tour few s S
 
-    plan-starts-whole : map wholePart (map fl (plan s tour .starts)) ≡ plan s tour .starts
+    plan-starts-whole : map wholePart (map fl (plan byClock s tour .starts)) ≡ plan byClock s tour .starts
     unfolding plan
     plan-starts-whole =
-        ap (λ (rs : List Run). map wholePart (map fl (starts s rs))) (placed-are s tour)
-        ∙ starts-whole (promised s tour .runs) (served-few s tour S few)
-        ∙ ap (λ (rs : List Run). starts s rs) (sym (placed-are s tour))
+        ap (λ (rs : List Run). map wholePart (map fl (starts s rs))) (placed-are byClock s tour)
+        ∙ starts-whole (promised-by s tour byClock .runs) (served-few byClock s tour few)
+        ∙ ap (λ (rs : List Run). starts s rs) (sym (placed-are byClock s tour))
 
 -- ---- the lists as a plan leaves them
 
 module _ (s : Sheet) (tour : List ℕ) (head : Head) (customers : List Customer) (distances times : List Float) (H : InMemory s tour head customers distances times)
-    {r : SplitResult} {old new : PlanLists} (L : Left (plan s tour) r old new) where
+    {r : SplitResult} {old new : PlanLists} (L : Left (plan byClock s tour) r old new) where
   abbrev served : List ℕ
   served = take (r .served) (new .cut .served)
 
@@ -129,12 +131,12 @@ module _ (s : Sheet) (tour : List ℕ) (head : Head) (customers : List Customer)
   unfolding plan
   room =
       rw (served-are (L .cut), ends-are (L .cut), dropped-are (L .cut))
-      (omega (arith, few, served-and-dropped s tour, few-ends s tour))
+      (omega (arith, few, served-and-dropped byClock s tour, few-ends byClock s tour))
 
   -- the run ends rise to the number of served calls, and each run has a place and a start
   pub rising : RiseTo 0 ends (length served)
   unfolding plan
-  rising = rises s tour head customers distances times H (L .cut)
+  rising = rises Clock s tour head customers distances times H (L .cut)
 
   pub breaks-all : (length ends ≤ length (take (r .runs) (new .places))) × (length ends ≤ length (take (r .runs) (new .starts)))
   breaks-all = (omega (arith, ends-counted (L .cut), places-counted L), omega (arith, ends-counted (L .cut), starts-counted L))

@@ -11,13 +11,14 @@ use listing_lines::lines::refusal_line;
 use listing_lines::plan::plan_text;
 use models::customer::Customer;
 use models::head::Head;
+use models::placement::Placement;
 use sheet_loaded::load::load;
 use sheet_plan::plan::plan_held;
 use sheet_read::read::Contents;
 use sheet_read::read::Reading;
 use sheet_read::read::read;
 
-// The plan of the tour on the sheet that is held.
+// The plan of the tour on the sheet that is held, with the breaks where the clock puts them.
 fn held_text(
     out: &mut [u8],
     tour: &[usize],
@@ -45,6 +46,7 @@ fn held_text(
         customers,
         distances,
         times,
+        Placement::Clock,
         &mut served,
         &mut ends,
         &mut places,

@@ -6,4 +6,5 @@ pub mod domain;
 pub mod head;
 pub mod limits;
 pub mod load;
+pub mod placement;
 pub mod vehicle;

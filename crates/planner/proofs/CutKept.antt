@@ -5,20 +5,20 @@ use mathlib.Core.List.{List, [], _∷_}
 use mathlib.Core.Option.{Option, none, some}
 use lib.ListN.{length}
 use Rattle.bounds.proofs.Inside.{sized, few-calls}
-use Rattle.bounds.proofs.InBytes.{InBytes, bytes-read-back, calls-in-bytes, CutInBytes, split-in-bytes, split-tw-in-bytes}
-use Rattle.bounds.proofs.CostBoundLaws.{arc-priced, plain-priced, plan-fits}
+use Rattle.bounds.proofs.InBytes.{InBytes, bytes-read-back, calls-in-bytes, CutInBytes, split-in-bytes, split-by-in-bytes}
+use Rattle.bounds.proofs.CostBoundLaws.{plain-priced, plan-fits, split-by-fits}
 use Rattle.definitions.specs.Domain.{mostCalls}
 use Rattle.definitions.specs.Sheet.{Sheet}
-use Rattle.definitions.specs.Clock.{arc}
-use Rattle.definitions.specs.Drop.{Result, plainArc, split, splitTw}
+use Rattle.definitions.specs.Drop.{Result, plainArc, split, splitBy}
 use Rattle.definitions.specs.Lent.{cutting}
 use Rattle.definitions.specs.Refusals.{refusalOf, Within, WithinCalls}
 use Rattle.definitions.specs.Bytes.{stored, readBack}
 use Rattle.definitions.specs.Answers.{Answer, front, unlessRefused, answer}
+use Rattle.definitions.specs.Placement.{Placement, byClock}
 use Rattle.definitions.specs.Clauses.{bare, Clauses}
 use Rattle.theorems.proofs.Accepted.{accepted-within}
 use Rattle.theorems.proofs.Bare.{split-kept}
-use Rattle.theorems.proofs.Sentences.{split-tw-kept}
+use Rattle.theorems.proofs.Sentences.{split-by-kept}
 use Rattle.whole.specs.Whole.{limit}
 use Rattle.whole.specs.Value.{value}
 use Rattle.whole.proofs.ValueLaws.{value-fl}
@@ -33,8 +33,8 @@ use Rattle.planner.proofs.InBytes.{stored-same}
 abbrev firsts : List ℕ → List ℕ → List ℕ
 firsts new old = readBack (length new) (stored new old)
 
-module _ (s : Sheet) (tour served ends dropped : List ℕ) (x : Result) (small : CutInBytes x) (kept : Clauses s tour (x .served) (x .ends) (x .dropped) (x .cost)) where
-  front-kept : Clauses s tour (firsts (x .served) served) (firsts (x .ends) ends) (firsts (x .dropped) dropped) (x .cost)
+module _ (p : Placement) (s : Sheet) (tour served ends dropped : List ℕ) (x : Result) (small : CutInBytes x) (kept : Clauses p s tour (x .served) (x .ends) (x .dropped) (x .cost)) where
+  front-kept : Clauses p s tour (firsts (x .served) served) (firsts (x .ends) ends) (firsts (x .dropped) dropped) (x .cost)
   front-kept =
       rw (
         bytes-read-back (x .served) served (small .served),
@@ -42,40 +42,57 @@ module _ (s : Sheet) (tour served ends dropped : List ℕ) (x : Result) (small :
         bytes-read-back (x .dropped) dropped (small .dropped),
       ) kept
 
--- ---- the two ways to cut
+-- ---- the ways to cut
 
--- a way to cut keeps demand 3 of what it looks at of a sheet, and on a sheet within the limits a float holds its cost and bytes its lists
-pub record Keeps (cut : Sheet → List ℕ → Result) (looksAt : Sheet → Sheet) : Type 0 where
-  pub clauses : (s : Sheet) (tour : List ℕ) → let x = cut s tour in Clauses (looksAt s) tour (x .served) (x .ends) (x .dropped) (x .cost)
+-- A way to cut, by a placement of the breaks, and what it looks at of a sheet: of that it keeps demand 3, and on a sheet within the limits
+-- a float holds its cost and bytes its lists.
+pub record Way : Type 0 where
+  pub placement : Placement
+  pub cut : Sheet → List ℕ → Result
+  pub looksAt : Sheet → Sheet
+  pub clauses : (s : Sheet) (tour : List ℕ) → let x = cut s tour in Clauses placement (looksAt s) tour (x .served) (x .ends) (x .dropped) (x .cost)
   pub cost-small : (s : Sheet) → Within s → (tour : List ℕ) → WithinCalls s tour → cut s tour .cost ≤ limit
   pub in-bytes : (tour : List ℕ) → InBytes tour → length tour ≤ mostCalls → (s : Sheet) → CutInBytes (cut s tour)
 
-pub split-keeps : Keeps split bare
+-- by loads and closed legs alone
+pub plain-small : (s : Sheet) → Within s → (tour : List ℕ) → WithinCalls s tour → split s tour .cost ≤ limit
 unfolding split
-split-keeps =
+plain-small s W tour T = let S = sized s W in plan-fits (plainArc s) (plain-priced s S) tour (few-calls s tour T) s S .0
+
+abbrev pub plainly : Way
+plainly =
     record {
+      placement = byClock;
+      cut = split;
+      looksAt = bare;
       clauses = split-kept;
-      cost-small = λ s W tour T. let S = sized s W in plan-fits (plainArc s) (plain-priced s S) tour (few-calls s tour T) s S .0;
+      cost-small = plain-small;
       in-bytes = split-in-bytes;
     }
 
-pub split-tw-keeps : Keeps splitTw (λ s. s)
-unfolding splitTw
-split-tw-keeps =
+-- by all that the sheet has
+abbrev pub timed : Placement → Way
+timed p =
     record {
-      clauses = split-tw-kept;
-      cost-small = λ s W tour T. let S = sized s W in plan-fits (arc s) (arc-priced s S) tour (few-calls s tour T) s S .0;
-      in-bytes = split-tw-in-bytes;
+      placement = p;
+      cut = splitBy p;
+      looksAt = λ s. s;
+      clauses = split-by-kept p;
+      cost-small = λ s W tour T. split-by-fits p s (sized s W) tour (few-calls s tour T);
+      in-bytes = split-by-in-bytes p;
     }
 
 -- ---- what a call that answers so keeps
 
-module _ (cut : Sheet → List ℕ → Result) (looksAt : Sheet → Sheet) (keeps : Keeps cut looksAt) (q : LentSheet) (tour : List ℕ) (old : CutOutput) where
+module _ (way : Way) (q : LentSheet) (tour : List ℕ) (old : CutOutput) where
   abbrev x : Result
-  x = cut (meant q) tour
+  x = way .cut (meant q) tour
 
   abbrev answered : Answer Result
-  answered = cutAnswer cut q tour old
+  answered = cutAnswer (way .cut) q tour old
+
+  abbrev pub Keeps : Cut → CutOutput → Type 0
+  Keeps r new = CutContract (way .placement) (way .cut) (way .looksAt) q tour old r new
 
   -- the lists, with an answer stored in them
   abbrev pub left : Answer Result → CutOutput
@@ -84,7 +101,7 @@ module _ (cut : Sheet → List ℕ → Result) (looksAt : Sheet → Sheet) (keep
       (stored (front (λ y. y .dropped) a) (old .dropped))
 
   kept-by : (refusal : Option ℕ) → refusalOf value cutting (cutOn q tour old) ≡ refusal → answered ≡ unlessRefused refusal x
-      → (refusal ≡ none → (x .cost ≤ limit) × CutInBytes x) → CutContract cut looksAt q tour old (cutIn answered) (left answered)
+      → (refusal ≡ none → (x .cost ≤ limit) × CutInBytes x) → Keeps (cutIn answered) (left answered)
   kept-by (some number) is by small =
       rw by record {
         result = rw by refl;
@@ -104,7 +121,7 @@ module _ (cut : Sheet → List ℕ → Result) (looksAt : Sheet → Sheet) (keep
       }
   kept-by none is by small =
       let bytes = small refl .1 in
-      let K = front-kept (looksAt (meant q)) tour (old .served) (old .ends) (old .dropped) x bytes (keeps .clauses (meant q) tour) in
+      let K = front-kept (way .placement) (way .looksAt (meant q)) tour (old .served) (old .ends) (old .dropped) x bytes (way .clauses (meant q) tour) in
       let means = value-fl (x .cost) (small refl .0) in
       rw by record {
         result = rw by refl;
@@ -123,13 +140,13 @@ module _ (cut : Sheet → List ℕ → Result) (looksAt : Sheet → Sheet) (keep
         partition = K .partition;
       }
 
-  pub kept : {r : Cut} {new : CutOutput} → r ≡ cutIn answered → new ≡ left answered → CutContract cut looksAt q tour old r new
+  pub kept : {r : Cut} {new : CutOutput} → r ≡ cutIn answered → new ≡ left answered → Keeps r new
   unfolding answer
   kept is left-is =
-      subst (λ (z : Cut × CutOutput). CutContract cut looksAt q tour old (z .0) (z .1)) (λ i. (sym is i, sym left-is i))
+      subst (λ (z : Cut × CutOutput). Keeps (z .0) (z .1)) (λ i. (sym is i, sym left-is i))
       (kept-by (refusalOf value cutting (cutOn q tour old)) refl refl
       (λ e.
       let a = accepted-within value cutting (cutOn q tour old) e in (
-        keeps .cost-small (meant q) (a .within) tour (a .tour),
-        keeps .in-bytes tour (calls-in-bytes (meant q) (a .within) tour (a .tour)) (few-calls (meant q) tour (a .tour)) (meant q),
+        way .cost-small (meant q) (a .within) tour (a .tour),
+        way .in-bytes tour (calls-in-bytes (meant q) (a .within) tour (a .tour)) (few-calls (meant q) tour (a .tour)) (meant q),
       )))

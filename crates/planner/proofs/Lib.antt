@@ -1,4 +1,4 @@
--- What a walk by hand cites of the head and of the answers.
+-- What a walk by hand cites of the head, of the placement and of the answers.
 pub mod Answers
 -- The walk of a public call, for any lists that are lent to it.
 pub mod CallWalk

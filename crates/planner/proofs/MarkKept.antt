@@ -5,12 +5,14 @@ use mathlib.Core.Path.{_≡_, refl, sym, ap, subst, _∙_}
 use mathlib.Core.List.{List}
 use mathlib.Core.Option.{Option, none, some}
 use lib.Ieee.{Float}
-use Rattle.definitions.specs.Lent.{marking}
+use Rattle.definitions.specs.Lent.{Lent, marking}
 use Rattle.definitions.specs.Refusals.{refusalOf}
+use Rattle.definitions.specs.Placement.{Placement, byClock, byPay}
+use Rattle.definitions.specs.Drop.{splitBy}
 use Rattle.definitions.specs.Marker as Whole
 use Rattle.definitions.specs.Marker.{otherCalls, overload, breakTooLate, windowMissed, breakMissing, tooFar, tooLong, best, dearer, cheaper, wheelchairOverload, roadClosed, verdictNumber}
-use Rattle.definitions.specs.Answers.{Answer, gives, unlessRefused, answer, markOf}
-use Rattle.theorems.proofs.GivenMarks.{given-says, given-cheaper-only}
+use Rattle.definitions.specs.Answers.{Answer, gives, unlessRefused, answer, markByOf}
+use Rattle.theorems.proofs.GivenMarks.{given-says, given-cheaper-only, given-never-cheaper}
 use Rattle.theorems.proofs.OneMark.{says-mark}
 use Rattle.whole.specs.Value.{value}
 use Rattle.marker.specs.declared.verdict.Verdict.the-variants.{Cheaper}
@@ -37,35 +39,43 @@ is-cheaper (cheaper by) e = (by, refl)
 is-cheaper (wheelchairOverload run load capacity) e = absurd (omega arith)
 is-cheaper (roadClosed run leg) e = absurd (omega arith)
 
+-- an answer that holds Cheaper gives cheaper
+as-cheaper : {a : Answer Whole.Verdict} (v : Whole.Verdict) → a ≡ gives v → (by : Float) → flVerdict v ≡ Cheaper by → (d : ℕ) × (a ≡ gives (cheaper d))
+as-cheaper v is by h = let c = is-cheaper v (sym (same-number v) ∙ ap numberIn h) in (c .0, is ∙ ap gives (c .1))
+
 module _ (q : LentSheet) (tour calls ends breaks : List ℕ) where
-  abbrev answered : Answer Whole.Verdict
-  answered = markOf value (markOn q tour calls ends breaks)
+  abbrev lent : Lent Float
+  lent = markOn q tour calls ends breaks
 
-  -- the verdict of an accepted call
-  abbrev w : Whole.Verdict
-  w = Whole.mark (meant q) tour (runsGiven calls ends breaks)
+  only : (p : Placement) (v : Whole.Verdict) → markByOf value p lent ≡ gives v → CheaperOnly p (meant q) (flVerdict v)
+  only byClock v is = λ by h. let c = as-cheaper v is by h in given-cheaper-only value lent (c .0) (c .1)
+  only byPay v is = λ by h. let c = as-cheaper v is by h in given-never-cheaper value lent (c .0) (c .1)
 
-  only : (v : Whole.Verdict) → answered ≡ gives v → CheaperOnly (meant q) (flVerdict v)
-  only v is by h =
-      let c = is-cheaper v (sym (same-number v) ∙ ap numberIn h) in
-      given-cheaper-only value (markOn q tour calls ends breaks) (c .0) (is ∙ ap gives (c .1))
+  module _ (p : Placement) where
+    abbrev answered : Answer Whole.Verdict
+    answered = markByOf value p lent
 
-  kept-by : (refusal : Option ℕ) → refusalOf value marking (markOn q tour calls ends breaks) ≡ refusal → answered ≡ unlessRefused refusal w
-      → MarkContract q tour calls ends breaks (markIn answered)
-  kept-by (some number) is by = rw by record { result = rw by refl; refused = sym is; says = tt; no-other = tt; figures = tt; cheaper = tt }
-  kept-by none is by =
-      let says = given-says value (markOn q tour calls ends breaks) w by in
-      let cheaper = only w by in
-      rw by record {
-        result = rw by refl;
-        refused = sym is;
-        says = (w, refl, says);
-        no-other = λ v x. ap flVerdict (says-mark (meant q) tour (runsGiven calls ends breaks) v x);
-        figures = record { number = same-number w; values = same-values w };
-        cheaper = cheaper;
-      }
+    -- the verdict of an accepted call
+    abbrev w : Whole.Verdict
+    w = Whole.markBy p (meant q) tour (runsGiven calls ends breaks)
 
-  pub kept : {r : Marking} → r ≡ markIn answered → MarkContract q tour calls ends breaks r
-  unfolding answer
-  kept is =
-      subst (λ (r : Marking). MarkContract q tour calls ends breaks r) (sym is) (kept-by (refusalOf value marking (markOn q tour calls ends breaks)) refl refl)
+    abbrev Keeps : Marking → Type 0
+    Keeps r = MarkContract p q tour calls ends breaks r
+
+    kept-by : (refusal : Option ℕ) → refusalOf value marking lent ≡ refusal → answered ≡ unlessRefused refusal w → Keeps (markIn answered)
+    kept-by (some number) is by = rw by record { result = rw by refl; refused = sym is; says = tt; no-other = tt; figures = tt; cheaper = tt }
+    kept-by none is by =
+        let says = given-says value lent p w by in
+        let cheaper = only p w by in
+        rw by record {
+          result = rw by refl;
+          refused = sym is;
+          says = (w, refl, says);
+          no-other = λ v x. ap flVerdict (says-mark (meant q) (splitBy p (meant q) tour) (runsGiven calls ends breaks) v x);
+          figures = record { number = same-number w; values = same-values w };
+          cheaper = cheaper;
+        }
+
+    pub kept : {r : Marking} → r ≡ markIn answered → Keeps r
+    unfolding answer
+    kept is = subst Keeps (sym is) (kept-by (refusalOf value marking lent) refl refl)

@@ -1,5 +1,6 @@
--- A public call takes a head, the customers, and lists that are lent; its core takes the head, the customers' array, their number, and the
--- same lists. If the core meets a contract to which the call's carries over, the call meets its own, by the walk of CallWalk.
+-- A public call takes a head, the customers, lists that are lent and perhaps a placement of the breaks; its core takes the head, the
+-- customers' array, their number, and the same lists and placement. If the core meets a contract to which the call's carries over, the
+-- call meets its own, by the walk of CallWalk.
 -- Assumes `Given`.
 use mathlib.Core.Path.{_≡_}
 use Prim.Native.Nat.{ℕ, suc, _+_}
@@ -55,12 +56,12 @@ use Rattle.planner.proofs.Answers as answers
 use Rattle.planner.proofs.Answers.{Hd}
 use Rattle.walks.proofs.Locals.{Blocks}
 use Rattle.planner.proofs.CallWalk.{function, Holds, Around, walk}
-use Rattle.planner.proofs.LentLists.{Kind, slots, kepts, over, values, back, gives, leave, spells, tells, codeOf, take-lists}
+use Rattle.planner.proofs.LentLists.{Kind, lifetimesOf, slots, kepts, over, values, back, gives, leave, spells, tells, codeOf, take-lists}
 
 module _ (ks : List Kind) (res : RattleType) where
   -- how many lists are lent
   abbrev m : ℕ
-  m = length ks
+  m = lifetimesOf ks
 
   -- the core's signature, and the call's, with each parameter kept to the exit
   abbrev pub core : Ended
@@ -85,7 +86,7 @@ module _ (ks : List Kind) (res : RattleType) where
     abbrev onCore : (κs : Lfts (suc m)) → Args (call .signature) κs → Args (core .signature) (κs .1)
     onCore κs a = (a .0, (padded 64 (a .1 .0 .now), (length (a .1 .0 .now), over m κs 0 ks (a .1 .1))))
 
-    -- the machine values of the lists
+    -- the machine values of the lists and the placement
     abbrev listed : (κs : Lfts (suc m)) → Args (call .signature) κs → Valss (typesAt (slots (suc m) 1 ks) κs)
     listed κs a = valss (typesAt (slots (suc m) 1 ks) κs) (spells (suc m) κs 1 ks) (a .1 .1)
 
@@ -128,7 +129,7 @@ module _ (ks : List Kind) (res : RattleType) where
           abbrev vals : Vals (call .signature) κs
           vals = (answers.head-vals (a .0), (slice-vals (a .1 .0), listed κs a))
 
-          -- what the head owns, and what the lists own
+          -- what the head owns, and what the lists and the placement own
           abbrev First : Fml
           First = Hd .own (a .0) (answers.head-vals (a .0))
 
@@ -163,7 +164,7 @@ module _ (ks : List Kind) (res : RattleType) where
               }
 
         abbrev code : Fn
-        code = function (suc m) (m + 2) (lone (res .mir)) (codeOf ks) f
+        code = function (suc m) (length ks + 2) (lone (res .mir)) (codeOf ks) f
 
         walks : (C : Calls 𝓤 H) (Λ : Loops 𝓤 H) → FmC 𝓤 H (W .laws) C → Known C → Walks 𝓤 H A call stayed (WpFn 𝓤 H C Λ code) p
         walks C Λ fm known =
@@ -179,7 +180,7 @@ module _ (ks : List Kind) (res : RattleType) where
                     (bs .1 .1) (a .1 .1) (are .1 .1),
               ),
             ))
-            (coded κs qs a are) (Post κs qs a g) (around κs qs a g) C Λ fm (known .0) (known .1) (suc m) (m + 2)))
+            (coded κs qs a are) (Post κs qs a g) (around κs qs a g) C Λ fm (known .0) (known .1) (suc m) (length ks + 2)))
 
         call-meets : (𝓣 : Tables 𝓤 H) → Known (𝓣 .C) → Meets 𝓤 H A (call .signature) (WpFn 𝓤 H (𝓣 .C) (𝓣 .Λ) code) (closing 𝓤 H A call p)
         call-meets 𝓣 known =
@@ -191,7 +192,7 @@ pub call-spec : {M : Type 1} (ks : List Kind) (res : RattleType) (𝓤 : URA M) 
     (p : Clauses 𝓤 (call ks res)) (γ : Routines) (f key : Name) (r : Routine)
     → γ #lending·count ≡ count-def.routine → γ #lending·gathered ≡ gathered-def.routine → γ f ≡ r → Triple 𝓤 (𝓡 .run r) (Met 𝓤 H (𝓖 .A) (core ks res) c)
     → ((x : res .Denot) (u : Val) → Is res x (u ∷ []) → T (hasTy (lone (res .mir)) u) × WT u) → Carries ks res 𝓤 H (𝓖 .A) c p → Coded ks res 𝓤 H (𝓖 .A)
-    → Closed 𝓤 H (tables 𝓤 H 𝓜 𝓡 γ .C) (tables 𝓤 H 𝓜 𝓡 γ .Λ) key (function (suc (length ks)) (length ks + 2) (lone (res .mir)) (codeOf ks) f)
+    → Closed 𝓤 H (tables 𝓤 H 𝓜 𝓡 γ .C) (tables 𝓤 H 𝓜 𝓡 γ .Λ) key (function (suc (lifetimesOf ks)) (length ks + 2) (lone (res .mir)) (codeOf ks) f)
     → Triple 𝓤 (tables 𝓤 H 𝓜 𝓡 γ .C key) (tripleOf 𝓤 H (𝓖 .A) (call ks res .signature) (closing 𝓤 H (𝓖 .A) (call ks res) p))
 unfolding tablesOf
 call-spec ks res 𝓤 H 𝓜 𝓖 𝓡 c p γ f key r is-count is-gathered is-core met typed carries coded closed =
@@ -200,5 +201,5 @@ call-spec ks res 𝓤 H 𝓜 𝓖 𝓡 c p γ f key r is-count is-gathered is-co
     (gathered-thm.met 𝓤 H 𝓜 𝓖 𝓡) in
     let met-core = cited 𝓤 H (Met 𝓤 H (𝓖 .A) (core ks res) c) 𝓜 𝓡 γ f r is-core met in
     entered 𝓤 H (tripleOf 𝓤 H (𝓖 .A) (call ks res .signature) (closing 𝓤 H (𝓖 .A) (call ks res) p)) (tables 𝓤 H 𝓜 𝓡 γ .C) (tables 𝓤 H 𝓜 𝓡 γ .Λ) key
-    (function (suc (length ks)) (length ks + 2) (lone (res .mir)) (codeOf ks) f) closed
+    (function (suc (lifetimesOf ks)) (length ks + 2) (lone (res .mir)) (codeOf ks) f) closed
     (call-meets ks res 𝓤 H (𝓖 .A) c p (givenOf 𝓤 H 𝓜 𝓖) (𝓜 .mem) (𝓡 .run) f typed carries coded (tablesOf 𝓤 H 𝓜 (tables 𝓤 H 𝓜 𝓡 γ)) ((met-count, met-gathered), met-core))

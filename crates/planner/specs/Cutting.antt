@@ -6,11 +6,12 @@ use mathlib.Core.Option.{Option, none, some}
 use lib.ListN.{length, take}
 use lib.Ieee.{Float}
 use Rattle.definitions.specs.Sheet.{Sheet}
-use Rattle.definitions.specs.Drop.{Result, split, splitTw}
+use Rattle.definitions.specs.Drop.{Result, split, splitBy}
 use Rattle.definitions.specs.Lent.{Lent, cutting}
 use Rattle.definitions.specs.Room.{written}
 use Rattle.definitions.specs.Bytes.{numbersOf}
 use Rattle.definitions.specs.Answers.{Answer, front, answer}
+use Rattle.definitions.specs.Placement.{Placement, byClock}
 use Rattle.definitions.specs.Clauses.{Legal, Sum, Least, Tied, Drops, Served, Partition, bare}
 use Rattle.whole.specs.Value.{value}
 use Rattle.split_tw.specs.declared.answer.SplitResult.{SplitResult}
@@ -58,8 +59,8 @@ cutOn q tour old = on q cutLent tour (length (old .served)) (length (old .ends))
 abbrev pub cutAnswer : (Sheet → List ℕ → Result) → LentSheet → List ℕ → CutOutput → Answer Result
 cutAnswer cut q tour old = answer value cutting (λ s. cut s tour) (cutOn q tour old)
 
--- for a way to cut, and what it looks at of a sheet
-module _ (cut : Sheet → List ℕ → Result) (looksAt : Sheet → Sheet) (q : LentSheet) (tour : List ℕ) (old : CutOutput) where
+-- for a placement of the breaks, a way to cut, and what it looks at of a sheet
+module _ (p : Placement) (cut : Sheet → List ℕ → Result) (looksAt : Sheet → Sheet) (q : LentSheet) (tour : List ℕ) (old : CutOutput) where
   abbrev answered : Answer Result
   answered = cutAnswer cut q tour old
 
@@ -77,13 +78,14 @@ module _ (cut : Sheet → List ℕ → Result) (looksAt : Sheet → Sheet) (q : 
     pub refused : Refused cutting (cutOn q tour old) (cutRefusal r)
     pub untouched : Untouched (cutRefusal r) old new
     -- the runs returned are a legal cutting of the served calls
-    pub legal : IfCut r (λ c. let x = counted c new in Legal looked (x .served) (x .ends))
+    pub legal : IfCut r (λ c. let x = counted c new in Legal p looked (x .served) (x .ends))
     -- their costs add up to the cost returned
-    pub sum : IfCut r (λ c. let x = counted c new in Means (c .cost) (λ n. Sum looked (x .served) (x .ends) n))
-    -- no other legal cutting of the served calls costs less
-    pub least : IfCut r (λ c. let x = counted c new in Means (c .cost) (λ n. Least looked (x .served) n))
+    pub sum : IfCut r (λ c. let x = counted c new in Means (c .cost) (λ n. Sum p looked (x .served) (x .ends) n))
+    -- no other legal cutting of the served calls costs less: by the clock as `Least` says, by least pay whatever its break places, lateness
+    -- pay or not
+    pub least : IfCut r (λ c. let x = counted c new in Means (c .cost) (λ n. Least p looked (x .served) n))
     -- of equal cost the earlier cut point is kept
-    pub ties : IfCut r (λ c. let x = counted c new in Tied looked (x .served) (x .ends))
+    pub ties : IfCut r (λ c. let x = counted c new in Tied p looked (x .served) (x .ends))
     -- the positions held in the end (none where the call is refused): their calls are the served ones
     pub held : List ℕ
     pub served-are : IfCut r (λ c. Served tour held (counted c new .served))
@@ -92,10 +94,10 @@ module _ (cut : Sheet → List ℕ → Result) (looksAt : Sheet → Sheet) (q : 
     -- each position of the tour is held or dropped, and none is both
     pub partition : IfCut r (λ c. Partition tour held (counted c new .dropped))
 
--- by loads and closed legs alone: windows, limits and break are not looked at
+-- by loads and closed legs alone: windows, limits and break are not looked at, and so there is no break to place
 abbrev pub SplitContract : LentSheet → List ℕ → CutOutput → Cut → CutOutput → Type 0
-SplitContract q tour old r new = CutContract split bare q tour old r new
+SplitContract q tour old r new = CutContract byClock split bare q tour old r new
 
 -- by all that the sheet has
-abbrev pub SplitTwContract : LentSheet → List ℕ → CutOutput → Cut → CutOutput → Type 0
-SplitTwContract q tour old r new = CutContract splitTw (λ s. s) q tour old r new
+abbrev pub SplitTwContract : Placement → LentSheet → List ℕ → CutOutput → Cut → CutOutput → Type 0
+SplitTwContract p q tour old r new = CutContract p (splitBy p) (λ s. s) q tour old r new

@@ -5,7 +5,8 @@ use mathlib.Core.List.{List}
 use mathlib.Core.Option.{Option, none, some}
 use lib.Ieee.{Float}
 use Rattle.definitions.specs.Sheet.{Sheet}
-use Rattle.definitions.specs.Evaluation.{routeFeasible, routeEval, effectiveCost}
+use Rattle.definitions.specs.Evaluation.{routeFeasible, evalBy, effectiveCost}
+use Rattle.definitions.specs.Placement.{Placement}
 use Rattle.definitions.specs.Lent.{Lent, evaluating}
 use Rattle.definitions.specs.Answers.{Answer, answer}
 use Rattle.whole.specs.Value.{value}
@@ -53,6 +54,6 @@ FeasibleContract q run r = EvaluationContract routeFeasible feasibleIn feasibleR
 abbrev pub CostContract : LentSheet → List ℕ → Cost → Type 0
 CostContract q run r = EvaluationContract effectiveCost costIn costRefusal q run r
 
--- what it comes to, if it is allowed
-abbrev pub EvalContract : LentSheet → List ℕ → Evaluation → Type 0
-EvalContract q run r = EvaluationContract routeEval evaluationIn evalRefusal q run r
+-- what it comes to, with its break where the placement puts it, if it is allowed
+abbrev pub EvalContract : Placement → LentSheet → List ℕ → Evaluation → Type 0
+EvalContract p q run r = EvaluationContract (evalBy p) evaluationIn evalRefusal q run r

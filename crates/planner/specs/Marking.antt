@@ -11,9 +11,11 @@ use Rattle.definitions.specs.Run.{Run}
 use Rattle.definitions.specs.RunList.{runsOf}
 use Rattle.definitions.specs.Marker as Whole
 use Rattle.definitions.specs.Marker.{withPlaces, verdictNumber, verdictValues}
+use Rattle.definitions.specs.Placement.{Placement, byClock, byPay}
+use Rattle.definitions.specs.Drop.{splitBy}
 use Rattle.definitions.specs.Marks.{Says}
 use Rattle.definitions.specs.Lent.{Lent, marking}
-use Rattle.definitions.specs.Answers.{markOf}
+use Rattle.definitions.specs.Answers.{markByOf}
 use Rattle.whole.specs.Whole.{fl}
 use Rattle.whole.specs.Value.{value}
 use Rattle.marker.specs.declared.verdict.Verdict.{Verdict}
@@ -45,9 +47,10 @@ pub record ByFigures (v : Verdict) (w : Whole.Verdict) : Type 0 where
   pub number : numberIn v ≡ verdictNumber w
   pub values : valuesIn v ≡ map fl (verdictValues w)
 
--- where the verdict is Cheaper there is lateness pay and a break
-abbrev pub CheaperOnly : Sheet → Verdict → Type 0
-CheaperOnly s v = (by : Float) → v ≡ Cheaper by → (latenessPay s ≡ true) × (present (s .head .rest) ≡ true)
+-- by the clock, where the verdict is Cheaper there is lateness pay and a break; by least pay it never is
+abbrev pub CheaperOnly : Placement → Sheet → Verdict → Type 0
+CheaperOnly byClock s v = (by : Float) → v ≡ Cheaper by → (latenessPay s ≡ true) × (present (s .head .rest) ≡ true)
+CheaperOnly byPay s v = (by : Float) → v ≡ Cheaper by → ⊥
 
 -- ---- the contract
 
@@ -55,22 +58,30 @@ CheaperOnly s v = (by : Float) → v ≡ Cheaper by → (latenessPay s ≡ true)
 abbrev pub runsGiven : (calls ends breaks : List ℕ) → List Run
 runsGiven calls ends breaks = withPlaces (runsOf calls ends) breaks
 
-module _ (q : LentSheet) (tour calls ends breaks : List ℕ) where
-  -- all that is lent
-  abbrev pub markOn : Lent Float
-  markOn = on q markLent tour calls ends breaks
+-- all that is lent
+abbrev pub markOn : LentSheet → (tour calls ends breaks : List ℕ) → Lent Float
+markOn q tour calls ends breaks = on q markLent tour calls ends breaks
+
+-- against the planner's cutting by this placement
+module _ (p : Placement) (q : LentSheet) (tour calls ends breaks : List ℕ) where
+  abbrev lent : Lent Float
+  lent = markOn q tour calls ends breaks
+
+  -- a verdict says so of the runs
+  abbrev pub SaysSo : Whole.Verdict → Type 0
+  SaysSo w = Says (meant q) (splitBy p (meant q) tour) (runsGiven calls ends breaks) w
 
   -- of the answer
   pub record MarkContract (r : Marking) : Type 0 where
     -- the complete answer
-    pub result : r ≡ markIn (markOf value markOn)
+    pub result : r ≡ markIn (markByOf value p lent)
     -- by which number it is refused, if by one
-    pub refused : Refused marking markOn (markRefusal r)
+    pub refused : Refused marking lent (markRefusal r)
     -- what the verdict says of the runs
-    pub says : IfMarked r (λ v. HoldsOne v (Says (meant q) tour (runsGiven calls ends breaks)))
+    pub says : IfMarked r (λ v. HoldsOne v SaysSo)
     -- no other verdict says so of them
-    pub no-other : IfMarked r (λ v. (w : Whole.Verdict) → Says (meant q) tour (runsGiven calls ends breaks) w → v ≡ flVerdict w)
+    pub no-other : IfMarked r (λ v. (w : Whole.Verdict) → SaysSo w → v ≡ flVerdict w)
     -- its number and values
-    pub figures : IfMarked r (λ v. ByFigures v (Whole.mark (meant q) tour (runsGiven calls ends breaks)))
-    -- it is Cheaper only with lateness pay and a break
-    pub cheaper : IfMarked r (CheaperOnly (meant q))
+    pub figures : IfMarked r (λ v. ByFigures v (Whole.markBy p (meant q) tour (runsGiven calls ends breaks)))
+    -- when it is Cheaper
+    pub cheaper : IfMarked r (CheaperOnly p (meant q))

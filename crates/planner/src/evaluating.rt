@@ -1,6 +1,7 @@
 // The evaluations of a run as public calls: the customers are gathered into an array, on which the call is checked and
 // answered. The run is lent in bytes.
 ghost use Rattle.definitions.specs.Bytes.{numbersOf};
+ghost use Rattle.placements.specs.Chosen.{placementOf};
 ghost use Rattle.planner.specs.Calls.{lentSheet};
 ghost use Rattle.planner.specs.Evaluating.{FeasibleContract, CostContract, EvalContract};
 use call_runs::evaluating::Cost;
@@ -10,6 +11,7 @@ use lending::count;
 use lending::gathered;
 use models::customer::Customer;
 use models::head::Head;
+use models::placement::Placement;
 
 // Whether a run serves each call in time, or late at a penalty, places its break and keeps the limits.
 pub fn route_feasible(
@@ -45,19 +47,20 @@ pub fn effective_cost(
     call_runs::evaluating::effective_cost(head, all, n, distances, times, run)
 }
 
-// What a run comes to, with its break, if it is allowed.
+// What a run comes to, with its break where the placement puts it, if it is allowed.
 pub fn route_eval(
     head: Head,
     customers: &[Customer],
     distances: &[f64],
     times: &[f64],
     run: &[u8],
+    placement: Placement,
 ) -> Evaluation
     ensures { λ r.
         let sheet = lentSheet head (now (customers .entry)) (now (distances .entry)) (now (times .entry)) in
-        ⌜ EvalContract sheet (numbersOf (now (run .entry))) r ⌝ }
+        ⌜ EvalContract (placementOf placement) sheet (numbersOf (now (run .entry))) r ⌝ }
 {
     let n = count(customers);
     let all = gathered(customers);
-    call_runs::evaluating::route_eval(head, all, n, distances, times, run)
+    call_runs::evaluating::route_eval(head, all, n, distances, times, run, placement)
 }

@@ -1,5 +1,6 @@
 // The marker as a public call: the customers are gathered into an array, on which the call is checked and answered.
 ghost use Rattle.definitions.specs.Bytes.{numbersOf};
+ghost use Rattle.placements.specs.Chosen.{placementOf};
 ghost use Rattle.planner.specs.Calls.{lentSheet};
 ghost use Rattle.planner.specs.Marking.{MarkContract};
 use call_cuts::marking::Marking;
@@ -7,9 +8,10 @@ use lending::count;
 use lending::gathered;
 use models::customer::Customer;
 use models::head::Head;
+use models::placement::Placement;
 
-// A cutting with break places, marked against the planner's of the tour; `calls` and `ends` are its runs, and `breaks`
-// has a break place for each, all in bytes.
+// A cutting with break places, marked against the planner's of the tour by the placement; `calls` and `ends` are its
+// runs, and `breaks` has a break place for each, all in bytes.
 pub fn mark(
     head: Head,
     customers: &[Customer],
@@ -19,13 +21,25 @@ pub fn mark(
     calls: &[u8],
     ends: &[u8],
     breaks: &[u8],
+    placement: Placement,
 ) -> Marking
     ensures { λ r.
         let sheet = lentSheet head (now (customers .entry)) (now (distances .entry)) (now (times .entry)) in
-        ⌜ MarkContract sheet (now (tour .entry)) (numbersOf (now (calls .entry))) (numbersOf (now (ends .entry)))
-        (numbersOf (now (breaks .entry))) r ⌝ }
+        ⌜ MarkContract (placementOf placement) sheet (now (tour .entry)) (numbersOf (now (calls .entry)))
+        (numbersOf (now (ends .entry))) (numbersOf (now (breaks .entry))) r ⌝ }
 {
     let n = count(customers);
     let all = gathered(customers);
-    call_cuts::marking::mark(head, all, n, distances, times, tour, calls, ends, breaks)
+    call_cuts::marking::mark(
+        head,
+        all,
+        n,
+        distances,
+        times,
+        tour,
+        calls,
+        ends,
+        breaks,
+        placement,
+    )
 }

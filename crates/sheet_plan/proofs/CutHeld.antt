@@ -5,13 +5,15 @@ use mathlib.Core.List.{List}
 use lib.ListN.{length, take}
 use lib.Ieee.{Float}
 use Rattle.definitions.specs.Sheet.{Sheet}
-use Rattle.definitions.specs.Drop.{Result, splitTw}
+use Rattle.definitions.specs.Drop.{Result, splitBy}
 use Rattle.definitions.specs.Room.{written}
 use Rattle.models.specs.declared.customer.Customer.{Customer}
 use Rattle.models.specs.declared.head.Head.{Head}
+use Rattle.models.specs.declared.placement.Placement.{Placement}
+use Rattle.placements.specs.Chosen.{placementOf}
 use Rattle.split_tw.specs.declared.answer.SplitResult.{SplitResult}
 use Rattle.split_tw.specs.Answer.{ResultF, Counted}
-use Rattle.cut_rows.specs.Runs.{lent}
+use Rattle.cut_rows.specs.Runs.{Instance, lent}
 use Rattle.split_tw.specs.SplitTw.{splitTwF}
 use Rattle.cut_exact.proofs.Image.{flResult}
 use Rattle.cut_exact.proofs.Exact.{split-tw-exact}
@@ -54,19 +56,22 @@ module _ {x : Result} {r : SplitResult} {old new : CutLists} (C : CutLeft x r ol
 
 -- ---- the cut
 
-module _ (s : Sheet) (tour : List ℕ) (head : Head) (customers : List Customer) (distances times : List Float) (H : InMemory s tour head customers distances times) where
+module _ (p : Placement) (s : Sheet) (tour : List ℕ) (head : Head) (customers : List Customer) (distances times : List Float) (H : InMemory s tour head customers distances times) where
   -- on floats
-  abbrev cut : ResultF
-  cut = splitTwF (lent customers distances times (head .places) (head .capacity) (head .«fixed_cost») (head .limits)) tour
+  abbrev on : Instance
+  on = lent customers distances times (head .places) (head .capacity) (head .«fixed_cost») (head .limits) p
 
-  same : cut ≡ flResult (splitTw s tour)
+  abbrev cut : ResultF
+  cut = splitTwF on tour
+
+  same : cut ≡ flResult (splitBy (placementOf p) s tour)
   same =
-      split-tw-exact s (H .within) tour (H .calls) (lent customers distances times (head .places) (head .capacity) (head .«fixed_cost») (head .limits))
+      split-tw-exact s (H .within) tour (H .calls) on
       (record { tables-hold = H .tables; capacity-holds = held-capacity H; fixed-holds = held-fixed H; limits-hold = held-limits H })
 
   pub cut-left : (r : SplitResult) (old new : CutLists) → Counted cut (r .served) (r .runs) (r .dropped) (r .cost) (r .distance)
       → new .served ≡ written (cut .served) (old .served) → new .ends ≡ written (cut .ends) (old .ends) → new .dropped ≡ written (cut .dropped) (old .dropped)
-      → CutLeft (splitTw s tour) r old new
+      → CutLeft (splitBy (placementOf p) s tour) r old new
   cut-left r old new N e f g =
       record {
         served-count = N .served-count ∙ ap (λ (x : ResultF). length (x .served)) same;

@@ -6,10 +6,11 @@ use mathlib.Core.List.{List}
 use lib.ListN.{length, take}
 use Rattle.cut_theory.specs.Tab.{mostCut}
 use Rattle.definitions.specs.Sheet.{Sheet}
-use Rattle.definitions.specs.Drop.{splitTw}
+use Rattle.definitions.specs.Placement.{Placement}
+use Rattle.definitions.specs.Drop.{splitBy}
 use Rattle.definitions.specs.Room.{written}
 use Rattle.definitions.specs.Bytes.{stored}
-use Rattle.bounds.proofs.InBytes.{split-tw-few}
+use Rattle.bounds.proofs.InBytes.{split-by-few}
 use Rattle.byte_lists.proofs.Narrowed.{narrowed, all-narrowed}
 use Rattle.split_tw.specs.declared.answer.SplitResult.{SplitResult}
 use Rattle.sheet_plan.specs.Plan.{plan, PlanLists, Roomy, Left, LeftInBytes}
@@ -24,7 +25,7 @@ one-list : (n : ℕ) (l array numbers old new : List ℕ) → n ≡ length l →
     → new ≡ narrowedTo n numbers old → new ≡ stored l old
 one-list n l array numbers old new many holds few room e = e ∙ narrowed n l array numbers old many holds ∙ all-narrowed l old (omega (arith, few, room))
 
-module _ (s : Sheet) (tour : List ℕ) (few : length tour ≤ mostCut) {r : SplitResult} {zeros arrays : PlanLists} (L : Left (plan s tour) r zeros arrays)
+module _ (p : Placement) (s : Sheet) (tour : List ℕ) (few : length tour ≤ mostCut) {r : SplitResult} {zeros arrays : PlanLists} (L : Left (plan p s tour) r zeros arrays)
     (old new : PlanLists) (room : Roomy old) where
   -- the starts are written as they are
   pub left-in-bytes : zeros .starts ≡ old .starts → new .starts ≡ arrays .starts
@@ -32,12 +33,12 @@ module _ (s : Sheet) (tour : List ℕ) (few : length tour ≤ mostCut) {r : Spli
       → new .cut .ends ≡ narrowedTo (r .runs) (arrays .cut .ends) (old .cut .ends)
       → new .places ≡ narrowedTo (r .runs) (arrays .places) (old .places)
       → new .cut .dropped ≡ narrowedTo (r .dropped) (arrays .cut .dropped) (old .cut .dropped)
-      → LeftInBytes (plan s tour) r old new
+      → LeftInBytes (plan p s tour) r old new
   unfolding plan
   left-in-bytes from to served ends places dropped =
-      let x = splitTw s tour in
+      let x = splitBy p s tour in
       let C = L .cut in
-      let f = split-tw-few tour s in
+      let f = split-by-few tour p s in
       record {
         counts = rw (C .served-count, C .runs-count, C .dropped-count) refl;
         totals = rw (C .cost-is, C .distance-is) refl;
@@ -49,7 +50,7 @@ module _ (s : Sheet) (tour : List ℕ) (few : length tour ≤ mostCut) {r : Spli
             (omega (arith, few, f .ends)) (room .1) ends;
         places-left =
             one-list (r .runs) (x .places) (zeros .places) (arrays .places) (old .places) (new .places) (L .places-count) (L .places-left)
-            (omega (arith, few, f .ends, places-many s tour)) (room .2) places;
+            (omega (arith, few, f .ends, places-many p s tour)) (room .2) places;
         starts-left = rw (to, ← from) (L .starts-left);
         dropped-left =
             one-list (r .dropped) (x .dropped) (zeros .cut .dropped) (arrays .cut .dropped) (old .cut .dropped) (new .cut .dropped) (C .dropped-count) (C .dropped-left)
@@ -57,6 +58,6 @@ module _ (s : Sheet) (tour : List ℕ) (few : length tour ≤ mostCut) {r : Spli
       }
 
 -- a plan of the calls that are the tour
-pub of-tour : (s : Sheet) {l tour : List ℕ} {r : SplitResult} {old new : PlanLists} → l ≡ tour → LeftInBytes (plan s l) r old new
-    → LeftInBytes (plan s tour) r old new
-of-tour s {r = r} {old = old} {new = new} e L = subst (λ (l : List ℕ). LeftInBytes (plan s l) r old new) e L
+pub of-tour : (p : Placement) (s : Sheet) {l tour : List ℕ} {r : SplitResult} {old new : PlanLists} → l ≡ tour → LeftInBytes (plan p s l) r old new
+    → LeftInBytes (plan p s tour) r old new
+of-tour p s {r = r} {old = old} {new = new} e L = subst (λ (l : List ℕ). LeftInBytes (plan p s l) r old new) e L

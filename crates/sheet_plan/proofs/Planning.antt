@@ -10,15 +10,17 @@ use Rattle.whole.specs.Whole.{fl}
 use Rattle.cut_theory.specs.Tab.{mostCut}
 use Rattle.definitions.specs.Sheet.{Sheet}
 use Rattle.definitions.specs.Clock.{startOf}
-use Rattle.definitions.specs.Drop.{splitTw}
+use Rattle.definitions.specs.Placement as Whole
+use Rattle.definitions.specs.Drop.{Result, splitBy}
 use Rattle.definitions.specs.Room.{written}
 use Rattle.theorems.proofs.RunListLaws.{RiseTo}
-use Rattle.theorems.proofs.Promised.{promised}
+use Rattle.theorems.proofs.Promised.{promised-by}
 use Rattle.bounds.proofs.Inside.{sized, few-calls, few-tour, calls-inside}
 use Rattle.models.specs.declared.customer.Customer.{Customer}
 use Rattle.models.specs.declared.head.Head.{Head}
-use Rattle.models.specs.Records.{restOf}
-use Rattle.evaluation.specs.Records.{LimitsF, TakenF, lent}
+use Rattle.models.specs.declared.placement.Placement.{Placement}
+use Rattle.evaluation.specs.Records.{TakenF, limitsOf, lent}
+use Rattle.placements.specs.Chosen.{placementOf}
 use Rattle.split_tw.specs.declared.answer.SplitResult.{SplitResult}
 use Rattle.cut_table.proofs.Fronts.{front, inside, counted}
 use Rattle.sheet_loaded.specs.Held.{InMemory}
@@ -32,45 +34,48 @@ use Rattle.sheet_plan.proofs.PlanRoom.{plan-rises, few-ends, served-and
 use Rattle.sheet_plan.proofs.BreaksFound.{places-found, starts-found}
 
 -- each run has a start
-starts-many : (s : Sheet) (tour : List ℕ) → length (splitTw s tour .places) ≡ length (startsOf s (splitTw s tour))
-starts-many s tour =
-    let P = promised s tour in
+starts-many : (p : Whole.Placement) (s : Sheet) (tour : List ℕ) → length (splitBy p s tour .places) ≡ length (startsOf s (splitBy p s tour))
+starts-many p s tour =
+    let P = promised-by s tour p in
     ap length (sym (P .places-are)) ∙ length-map (P .runs) (λ r. r .place) ∙ sym (length-map (P .runs) (λ r. valueOr 0 (startOf s r)))
-    ∙ ap (λ (rs : List _). length (map (λ r. valueOr 0 (startOf s r)) rs)) (sym (placed-are s tour))
+    ∙ ap (λ (rs : List _). length (map (λ r. valueOr 0 (startOf s r)) rs)) (sym (placed-are p s tour))
 
-module _ (s : Sheet) (tour : List ℕ) (head : Head) (customers : List Customer) (distances times : List Float) (H : InMemory s tour head customers distances times)
-    {r : SplitResult} {old new : CutLists} (C : CutLeft (splitTw s tour) r old new) where
+module _ (p : Placement) (s : Sheet) (tour : List ℕ) (head : Head) (customers : List Customer) (distances times : List Float) (H : InMemory s tour head customers distances times)
+    {r : SplitResult} {old new : CutLists} (C : CutLeft (splitBy (placementOf p) s tour) r old new) where
+  abbrev x : Result
+  x = splitBy (placementOf p) s tour
+
   -- the breaks of the runs
   abbrev breaks : List TakenF
-  breaks = breaksF (lent customers distances times (head .places)) (restOf (head .limits .rest)) (take (r .served) (new .served)) (take (r .runs) (new .ends))
+  breaks = breaksF (lent customers distances times (head .places)) (limitsOf (head .limits)) p (take (r .served) (new .served)) (take (r .runs) (new .ends))
 
-  places-are : placesIn breaks ≡ splitTw s tour .places
+  places-are : placesIn breaks ≡ x .places
   places-are =
-      rw (served-are C, ends-are C, ap (λ (l : LimitsF). l .rest) (held-limits H))
-      (places-found s (sized s (H .within)) (lent customers distances times (head .places)) (H .tables) tour (few-calls s tour (H .calls)) (calls-inside s tour (H .calls)))
+      rw (served-are C, ends-are C, held-limits H)
+      (places-found p s (sized s (H .within)) (lent customers distances times (head .places)) (H .tables) tour (few-calls s tour (H .calls)) (calls-inside s tour (H .calls)))
 
-  starts-are : startsIn breaks ≡ map fl (startsOf s (splitTw s tour))
+  starts-are : startsIn breaks ≡ map fl (startsOf s x)
   starts-are =
-      rw (served-are C, ends-are C, ap (λ (l : LimitsF). l .rest) (held-limits H))
-      (starts-found s (sized s (H .within)) (lent customers distances times (head .places)) (H .tables) tour (few-calls s tour (H .calls)) (calls-inside s tour (H .calls)))
+      rw (served-are C, ends-are C, held-limits H)
+      (starts-found p s (sized s (H .within)) (lent customers distances times (head .places)) (H .tables) tour (few-calls s tour (H .calls)) (calls-inside s tour (H .calls)))
 
   -- the run ends rise to the number of served calls
   pub rises : RiseTo 0 (take (r .runs) (new .ends)) (length (take (r .served) (new .served)))
-  rises = rw (served-are C, ends-are C) (plan-rises s tour)
+  rises = rw (served-are C, ends-are C) (plan-rises (placementOf p) s tour)
 
   -- each run's break has room
   pub ends-room : length (take (r .runs) (new .ends)) ≤ mostCut
-  ends-room = rw (ends-are C) (omega (arith, few-ends s tour, served-and-dropped s tour, few-tour s (H .within) tour (H .calls) (H .once)))
+  ends-room = rw (ends-are C) (omega (arith, few-ends (placementOf p) s tour, served-and-dropped (placementOf p) s tour, few-tour s (H .within) tour (H .calls) (H .once)))
 
   module _ (before after : PlanLists) (from : before .cut ≡ old) (to : after .cut ≡ new) where
-    pub left : after .places ≡ written (placesIn breaks) (before .places) → after .starts ≡ written (startsIn breaks) (before .starts) → Left (plan s tour) r before after
+    pub left : after .places ≡ written (placesIn breaks) (before .places) → after .starts ≡ written (startsIn breaks) (before .starts) → Left (plan (placementOf p) s tour) r before after
     unfolding plan
-    left p q =
+    left e q =
         record {
           cut = rw (from, to) C;
-          places-count = C .runs-count ∙ places-many s tour;
-          starts-count = C .runs-count ∙ places-many s tour ∙ starts-many s tour ∙ sym (length-map (startsOf s (splitTw s tour)) fl);
-          places-left = p ∙ ap (λ (l : List ℕ). written l (before .places)) places-are;
+          places-count = C .runs-count ∙ places-many (placementOf p) s tour;
+          starts-count = C .runs-count ∙ places-many (placementOf p) s tour ∙ starts-many (placementOf p) s tour ∙ sym (length-map (startsOf s x) fl);
+          places-left = e ∙ ap (λ (l : List ℕ). written l (before .places)) places-are;
           starts-left = q ∙ ap (λ (l : List Float). written l (before .starts)) starts-are;
         }
 

@@ -1,18 +1,26 @@
--- The breaks of the runs of a run list, on floats. Definitions only.
+-- The breaks of the runs of a run list, where the placement puts them, on floats. Definitions only.
 use Prim.Native.Nat.{ℕ}
 use mathlib.Core.List.{List, map}
-use mathlib.Core.Option.{Option}
+use mathlib.Core.Option.{Option, none, some}
 use lib.Ieee.{Float}
 use Rattle.basics.specs.Options.{valueOr}
 use Rattle.whole.specs.Whole.{fl}
-use Rattle.definitions.specs.Sheet.{BreakOf}
 use Rattle.definitions.specs.RunList.{runsOf}
-use Rattle.evaluation.specs.Records.{Tables, TakenF}
-use Rattle.evaluation.specs.Route.{breakF}
+use Rattle.models.specs.declared.placement.Placement.{Placement}
+use Rattle.evaluation.specs.Records.{Tables, LimitsF, TakenF, EvaluationF}
+use Rattle.placements.specs.Placed.{evalBy}
 
--- where the clock of each run puts its break
-abbrev pub breaksF : Tables → Option (BreakOf Float) → (calls ends : List ℕ) → List TakenF
-breaksF t rest calls ends = map (breakF t rest) (runsOf calls ends)
+-- the break of a run by its evaluation; none where the run isn't allowed
+abbrev pub takenIn : Option EvaluationF → TakenF
+takenIn none = record { place = 0; start = none }
+takenIn (some e) = record { place = e .totals .place; start = e .start }
+
+unfoldable pub breakBy : Tables → LimitsF → Placement → List ℕ → TakenF
+breakBy t limits placement calls = takenIn (evalBy t limits placement calls)
+
+-- those of all runs
+abbrev pub breaksF : Tables → LimitsF → Placement → (calls ends : List ℕ) → List TakenF
+breaksF t limits placement calls ends = map (breakBy t limits placement) (runsOf calls ends)
 
 -- their places, and their starts, 0 where there is none
 abbrev pub placesIn : List TakenF → List ℕ

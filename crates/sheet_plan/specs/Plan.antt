@@ -1,4 +1,4 @@
--- The plan of a sheet in whole numbers: the cut, and when the breaks of its runs start. Definitions only.
+-- The plan of a sheet in whole numbers, for either placement: the cut, and when the breaks of its runs start. Definitions only.
 use Prim.Native.Nat.{ℕ, _≤_}
 use mathlib.Core.Path.{_≡_}
 use mathlib.Core.List.{List, [], _∷_, map}
@@ -9,7 +9,8 @@ use Rattle.whole.specs.Whole.{fl}
 use Rattle.cut_theory.specs.Tab.{mostCut}
 use Rattle.definitions.specs.Sheet.{Sheet}
 use Rattle.definitions.specs.Clock.{startOf}
-use Rattle.definitions.specs.Drop.{Result, splitTw}
+use Rattle.definitions.specs.Placement.{Placement}
+use Rattle.definitions.specs.Drop.{Result, splitBy}
 use Rattle.definitions.specs.Marker.{withPlaces}
 use Rattle.definitions.specs.Room.{written}
 use Rattle.definitions.specs.Bytes.{stored}
@@ -25,8 +26,8 @@ pub record Plan : Type 0 where
 abbrev pub startsOf : Sheet → Result → List ℕ
 startsOf s x = map (λ r. valueOr 0 (startOf s r)) (withPlaces (runsOf (x .served) (x .ends)) (x .places))
 
-unfoldable pub plan : Sheet → List ℕ → Plan
-plan s tour = let x = splitTw s tour in record { cut = x; starts = startsOf s x }
+unfoldable pub plan : Placement → Sheet → List ℕ → Plan
+plan p s tour = let x = splitBy p s tour in record { cut = x; starts = startsOf s x }
 
 -- how many calls are served, runs made and calls dropped
 abbrev pub countsOf : Plan → List ℕ

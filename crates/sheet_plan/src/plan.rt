@@ -1,21 +1,24 @@
 // The plan of a sheet in memory, written to lists: its tour is cut, and the breaks of the runs are found.
 ghost use Rattle.definitions.specs.Sheet.{Sheet};
+ghost use Rattle.placements.specs.Chosen.{placementOf};
 ghost use Rattle.sheet_loaded.specs.Held.{InMemory, Held};
 ghost use Rattle.sheet_plan.specs.Plan.{plan, planLists, Roomy, Left};
 use crate::breaks::write_breaks;
 use crate::cut::cut_held;
 use models::customer::Customer;
 use models::head::Head;
+use models::placement::Placement;
 use split_tw::answer::SplitResult;
 
-// The plan of the tour on the sheet that is held. Its lists are written at the front of those lent; what the cut comes
-// to is returned.
+// The plan of the tour on the sheet that is held, with the breaks where the placement puts them. Its lists are written
+// at the front of those lent; what the cut comes to is returned.
 pub fn plan_held(
     tour: &[usize],
     head: Head,
     customers: [Customer; 64],
     distances: &[f64],
     times: &[f64],
+    placement: Placement,
     served: &mut [usize],
     run_ends: &mut [usize],
     break_places: &mut [usize],
@@ -31,16 +34,15 @@ pub fn plan_held(
         let new = planLists (now (served .exit)) (now («run_ends» .exit)) (now («break_places» .exit))
         (now («break_starts» .exit)) (now (dropped .exit)) in
         ⌜ ((s : Sheet) → InMemory s (now (tour .entry)) head customers (now (distances .entry)) (now (times .entry))
-        → Left (plan s (now (tour .entry))) r old new) ⌝ }
+        → Left (plan (placementOf placement) s (now (tour .entry))) r old new) ⌝ }
 {
-    let limits = head.limits;
-    let rest = limits.rest;
     let cut = cut_held(
         tour,
         head,
         customers,
         distances,
         times,
+        placement,
         &mut *served,
         &mut *run_ends,
         &mut *dropped,
@@ -52,7 +54,8 @@ pub fn plan_held(
         distances,
         times,
         head.places,
-        rest,
+        head.limits,
+        placement,
         &mut *break_places,
         &mut *break_starts,
     );

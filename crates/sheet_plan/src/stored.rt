@@ -5,6 +5,7 @@ ghost use mathlib.Core.List.{List};
 ghost use Prim.Native.Nat.{ℕ};
 ghost use Rattle.definitions.specs.Sheet.{Sheet};
 ghost use Rattle.definitions.specs.Reader as Reader;
+ghost use Rattle.placements.specs.Chosen.{placementOf};
 ghost use Rattle.sheet_loaded.specs.Held.{InMemory, Held, Found};
 ghost use Rattle.sheet_plan.specs.Plan.{plan, planLists, Roomy, LeftInBytes};
 use crate::plan::plan_held;
@@ -12,18 +13,20 @@ use byte_lists::narrow;
 use cut_table::cells::MOST_CUT;
 use models::customer::Customer;
 use models::head::Head;
+use models::placement::Placement;
 use sheet_loaded::load::load;
 use sheet_read::read::Contents;
 use split_tw::answer::SplitResult;
 
-// The plan of the tour on the sheet that is held. Its lists are stored at the front of those lent; what the cut comes
-// to is returned.
+// The plan of the tour on the sheet that is held, with the breaks where the placement puts them. Its lists are stored
+// at the front of those lent; what the cut comes to is returned.
 fn plan_stored(
     tour: &[usize],
     head: Head,
     customers: [Customer; 64],
     distances: &[f64],
     times: &[f64],
+    placement: Placement,
     served: &mut [u8],
     run_ends: &mut [u8],
     break_places: &mut [u8],
@@ -39,7 +42,7 @@ fn plan_stored(
         let new = planLists (now (served .exit)) (now («run_ends» .exit)) (now («break_places» .exit))
         (now («break_starts» .exit)) (now (dropped .exit)) in
         ⌜ ((s : Sheet) → InMemory s (now (tour .entry)) head customers (now (distances .entry)) (now (times .entry))
-        → LeftInBytes (plan s (now (tour .entry))) r old new) ⌝ }
+        → LeftInBytes (plan (placementOf placement) s (now (tour .entry))) r old new) ⌝ }
 {
     let mut calls = [0usize; MOST_CUT];
     let mut ends = [0usize; MOST_CUT];
@@ -51,6 +54,7 @@ fn plan_stored(
         customers,
         distances,
         times,
+        placement,
         &mut calls,
         &mut ends,
         &mut places,
@@ -68,6 +72,7 @@ fn plan_stored(
 pub fn plan_sheet(
     bytes: &[u8],
     found: Contents,
+    placement: Placement,
     served: &mut [u8],
     run_ends: &mut [u8],
     break_places: &mut [u8],
@@ -83,7 +88,7 @@ pub fn plan_sheet(
         let new = planLists (now (served .exit)) (now («run_ends» .exit)) (now («break_places» .exit))
         (now («break_starts» .exit)) (now (dropped .exit)) in
         ⌜ ((s : Sheet) (tour : List ℕ) → Reader.read (now (bytes .entry)) ≡ Reader.sheet s tour
-        → LeftInBytes (plan s tour) r old new) ⌝ }
+        → LeftInBytes (plan (placementOf placement) s tour) r old new) ⌝ }
 {
     let mut distances = [0.0; 4096];
     let mut times = [0.0; 4096];
@@ -96,6 +101,7 @@ pub fn plan_sheet(
         customers,
         &distances[..l.distance_count],
         &times[..l.time_count],
+        placement,
         &mut *served,
         &mut *run_ends,
         &mut *break_places,

@@ -10,6 +10,7 @@ use Rattle.definitions.specs.Sheet.{CustomerOf}
 use Rattle.models.specs.declared.customer.Customer.{Customer}
 use Rattle.models.specs.declared.limits.RouteLimits.{RouteLimits}
 use Rattle.models.specs.declared.load.Space.{Space}
+use Rattle.models.specs.declared.placement.Placement.the-variants.{Clock}
 use Rattle.models.specs.Records.{customerOf}
 use Rattle.cut_rows.specs.Runs.{lent}
 use Rattle.split.specs.Split.{bareRecord, bareLent}
@@ -31,5 +32,5 @@ records-bare l =
     ∙ ap (map bareF) (take-all n (map customerOf l) (omega (arith, length-map l customerOf)))
 
 pub lent-bare : (customers : List Customer) (distances times : List Float) (size : ℕ) (capacity : Space) (fixed : Float) (limits : RouteLimits)
-    → bareLent customers distances times size capacity fixed ≡ bareOf (lent customers distances times size capacity fixed limits)
+    → bareLent customers distances times size capacity fixed ≡ bareOf (lent customers distances times size capacity fixed limits Clock)
 lent-bare customers distances times size capacity fixed limits = rw (records-bare customers) refl

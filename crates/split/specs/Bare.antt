@@ -3,6 +3,7 @@ use mathlib.Core.List.{map}
 use mathlib.Core.Option.{none}
 use lib.Ieee.{Float}
 use Rattle.definitions.specs.Sheet.{CustomerOf}
+use Rattle.models.specs.declared.placement.Placement.the-variants.{Clock}
 use Rattle.cut_rows.specs.Runs.{Instance}
 
 -- a record on floats without its window and its penalty
@@ -18,4 +19,5 @@ bareOf I =
       capacity = I .capacity;
       fixed = I .fixed;
       limits = record { maxDistance = none; maxDuration = none; rest = none };
+      placement = Clock;
     }

@@ -10,6 +10,7 @@ use Rattle.models.specs.declared.limits.RouteLimits.{RouteLimits}
 use Rattle.models.specs.declared.limits.Limit.the-variants.{Unlimited}
 use Rattle.models.specs.declared.load.Space.{Space}
 use Rattle.models.specs.declared.vehicle.Rest.the-variants.{Unbroken}
+use Rattle.models.specs.declared.placement.Placement.the-variants.{Clock}
 use Rattle.cut_rows.specs.Runs.{Instance, lent}
 
 -- a record without its window and its penalty
@@ -26,4 +27,4 @@ abbrev pub noLimits : RouteLimits
 noLimits = record { «max_distance» = Unlimited; «max_duration» = Unlimited; rest = Unbroken }
 
 abbrev pub bareLent : List Customer → List Float → List Float → ℕ → Space → Float → Instance
-bareLent customers distances times size capacity fixed = lent (map bareRecord customers) distances times size capacity fixed noLimits
+bareLent customers distances times size capacity fixed = lent (map bareRecord customers) distances times size capacity fixed noLimits Clock

@@ -16,6 +16,7 @@ use models::customer::Penalty;
 use models::limits::Limit;
 use models::limits::RouteLimits;
 use models::load::Space;
+use models::placement::Placement;
 use models::vehicle::Rest;
 use split_tw::answer::SplitResult;
 use split_tw::split_tw::split_tw;
@@ -96,6 +97,7 @@ pub fn split(
         capacity,
         fixed,
         limits,
+        Placement::Clock,
         &mut *served,
         &mut *run_ends,
         &mut *dropped,

@@ -1,4 +1,4 @@
-// The cut of a tour by capacity, windows, limits and break (ga/split_tw.rs), from the calls that are
+// The cut of a tour by capacity, windows, limits and break, placed either way (ga/split_tw.rs), from the calls that are
 // held and the table of their rows (holding) to the answer.
 ghost use mathlib.Core.Path.{_≡_};
 ghost use Prim.Native.Nat.{_≤_};
@@ -23,6 +23,7 @@ use cut_table::held::write_front;
 use models::customer::Customer;
 use models::limits::RouteLimits;
 use models::load::Space;
+use models::placement::Placement;
 use whole::infinity;
 
 // What the drops come to: how many calls are held at the end, and their cut.
@@ -45,6 +46,7 @@ pub fn settle(
     capacity: Space,
     fixed: f64,
     limits: RouteLimits,
+    placement: Placement,
     held: &mut [usize],
     ends: &mut [usize; CELLS],
     dropped: &mut [usize],
@@ -52,11 +54,11 @@ pub fn settle(
     requires { ⌜ (length (now tour) ≤ mostCut) × Below64 (now tour) × (length (now ends) ≡ cells) ⌝ }
     requires { ⌜ (length (now tour) ≤ length (now held)) × (length (now tour) ≤ length (now dropped)) ⌝ }
     ensures { λ r.
-        let I = lent customers (now (distances .entry)) (now (times .entry)) size capacity fixed limits in
+        let I = lent customers (now (distances .entry)) (now (times .entry)) size capacity fixed limits placement in
         let calls = now (tour .entry) in
         ⌜ Settled I calls (r .held) (r .cost) (r .distance) (r .at) (now (held .exit)) (now (ends .exit)) ⌝ }
     ensures { λ _.
-        let I = lent customers (now (distances .entry)) (now (times .entry)) size capacity fixed limits in
+        let I = lent customers (now (distances .entry)) (now (times .entry)) size capacity fixed limits placement in
         ⌜ now (dropped .exit) ≡ written (dropsF I (now (tour .entry)) .dropped) (now (dropped .entry)) ⌝ }
 {
     let mut codes = [0u32; ALL_CODES];
@@ -89,6 +91,7 @@ pub fn settle(
             capacity,
             fixed,
             limits,
+            placement,
         },
         &mut cost,
         &mut dist,
@@ -117,6 +120,7 @@ pub fn split_tw(
     capacity: Space,
     fixed: f64,
     limits: RouteLimits,
+    placement: Placement,
     served: &mut [usize],
     run_ends: &mut [usize],
     dropped: &mut [usize],
@@ -126,20 +130,20 @@ pub fn split_tw(
         × (length (now tour) ≤ length (now «run_ends»))
         × (length (now tour) ≤ length (now dropped)) ⌝ }
     ensures { λ r.
-        let plan = splitTwF (lent customers (now (distances .entry)) (now (times .entry)) size capacity fixed limits)
-        (now (tour .entry)) in
+        let I = lent customers (now (distances .entry)) (now (times .entry)) size capacity fixed limits placement in
+        let plan = splitTwF I (now (tour .entry)) in
         ⌜ Counted plan (r .served) (r .runs) (r .dropped) (r .cost) (r .distance) ⌝ }
     ensures { λ _.
-        let plan = splitTwF (lent customers (now (distances .entry)) (now (times .entry)) size capacity fixed limits)
-        (now (tour .entry)) in
+        let I = lent customers (now (distances .entry)) (now (times .entry)) size capacity fixed limits placement in
+        let plan = splitTwF I (now (tour .entry)) in
         ⌜ now (served .exit) ≡ written (plan .served) (now (served .entry)) ⌝ }
     ensures { λ _.
-        let plan = splitTwF (lent customers (now (distances .entry)) (now (times .entry)) size capacity fixed limits)
-        (now (tour .entry)) in
+        let I = lent customers (now (distances .entry)) (now (times .entry)) size capacity fixed limits placement in
+        let plan = splitTwF I (now (tour .entry)) in
         ⌜ now («run_ends» .exit) ≡ written (plan .ends) (now («run_ends» .entry)) ⌝ }
     ensures { λ _.
-        let plan = splitTwF (lent customers (now (distances .entry)) (now (times .entry)) size capacity fixed limits)
-        (now (tour .entry)) in
+        let I = lent customers (now (distances .entry)) (now (times .entry)) size capacity fixed limits placement in
+        let plan = splitTwF I (now (tour .entry)) in
         ⌜ now (dropped .exit) ≡ written (plan .dropped) (now (dropped .entry)) ⌝ }
 {
     let mut held = [0usize; MOST_CUT];
@@ -153,6 +157,7 @@ pub fn split_tw(
         capacity,
         fixed,
         limits,
+        placement,
         &mut held,
         &mut ends,
         &mut *dropped,

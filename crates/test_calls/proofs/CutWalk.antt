@@ -37,14 +37,16 @@ use denote.Triple.Spec.{Meets}
 use denote.Triple.Walked.{Stays, walkOf, Walks, walked, walk-meets}
 use Rattle.walks.proofs.Calling.{Met, calls-said}
 use Rattle.walks.proofs.Leaving.{all-left, all-go, leaves}
+use Rattle.placements.specs.Chosen.{placementOf}
 use Rattle.lending.proofs.Rows as rows
 use Rattle.lending.proofs.Rows.{Rs}
 use Rattle.models.specs.declared.customer.Customer.{Customer}
 use Rattle.models.specs.declared.head.Head.{Head}
+use Rattle.models.specs.declared.placement.Placement.{Placement}
 use Rattle.planner.specs.Calls.{lentSheet}
 use Rattle.planner.specs.Cutting.{cutOutput, SplitTwContract}
 use Rattle.planner.proofs.Answers as answers
-use Rattle.planner.proofs.Answers.{Hd, Kd}
+use Rattle.planner.proofs.Answers.{Hd, Pd, Kd}
 use Rattle.planner.proofs.cutting.split_tw as public
 use Rattle.test_calls.proofs.Lending.{typed, at, lending, lend, arrayMach, lentAt, sliceAt, lends-second, comes-back, leaves-second}
 use Rattle.test_calls.proofs.split_tw as split-tw
@@ -66,14 +68,14 @@ function f =
     record {
       lifetimes = 6;
       outlives = [];
-      params = 8;
+      params = 9;
       locals =
           typed Kd ∷ typed Hd ∷ typed Rs ∷ typed (ShrSlice (named 0) [] f64) ∷ typed (ShrSlice (named 1) [] f64) ∷ typed (ShrSlice (named 2) [] usize)
           ∷ typed (MutSlice (named 3) [] u8) ∷ typed (MutSlice (named 4) [] u8) ∷ typed (MutSlice (named 5) [] u8)
-          ∷ lending (again (again (again [])));
+          ∷ typed Pd ∷ lending (again (again (again [])));
       body =
-          lend 9 (reborrow 6 12 (reborrow 7 14 (reborrow 8 16
-          (seq (call f (at 1 ∷ at 11 ∷ at 3 ∷ at 4 ∷ at 5 ∷ at 13 ∷ at 15 ∷ at 17 ∷ []) (place 0 [])) return))));
+          lend 10 (reborrow 6 13 (reborrow 7 15 (reborrow 8 17
+          (seq (call f (at 1 ∷ at 12 ∷ at 3 ∷ at 4 ∷ at 5 ∷ at 14 ∷ at 16 ∷ at 18 ∷ at 9 ∷ []) (place 0 [])) return))));
     }
 
 -- ---- the walk
@@ -91,9 +93,9 @@ onExit κs a α l γ ws = atExit split-tw.ended κs a (tt, (tt, ws .1 .1))
 
 -- what the public cutting says of its result and of the lists that it leaves
 abbrev pub Said : (κs : Lfts 6) → Args split-tw.signature κs → (α : ℕ) → Res public.signature (α ∷ [], κs) → AtExit public.ended (α ∷ [], κs) → Type 0
-Said κs (head, (customers, (distances, (times, (tour, (served, (ends, (dropped, u)))))))) α r e =
+Said κs (head, (customers, (distances, (times, (tour, (served, (ends, (dropped, (p, u))))))))) α r e =
     let left = e .1 .1 .1 .1 .1 in
-    SplitTwContract (lentSheet head customers (distances .now) (times .now)) (tour .now) (cutOutput (served .now) (ends .now) (dropped .now)) r
+    SplitTwContract (placementOf p) (lentSheet head customers (distances .now) (times .now)) (tour .now) (cutOutput (served .now) (ends .now) (dropped .now)) r
     (cutOutput (left .0 .now) (left .1 .0 .now) (left .1 .1 .0 .now))
 
 -- the public cutting's contract c, in terms of which the contract p is shown
@@ -133,20 +135,23 @@ module _ {M : Type 1} (𝓤 : URA M) (H : Heap 𝓤) (A : Atoms 𝓤) (W : Given
   abbrev z : RefT (List ℕ)
   z = a .1 .1 .1 .1 .1 .1 .1 .0
 
+  abbrev b : Placement
+  b = a .1 .1 .1 .1 .1 .1 .1 .1 .0
+
   -- the parameters' machine values
   abbrev vals : Vals split-tw.signature κs
-  vals = (answers.head-vals h, (array-vals rows.vals xs, (slice-vals d, (slice-vals t, (slice-vals tour, (slice-vals x, (slice-vals y, (slice-vals z, tt))))))))
+  vals = (answers.head-vals h, (array-vals rows.vals xs, (slice-vals d, (slice-vals t, (slice-vals tour, (slice-vals x, (slice-vals y, (slice-vals z, (answers.placement-vals b, tt)))))))))
 
   abbrev slice : {X : Type 0} → RefT (List X) → Val
   slice s = sliceVal (s .ptr) (length (s .now))
 
   abbrev passed : List Val
-  passed = answers.head-mach h ∷ arrayMach xs ∷ slice d ∷ slice t ∷ slice tour ∷ slice x ∷ slice y ∷ slice z ∷ []
+  passed = answers.head-mach h ∷ arrayMach xs ∷ slice d ∷ slice t ∷ slice tour ∷ slice x ∷ slice y ∷ slice z ∷ answers.placement-mach b ∷ []
 
   abbrev Post : Val → SProp 𝓤
   Post = walkOf 𝓤 H A split-tw.ended stayed p .post ((κs, qs, tt, a, vals), g)
 
-  -- the tokens, what the head owns, and what the lists own
+  -- the tokens, what the head owns, and what the lists and the placement own
   abbrev Ts : Item 𝓤
   Ts = raw (alive 𝓤 H A split-tw.signature κs qs)
 
@@ -170,58 +175,62 @@ module _ {M : Type 1} (𝓤 : URA M) (H : Heap 𝓤) (A : Atoms 𝓤) (W : Given
         qed W (Ts ∷ ‵ (fsep First (fsep (Rs .own xs (arrayMach xs ∷ [])) Rest)) ∷ []) ∵ enter ! C Λ (function f) passed _ $
         alloc1 ! (λ l₀. alloc1 ! (λ l₁. alloc1 ! (λ l₂. alloc1 ! (λ l₃. alloc1 !
         (λ l₄. alloc1 ! (λ l₅. alloc1 ! (λ l₆. alloc1 ! (λ l₇. alloc1 ! (λ l₈. alloc1 !
-        (λ l₉. alloc1 ! (λ l₁₀. alloc1 ! (λ l₁₁. alloc1 ! (λ l₁₂. alloc1 ! (λ l₁₃. alloc1 ! (λ l₁₄. alloc1 ! (λ l₁₅. alloc1 ! (λ l₁₆. alloc1 ! (λ l₁₇. alloc0 ! $ params1 ! $
-        pass1 ! (init ! 32 refl (answers.head-lawful 𝓤 H A W .typed h _ (are .0) .0)) $
-        pass1 ! (init ! 30 refl (rows.all-lawful 𝓤 H A W .typed xs _ (are .1 .0) .0)) $
-        pass1 ! (init ! 28 refl (shr-slice-lawful 𝓤 H A W (named 0) (κs .0) f64 .typed d _ (are .1 .1 .0) .0)) $
-        pass1 ! (init ! 26 refl (shr-slice-lawful 𝓤 H A W (named 1) (κs .1 .0) f64 .typed t _ (are .1 .1 .1 .0) .0)) $
-        pass1 ! (init ! 24 refl (shr-slice-lawful 𝓤 H A W (named 2) (κs .1 .1 .0) usize .typed tour _ (are .1 .1 .1 .1 .0) .0)) $
-        pass1 ! (init ! 22 refl (mut-slice-lawful 𝓤 H A W (named 3) (κs .1 .1 .1 .0) u8 .typed x _ (are .1 .1 .1 .1 .1 .0) .0)) $
-        pass1 ! (init ! 20 refl (mut-slice-lawful 𝓤 H A W (named 4) (κs .1 .1 .1 .1 .0) u8 .typed y _ (are .1 .1 .1 .1 .1 .1 .0) .0)) $
-        pass1 ! (init ! 18 refl (mut-slice-lawful 𝓤 H A W (named 5) (κs .1 .1 .1 .1 .1 .0) u8 .typed z _ (are .1 .1 .1 .1 .1 .1 .1 .0) .0)) $
+        (λ l₉. alloc1 ! (λ l₁₀. alloc1 ! (λ l₁₁. alloc1 ! (λ l₁₂. alloc1 ! (λ l₁₃. alloc1 ! (λ l₁₄. alloc1 ! (λ l₁₅. alloc1 ! (λ l₁₆. alloc1 ! (λ l₁₇. alloc1 ! (λ l₁₈. alloc0 ! $ params1 ! $
+        pass1 ! (init ! 34 refl (answers.head-lawful 𝓤 H A W .typed h _ (are .0) .0)) $
+        pass1 ! (init ! 32 refl (rows.all-lawful 𝓤 H A W .typed xs _ (are .1 .0) .0)) $
+        pass1 ! (init ! 30 refl (shr-slice-lawful 𝓤 H A W (named 0) (κs .0) f64 .typed d _ (are .1 .1 .0) .0)) $
+        pass1 ! (init ! 28 refl (shr-slice-lawful 𝓤 H A W (named 1) (κs .1 .0) f64 .typed t _ (are .1 .1 .1 .0) .0)) $
+        pass1 ! (init ! 26 refl (shr-slice-lawful 𝓤 H A W (named 2) (κs .1 .1 .0) usize .typed tour _ (are .1 .1 .1 .1 .0) .0)) $
+        pass1 ! (init ! 24 refl (mut-slice-lawful 𝓤 H A W (named 3) (κs .1 .1 .1 .0) u8 .typed x _ (are .1 .1 .1 .1 .1 .0) .0)) $
+        pass1 ! (init ! 22 refl (mut-slice-lawful 𝓤 H A W (named 4) (κs .1 .1 .1 .1 .0) u8 .typed y _ (are .1 .1 .1 .1 .1 .1 .0) .0)) $
+        pass1 ! (init ! 20 refl (mut-slice-lawful 𝓤 H A W (named 5) (κs .1 .1 .1 .1 .1 .0) u8 .typed z _ (are .1 .1 .1 .1 .1 .1 .1 .0) .0)) $
+        pass1 ! (init ! 18 refl (answers.placement-lawful 𝓤 H A W .typed b _ (are .1 .1 .1 .1 .1 .1 .1 .1 .0) .0)) $
         pass0 ! $
-        -- [_17; …; _16; …; .. _0; …; the tokens; what the parameters own]
-        assigns ! (of-opd ! (load ! (from ! (stop !)) (look ! 30 refl))) (from ! (stop !)) (init ! 16 refl (rows.all-lawful 𝓤 H A W .typed xs _ (are .1 .0) .0)) $
+        -- [_18; …; _17; …; .. _0; …; the tokens; what the parameters own]
+        assigns ! (of-opd ! (load ! (from ! (stop !)) (look ! 32 refl))) (from ! (stop !)) (init ! 16 refl (rows.all-lawful 𝓤 H A W .typed xs _ (are .1 .0) .0)) $
         assigns ! (addr ! (from ! (stop !))) (from ! (stop !)) (init ! 14 refl (tt, tt)) $
         assigns ! (agg ! (and-then ! (load ! (from ! (stop !)) (look ! 14 refl)) (and-then ! (lit ! tt) (no-more !)))) (from ! (stop !)) (init ! 12 refl (tt, (tt, (record { fits = lit< tt }, tt)))) $
         -- each lent list is borrowed again
-        assigns ! (addr ! (from ! (fld ! refl (hop ! (look-in ! 22 (sub ! 0 refl (whole !))) (stop !))))) (from ! (stop !)) (init ! 10 refl (tt, tt)) $
-        assigns ! (agg ! (and-then ! (load ! (from ! (stop !)) (look ! 10 refl)) (and-then ! (load ! (from ! (fld ! refl (stop !))) (look-in ! 22 (sub ! 1 refl (whole !)))) (no-more !))))
+        assigns ! (addr ! (from ! (fld ! refl (hop ! (look-in ! 24 (sub ! 0 refl (whole !))) (stop !))))) (from ! (stop !)) (init ! 10 refl (tt, tt)) $
+        assigns ! (agg ! (and-then ! (load ! (from ! (stop !)) (look ! 10 refl)) (and-then ! (load ! (from ! (fld ! refl (stop !))) (look-in ! 24 (sub ! 1 refl (whole !)))) (no-more !))))
         (from ! (stop !)) (init ! 8 refl (tt, (tt, (record { fits = are .1 .1 .1 .1 .1 .0 .0 .1 .0 }, tt)))) $
-        assigns ! (addr ! (from ! (fld ! refl (hop ! (look-in ! 20 (sub ! 0 refl (whole !))) (stop !))))) (from ! (stop !)) (init ! 6 refl (tt, tt)) $
-        assigns ! (agg ! (and-then ! (load ! (from ! (stop !)) (look ! 6 refl)) (and-then ! (load ! (from ! (fld ! refl (stop !))) (look-in ! 20 (sub ! 1 refl (whole !)))) (no-more !))))
+        assigns ! (addr ! (from ! (fld ! refl (hop ! (look-in ! 22 (sub ! 0 refl (whole !))) (stop !))))) (from ! (stop !)) (init ! 6 refl (tt, tt)) $
+        assigns ! (agg ! (and-then ! (load ! (from ! (stop !)) (look ! 6 refl)) (and-then ! (load ! (from ! (fld ! refl (stop !))) (look-in ! 22 (sub ! 1 refl (whole !)))) (no-more !))))
         (from ! (stop !)) (init ! 4 refl (tt, (tt, (record { fits = are .1 .1 .1 .1 .1 .1 .0 .0 .1 .0 }, tt)))) $
-        assigns ! (addr ! (from ! (fld ! refl (hop ! (look-in ! 18 (sub ! 0 refl (whole !))) (stop !))))) (from ! (stop !)) (init ! 2 refl (tt, tt)) $
-        assigns ! (agg ! (and-then ! (load ! (from ! (stop !)) (look ! 2 refl)) (and-then ! (load ! (from ! (fld ! refl (stop !))) (look-in ! 18 (sub ! 1 refl (whole !)))) (no-more !))))
+        assigns ! (addr ! (from ! (fld ! refl (hop ! (look-in ! 20 (sub ! 0 refl (whole !))) (stop !))))) (from ! (stop !)) (init ! 2 refl (tt, tt)) $
+        assigns ! (agg ! (and-then ! (load ! (from ! (stop !)) (look ! 2 refl)) (and-then ! (load ! (from ! (fld ! refl (stop !))) (look-in ! 20 (sub ! 1 refl (whole !)))) (no-more !))))
         (from ! (stop !)) (init ! 0 refl (tt, (tt, (record { fits = are .1 .1 .1 .1 .1 .1 .1 .0 .0 .1 .0 }, tt)))) $
         -- the array is lent
-        move ! (16 ∷ 36 ∷ 37 ∷ []) $ lends-second ! tt Ts First Rest xs (arrayMach xs) l₉ (are .1 .0) (λ α γ.
-        -- [the callee's tokens; what its parameters own; the lender's part; _17; …; .. _10; …; that _9 dies; _8; …; .. _0; …]
+        move ! (16 ∷ 38 ∷ 39 ∷ []) $ lends-second ! tt Ts First Rest xs (arrayMach xs) l₁₀ (are .1 .0) (λ α γ.
+        -- [the callee's tokens; what its parameters own; the lender's part; _18; …; .. _11; …; that _10 dies; _9; …; .. _0; …]
         use1 W (raw (alive 𝓤 H A public.signature (α ∷ [], κs) (fullShare, qs))) (id⊢ 𝓤 _) $
-        calls-said ! fm public.ended c known (α ∷ [], κs) (fullShare, qs) tt (onCall κs a α l₉ γ) (answers.head-vals h, (sliceAt l₉ ∷ [], vals .1 .1)) (carries .ghost κs a α l₉ γ)
-        (carries .asks κs a α l₉ γ) (carries .Said κs a α) (carries .heard κs a α l₉ γ)
-        (and-then ! (load ! (from ! (stop !)) (look ! 33 refl)) (and-then ! (load ! (from ! (stop !)) (look ! 14 refl))
-        (and-then ! (load ! (from ! (stop !)) (look ! 29 refl)) (and-then ! (load ! (from ! (stop !)) (look ! 27 refl)) (and-then ! (load ! (from ! (stop !)) (look ! 25 refl))
-        (and-then ! (load ! (from ! (stop !)) (look ! 10 refl)) (and-then ! (load ! (from ! (stop !)) (look ! 6 refl)) (and-then ! (load ! (from ! (stop !)) (look ! 2 refl)) (no-more !)))))))))
+        calls-said ! fm public.ended c known (α ∷ [], κs) (fullShare, qs) tt (onCall κs a α l₁₀ γ) (answers.head-vals h, (sliceAt l₁₀ ∷ [], vals .1 .1)) (carries .ghost κs a α l₁₀ γ)
+        (carries .asks κs a α l₁₀ γ) (carries .Said κs a α) (carries .heard κs a α l₁₀ γ)
+        (and-then ! (load ! (from ! (stop !)) (look ! 35 refl)) (and-then ! (load ! (from ! (stop !)) (look ! 14 refl))
+        (and-then ! (load ! (from ! (stop !)) (look ! 31 refl)) (and-then ! (load ! (from ! (stop !)) (look ! 29 refl)) (and-then ! (load ! (from ! (stop !)) (look ! 27 refl))
+        (and-then ! (load ! (from ! (stop !)) (look ! 10 refl)) (and-then ! (load ! (from ! (stop !)) (look ! 6 refl))
+        (and-then ! (load ! (from ! (stop !)) (look ! 2 refl)) (and-then ! (load ! (from ! (stop !)) (look ! 19 refl)) (no-more !))))))))))
         (λ u r ws said is.
-        -- [the result; the callee's tokens; what is said of the last values; the lender's part; _17; …]
-        move ! (1 ∷ 3 ∷ []) $ use1 W (‵ (flft (α ∷ []) fullShare) ⊛ Ts) (id⊢ 𝓤 _) $ comes-back ! tt Ts xs l₉ α (are .1 .0 .1 .0 .1) (λ v.
-        -- [_9; the tokens; the result; what is said of the last values; _17; …; .. _10; …; that _9 dies; _8; …; .. _0; …]
-        land ! (from ! (stop !)) (init ! 37 refl (answers.cut-lawful 𝓤 H A W .typed r _ is .0)) $
-        returns ! (look ! 37 refl) $ forget ! 0 refl $ forget ! 4 refl $ forget ! 6 refl $ forget ! 8 refl $ forget ! 10 refl $ forget ! 12 refl $ forget ! 14 refl $ forget ! 16 refl $
+        -- [the result; the callee's tokens; what is said of the last values; the lender's part; _18; …]
+        move ! (1 ∷ 3 ∷ []) $ use1 W (‵ (flft (α ∷ []) fullShare) ⊛ Ts) (id⊢ 𝓤 _) $ comes-back ! tt Ts xs l₁₀ α (are .1 .0 .1 .0 .1) (λ v.
+        -- [_10; the tokens; the result; what is said of the last values; _18; …; .. _11; …; that _10 dies; _9; …; .. _0; …]
+        land ! (from ! (stop !)) (init ! 39 refl (answers.cut-lawful 𝓤 H A W .typed r _ is .0)) $
+        returns ! (look ! 39 refl) $ forget ! 0 refl $ forget ! 4 refl $ forget ! 6 refl $ forget ! 8 refl $ forget ! 10 refl $ forget ! 12 refl $ forget ! 14 refl $ forget ! 16 refl $
         forget ! 18 refl $ forget ! 21 refl $ forget ! 23 refl $ forget ! 25 refl $ forget ! 27 refl $ forget ! 29 refl $ forget ! 31 refl $ forget ! 33 refl $ forget ! 35 refl $ forget ! 37 refl $
-        move ! (37 ∷ 38 ∷ []) $ free1 ! $ move ! (35 ∷ 36 ∷ []) $ free1 ! $ move ! (33 ∷ 34 ∷ []) $ free1 ! $ move ! (31 ∷ 32 ∷ []) $ free1 ! $ move ! (29 ∷ 30 ∷ []) $ free1 ! $
+        forget ! 39 refl $
+        move ! (39 ∷ 40 ∷ []) $ free1 ! $ move ! (37 ∷ 38 ∷ []) $ free1 ! $ move ! (35 ∷ 36 ∷ []) $ free1 ! $ move ! (33 ∷ 34 ∷ []) $ free1 ! $ move ! (31 ∷ 32 ∷ []) $ free1 ! $
+        move ! (29 ∷ 30 ∷ []) $ free1 ! $
         move ! (27 ∷ 28 ∷ []) $ free1 ! $ move ! (25 ∷ 26 ∷ []) $ free1 ! $ move ! (23 ∷ 24 ∷ []) $ free1 ! $ move ! (21 ∷ 22 ∷ []) $ free1 ! $ move ! (0 ∷ 20 ∷ []) $ free1 ! $
         move ! (17 ∷ 18 ∷ []) $ free1 ! $ move ! (15 ∷ 16 ∷ []) $ free1 ! $ move ! (13 ∷ 14 ∷ []) $ free1 ! $ move ! (11 ∷ 12 ∷ []) $ free1 ! $ move ! (9 ∷ 10 ∷ []) $ free1 ! $ move ! (7 ∷ 8 ∷ []) $
         free1 ! $ move ! (5 ∷ 6 ∷ []) $ free1 ! $ move ! (3 ∷ 4 ∷ []) $ free1 ! $ free0 ! $
-        keep ! (2 ∷ 1 ∷ 0 ∷ []) $ by ! (exits α l₉ γ r u ws said))))))))))))))))))))))
+        keep ! (2 ∷ 1 ∷ 0 ∷ []) $ by ! (exits α l₁₀ γ r u ws said)))))))))))))))))))))))
 
 module _ {M : Type 1} (𝓤 : URA M) (H : Heap 𝓤) (A : Atoms 𝓤) (W : Given 𝓤 H A) (f : Name) (c : Clauses 𝓤 public.ended) (p : Clauses 𝓤 split-tw.ended) (carries : Carries 𝓤 c p) where
   walks : (C : Calls 𝓤 H) (Λ : Loops 𝓤 H) → FmC 𝓤 H (W .laws) C → Triple 𝓤 (C f) (Met 𝓤 H A public.ended c) → Walks 𝓤 H A split-tw.ended stayed (WpFn 𝓤 H C Λ (function f)) p
   walks C Λ fm known =
       walked 𝓤 H A split-tw.ended stayed p (WpFn 𝓤 H C Λ (function f)) (λ κs. (
         answers.head-vals,
-        (array-vals rows.vals, (slice-vals, (slice-vals, (slice-vals, (slice-vals, (slice-vals, (slice-vals, tt))))))),
+        (array-vals rows.vals, (slice-vals, (slice-vals, (slice-vals, (slice-vals, (slice-vals, (slice-vals, (answers.placement-vals, tt)))))))),
       ))
       (λ κs. (
         answers.head-tells,
@@ -233,7 +242,10 @@ module _ {M : Type 1} (𝓤 : URA M) (H : Heap 𝓤) (A : Atoms 𝓤) (W : Given
               shr-slice-tells (named 1) (κs .1 .0) f64,
               (
                 shr-slice-tells (named 2) (κs .1 .1 .0) usize,
-                (mut-slice-tells (named 3) (κs .1 .1 .1 .0) u8, (mut-slice-tells (named 4) (κs .1 .1 .1 .1 .0) u8, (mut-slice-tells (named 5) (κs .1 .1 .1 .1 .1 .0) u8, tt))),
+                (
+                  mut-slice-tells (named 3) (κs .1 .1 .1 .0) u8,
+                  (mut-slice-tells (named 4) (κs .1 .1 .1 .1 .0) u8, (mut-slice-tells (named 5) (κs .1 .1 .1 .1 .1 .0) u8, (answers.placement-tells, tt))),
+                ),
               ),
             ),
           ),

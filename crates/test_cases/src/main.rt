@@ -1,20 +1,31 @@
 // The bench cases a to q, and r with a customer listed twice, each cut by the planner: a line says the refusal, or
 // the runs as customers, with the break and the time at home where the sheet has a break, then the dropped positions,
-// cost and distance.
+// cost and distance. Breaks go where the clock puts them; q is cut by least pay too, and by that the clock's run of it
+// is marked.
 // A tour is written as the digits of a number.
 use call_cuts::cutting::Cut;
+use call_cuts::marking::Marking;
+use call_cuts::marking::mark;
 use call_runs::evaluating::Evaluation;
 use evaluation::route::RouteEval;
 use evaluation::route::Start;
 use io::print_decimal;
 use io::write_all;
 use listing_lines::number::whole_part;
+use marker::verdict::Verdict;
 use models::byte::number_of;
+use models::placement::Placement;
 use split_tw::answer::SplitResult;
 use test_sheets::changes::Change;
 use test_sheets::changes::changed;
 use test_sheets::digits::begin;
 use test_sheets::digits::digits;
+
+// A sheet, and where the breaks go.
+struct Case {
+    change: Change,
+    placement: Placement,
+}
 
 fn text(bytes: &[u8]) {
     write_all(1, bytes);
@@ -43,13 +54,15 @@ fn numbers(list: &[u8]) {
     }
 }
 
-fn evaluate(change: Change, run: &[u8]) -> Evaluation {
+fn evaluate(case: Case, run: &[u8]) -> Evaluation {
+    let change = case.change;
+    let placement = case.placement;
     let sheet = changed(change);
     let head = sheet.head;
     let customers = sheet.customers;
     let distances = sheet.distances;
     let times = [0.0];
-    test_calls::route_eval(head, customers, &distances, &times[..0], run)
+    test_calls::route_eval(head, customers, &distances, &times[..0], run, placement)
 }
 
 // The break, if one is taken, and the time at home.
@@ -72,21 +85,22 @@ fn has_break(change: Change) -> bool {
 }
 
 // A run as customers, with its break where the sheet has one.
-fn show_run(change: Change, run: &[u8]) {
+fn show_run(case: Case, run: &[u8]) {
     text(b" run");
     numbers(run);
+    let change = case.change;
     if has_break(change) {
-        if let Evaluation::Allowed(eval) = evaluate(change, run) {
+        if let Evaluation::Allowed(eval) = evaluate(case, run) {
             show_times(eval);
         }
     }
     text(b";");
 }
 
-fn show_stretch(change: Change, served: &[u8], from: usize, to: usize) {
+fn show_stretch(case: Case, served: &[u8], from: usize, to: usize) {
     if from <= to {
         if to <= served.len() {
-            show_run(change, &served[from..to]);
+            show_run(case, &served[from..to]);
         }
     }
 }
@@ -100,12 +114,12 @@ fn item(list: &[u8], i: usize) -> usize {
 }
 
 // The runs that end at the first n of the ends.
-fn show_runs(change: Change, served: &[u8], ends: &[u8], n: usize) {
+fn show_runs(case: Case, served: &[u8], ends: &[u8], n: usize) {
     let mut from = 0;
     let mut i = 0;
     while i < n {
         let to = item(ends, i);
-        show_stretch(change, served, from, to);
+        show_stretch(case, served, from, to);
         from = to;
         i += 1;
     }
@@ -126,13 +140,9 @@ fn show_dropped(dropped: &[u8], n: usize) {
     }
 }
 
-fn cut(
-    change: Change,
-    tour: &[usize],
-    served: &mut [u8],
-    ends: &mut [u8],
-    dropped: &mut [u8],
-) -> Cut {
+fn cut(case: Case, tour: &[usize], served: &mut [u8], ends: &mut [u8], dropped: &mut [u8]) -> Cut {
+    let change = case.change;
+    let placement = case.placement;
     let sheet = changed(change);
     let head = sheet.head;
     let customers = sheet.customers;
@@ -147,6 +157,7 @@ fn cut(
         served,
         ends,
         dropped,
+        placement,
     )
 }
 
@@ -156,27 +167,32 @@ fn show_totals(counts: SplitResult) {
 }
 
 // The runs of a tour, its drops, and what they come to; or the number of its refusal.
-fn show_cut(change: Change, tour: &[usize]) {
+fn show_cut(case: Case, tour: &[usize]) {
     let mut served = [0; 3];
     let mut ends = [0; 3];
     let mut dropped = [0; 3];
-    match cut(change, tour, &mut served, &mut ends, &mut dropped) {
+    match cut(case, tour, &mut served, &mut ends, &mut dropped) {
         Cut::Refused(number) => numbered(b" refused ", number as u64),
         Cut::Cut(counts) => {
-            show_runs(change, &served, &ends, counts.runs);
+            show_runs(case, &served, &ends, counts.runs);
             show_dropped(&dropped, counts.dropped);
             show_totals(counts);
         }
     }
 }
 
-// A case, with its letter.
-fn show(letter: u8, change: Change, tour: usize) {
+fn show_named(name: &[u8], case: Case, tour: usize) {
     let calls = digits(tour);
-    text(&[letter]);
+    text(name);
     text(b":");
-    show_cut(change, &calls[begin(tour)..]);
+    show_cut(case, &calls[begin(tour)..]);
     text(b"\n");
+}
+
+// A case by the clock, with its letter.
+fn show(letter: u8, change: Change, tour: usize) {
+    let placement = Placement::Clock;
+    show_named(&[letter], Case { change, placement }, tour);
 }
 
 // In the fourth case there are no calls, and in the fifth one run is as far as two.
@@ -209,6 +225,47 @@ fn breaks() {
     show(b'q', Change::BreakAtPrice, 12);
 }
 
+// The run 1 2 with its break at call 1, marked by the placement.
+fn mark_first(case: Case) -> Marking {
+    let change = case.change;
+    let placement = case.placement;
+    let sheet = changed(change);
+    let head = sheet.head;
+    let customers = sheet.customers;
+    let distances = sheet.distances;
+    let times = [0.0];
+    mark(
+        head,
+        customers,
+        head.places,
+        &distances,
+        &times[..0],
+        &[1, 2],
+        &[1, 2],
+        &[2],
+        &[1],
+        placement,
+    )
+}
+
+fn show_dearer(verdict: Verdict) {
+    if let Verdict::Dearer { by } = verdict {
+        amount(b"q by the clock, marked by least pay: dearer by ", by);
+        text(b"\n");
+    }
+}
+
+fn least_pay() {
+    let case = Case {
+        change: Change::BreakAtPrice,
+        placement: Placement::Least,
+    };
+    show_named(b"q by least pay", case, 12);
+    if let Marking::Verdict(verdict) = mark_first(case) {
+        show_dearer(verdict);
+    }
+}
+
 fn repeats() {
     show(b'r', Change::Nothing, 121);
 }
@@ -218,5 +275,6 @@ fn main() {
     windows();
     limits();
     breaks();
+    least_pay();
     repeats();
 }

@@ -17,6 +17,7 @@ use Rattle.models.specs.Image.{flCustomer}
 use Rattle.evaluation.specs.Image.{flLimits}
 use Rattle.sheet_read.specs.Parts.{depots}
 use Rattle.improve_base.specs.Search.{searchF}
+use Rattle.models.specs.declared.placement.Placement.the-variants.{Clock}
 use Rattle.cut_rows.specs.Runs.{Instance}
 use Rattle.place_choice.specs.Insertion.{GivenF}
 use Rattle.split_tw.specs.Answer.{ResultF}
@@ -49,7 +50,7 @@ givenOf s =
 
 -- what the cut by loads and closed legs alone is given of it
 abbrev pub bare : GivenF → Instance
-bare G = bareOf (record { tables = G .tables; capacity = G .capacity; fixed = G .fixed; limits = G .search .limits })
+bare G = bareOf (record { tables = G .tables; capacity = G .capacity; fixed = G .fixed; limits = G .search .limits; placement = Clock })
 
 -- what a cut gives, by its parts
 abbrev pub result : (served ends dropped : List ℕ) (cost distance : Float) → ResultF

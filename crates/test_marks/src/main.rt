@@ -10,6 +10,7 @@ use marker::verdict::Verdict;
 use models::byte::byte_of;
 use models::customer::Customer;
 use models::head::Head;
+use models::placement::Placement;
 use test_sheets::changes::Change;
 use test_sheets::changes::changed;
 use test_sheets::digits::begin;
@@ -159,7 +160,7 @@ fn byte_digits(n: usize) -> [u8; 5] {
     ]
 }
 
-// The mark of runs with these ends and break places, on a sheet without a time table.
+// The mark of runs with these ends and break places by the clock, on a sheet without a time table.
 fn judge(
     head: Head,
     customers: [Customer; 64],
@@ -183,6 +184,7 @@ fn judge(
         calls,
         &run_ends[from..],
         &run_breaks[from..],
+        Placement::Clock,
     )
 }
 

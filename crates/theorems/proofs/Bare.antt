@@ -12,6 +12,7 @@ use Rattle.definitions.specs.Sheet.{Customer, Sheet, depot, customer, drive}
 use Rattle.definitions.specs.Run.{distanceFrom, lengthOf, load, fits, price}
 use Rattle.definitions.specs.Clock.{Arc}
 use Rattle.definitions.specs.Drop.{callsAt, drops, Result, plainArc, cutOf, split, splitTw}
+use Rattle.definitions.specs.Placement.{byClock}
 use Rattle.definitions.specs.Cutting.{runEnds}
 use Rattle.definitions.specs.Clauses.{Clauses, bare, bareCustomer}
 use Rattle.definitions.proofs.LoadLaws.{load-by}
@@ -78,7 +79,7 @@ module _ (s : Sheet) where
   pub split-by-clock : (tour : List ℕ) → splitTw (bare s) tour ≡ split s tour
   split-by-clock tour = sym (split-same (bare s) bare-plain tour) ∙ split-bare tour
 
-  pub split-kept : (tour : List ℕ) → let x = split s tour in Clauses (bare s) tour (x .served) (x .ends) (x .dropped) (x .cost)
+  pub split-kept : (tour : List ℕ) → let x = split s tour in Clauses byClock (bare s) tour (x .served) (x .ends) (x .dropped) (x .cost)
   split-kept tour =
-      subst (λ (x : Result). Clauses (bare s) tour (x .served) (x .ends) (x .dropped) (x .cost))
+      subst (λ (x : Result). Clauses byClock (bare s) tour (x .served) (x .ends) (x .dropped) (x .cost))
       (split-by-clock tour) (split-tw-kept (bare s) tour)

@@ -18,9 +18,9 @@ use Rattle.definitions.specs.Window.{dueOf, enter}
 use Rattle.definitions.specs.Limits.{within, excused}
 use Rattle.definitions.specs.Run.{breakStart, tooLate, ready, serveAt, Label, start, serve, Run, breakAt, serveAll, lastOf, firstClosed, Totals, ride, load, fits, placed}
 use Rattle.definitions.specs.Cutting.{joined, cuttingCost}
-use Rattle.definitions.specs.Drop.{splitTw}
-use Rattle.definitions.specs.Marker.{Verdict, otherCalls, overloadOf, breakMissing, tooFar, tooLong, roadClosed, differ, breakOr, arrivalFault, callFault, walkFault, totalFault, runFault, firstFault, against, mark}
-use Rattle.definitions.specs.Marks.{Placeable, Proper, Differs, legOf, Open, Reached, arrival, Home, Fails, by-road, by-load, by-wheelchairs, by-break, by-window, by-missing, by-distance, by-duration, FirstFails, plannerCost, Says, other, fault, priced}
+use Rattle.definitions.specs.Drop.{Result}
+use Rattle.definitions.specs.Marker.{Verdict, otherCalls, overloadOf, breakMissing, tooFar, tooLong, roadClosed, differ, breakOr, arrivalFault, callFault, walkFault, totalFault, runFault, firstFault, against, markAgainst}
+use Rattle.definitions.specs.Marks.{Placeable, Proper, Differs, legOf, Open, Reached, arrival, Home, Fails, by-road, by-load, by-wheelchairs, by-break, by-window, by-missing, by-distance, by-duration, FirstFails, Says, other, fault, priced}
 use Rattle.theorems.proofs.Roads.{open-leg, closed-is}
 use Rattle.theorems.proofs.Marking.{nothing-mapped, unmarked-legal, unmarked-runs, differ-same, compared, mark-other, mark-same}
 
@@ -260,16 +260,16 @@ shaped s [] p = refl
 shaped s (r ∷ rs) p = and-true _ _ (p .0 .some-calls) (shaped s rs (p .1))
 
 -- the mark is a verdict that says so
-pub mark-says : (s : Sheet) (tour : List ℕ) (rs : List Run) → All (Proper s) rs → Says s tour rs (mark s tour rs)
-mark-says s tour rs proper = go (differ 1 (joined rs) (splitTw s tour .served)) refl
+pub mark-says : (s : Sheet) (plan : Result) (rs : List Run) → All (Proper s) rs → Says s plan rs (markAgainst s plan rs)
+mark-says s plan rs proper = go (differ 1 (joined rs) (plan .served)) refl
   where
-    is : (v : Verdict) → mark s tour rs ≡ v → Says s tour rs v → Says s tour rs (mark s tour rs)
-    is v e x = subst (λ (w : Verdict). Says s tour rs w) (sym e) x
+    is : (v : Verdict) → markAgainst s plan rs ≡ v → Says s plan rs v → Says s plan rs (markAgainst s plan rs)
+    is v e x = subst (λ (w : Verdict). Says s plan rs w) (sym e) x
 
-    at : joined rs ≡ splitTw s tour .served → (o : Option Verdict) → firstFault s 1 rs ≡ o → Says s tour rs (valueOr (against (plannerCost s tour) (cuttingCost s rs)) o)
+    at : joined rs ≡ plan .served → (o : Option Verdict) → firstFault s 1 rs ≡ o → Says s plan rs (valueOr (against (plan .cost) (cuttingCost s rs)) o)
     at e (some v) f = fault e (first-fails s 1 rs proper v f)
-    at e none f = priced (e, unmarked-runs s 1 rs (shaped s rs proper) f) (compared (plannerCost s tour) (cuttingCost s rs))
+    at e none f = priced (e, unmarked-runs s 1 rs (shaped s rs proper) f) (compared (plan .cost) (cuttingCost s rs))
 
-    go : (o : Option ℕ) → differ 1 (joined rs) (splitTw s tour .served) ≡ o → Says s tour rs (mark s tour rs)
-    go (some p) e = is (otherCalls p) (mark-other s tour rs p e) (other (differ-differs 1 (joined rs) (splitTw s tour .served) p e))
-    go none e = is _ (mark-same s tour rs e) (at (differ-same 1 (joined rs) (splitTw s tour .served) e) (firstFault s 1 rs) refl)
+    go : (o : Option ℕ) → differ 1 (joined rs) (plan .served) ≡ o → Says s plan rs (markAgainst s plan rs)
+    go (some p) e = is (otherCalls p) (mark-other s plan rs p e) (other (differ-differs 1 (joined rs) (plan .served) p e))
+    go none e = is _ (mark-same s plan rs e) (at (differ-same 1 (joined rs) (plan .served) e) (firstFault s 1 rs) refl)

@@ -13,17 +13,18 @@ use Rattle.definitions.specs.Sheet.{Sheet, latenessPay, mapBreak}
 use Rattle.definitions.specs.Run.{Run}
 use Rattle.definitions.specs.RunList.{runsOf}
 use Rattle.definitions.specs.Cutting.{callsIn, cuttingCost}
-use Rattle.definitions.specs.Drop.{splitTw}
-use Rattle.definitions.specs.Marker.{Verdict, best, dearer, cheaper, withPlaces, mark}
-use Rattle.definitions.specs.Marks.{Proper, Cuts, plannerCost, Says}
+use Rattle.definitions.specs.Placement.{Placement, byClock, byPay}
+use Rattle.definitions.specs.Drop.{splitBy}
+use Rattle.definitions.specs.Marker.{Verdict, best, dearer, cheaper, withPlaces, markBy}
+use Rattle.definitions.specs.Marks.{Proper, Cuts, Says}
 use Rattle.definitions.specs.Lent.{Lent, whole, wholeSheet, marking}
 use Rattle.definitions.specs.Refusals.{breakBeyond, refusalOf}
-use Rattle.definitions.specs.Answers.{Answer, refused, gives, unlessRefused, answer, markOf}
+use Rattle.definitions.specs.Answers.{Answer, refused, gives, unlessRefused, answer, markByOf}
 use Rattle.theorems.proofs.RunListLaws.{RiseTo, runs-back}
 use Rattle.theorems.proofs.GivenRuns.{rises, runs-proper}
 use Rattle.theorems.proofs.Accepted.{present-same, accepted-within}
-use Rattle.theorems.proofs.Promised.{promised}
-use Rattle.theorems.proofs.Marking.{best-exactly, dearer-exactly, cheaper-exactly, cheaper-only, own-best}
+use Rattle.theorems.proofs.Promised.{promised-by}
+use Rattle.theorems.proofs.Marking.{best-exactly, dearer-exactly, cheaper-exactly, cheaper-only, never-cheaper, own-best}
 use Rattle.theorems.proofs.Faults.{shaped, mark-says}
 
 both-ways : {A B C : Type 0} → A ↔ B → B ↔ C → A ↔ C
@@ -63,46 +64,55 @@ module _ {F : Type 0} (value : F → Option ℕ) (l : Lent F) where
       (A .runs .some-call)
       (ap (λ (b : Bool). breakBeyond b 0 (l .ends) (l .breaks)) (present-same (mapBreak (whole value)) (l .sheet .head .rest)) ∙ A .runs .breaks)
 
-  -- a mark that is given says what its verdict means
-  pub given-says : (v : Verdict) → markOf value l ≡ gives v → Says s (l .tour) runsGiven v
-  unfolding answer
-  given-says v h =
-      let g = given-by (refusalOf value marking l) (mark s (l .tour) runsGiven) v h in
-      subst (λ (w : Verdict). Says s (l .tour) runsGiven w) (g .1) (mark-says s (l .tour) runsGiven (accepted-proper (g .0)))
-
-  module _ (accepted : refusalOf value marking l ≡ none) where
-    filled : all (λ r. not (isEmpty (r .calls))) runsGiven ≡ true
-    filled = shaped s runsGiven (accepted-proper accepted)
-
-    -- the mark of the runs given is the one given
-    is-given : (v : Verdict) → (markOf value l ≡ gives v) ↔ (mark s (l .tour) runsGiven ≡ v)
+  module _ (p : Placement) where
+    -- a mark that is given says what its verdict means
+    pub given-says : (v : Verdict) → markByOf value p l ≡ gives v → Says s (splitBy p s (l .tour)) runsGiven v
     unfolding answer
-    is-given v = given-of (refusalOf value marking l) (mark s (l .tour) runsGiven) v accepted
+    given-says v h =
+        let g = given-by (refusalOf value marking l) (markBy p s (l .tour) runsGiven) v h in
+        subst (λ (w : Verdict). Says s (splitBy p s (l .tour)) runsGiven w) (g .1) (mark-says s (splitBy p s (l .tour)) runsGiven (accepted-proper (g .0)))
 
-    -- Best, Dearer and Cheaper exactly of legal runs of the served calls, by their cost
-    pub given-best : (markOf value l ≡ gives best) ↔ (Cuts s (l .tour) runsGiven × (cuttingCost s runsGiven ≡ plannerCost s (l .tour)))
-    given-best = both-ways (is-given best) (best-exactly s (l .tour) runsGiven filled)
+    module _ (accepted : refusalOf value marking l ≡ none) where
+      filled : all (λ r. not (isEmpty (r .calls))) runsGiven ≡ true
+      filled = shaped s runsGiven (accepted-proper accepted)
 
-    pub given-dearer : (d : ℕ) → (markOf value l ≡ gives (dearer d)) ↔ (Cuts s (l .tour) runsGiven × (cuttingCost s runsGiven ≡ plannerCost s (l .tour) + d) × (0 < d))
-    given-dearer d = both-ways (is-given (dearer d)) (dearer-exactly s (l .tour) runsGiven filled d)
+      -- the mark of the runs given is the one given
+      is-given : (v : Verdict) → (markByOf value p l ≡ gives v) ↔ (markBy p s (l .tour) runsGiven ≡ v)
+      unfolding answer
+      is-given v = given-of (refusalOf value marking l) (markBy p s (l .tour) runsGiven) v accepted
 
-    pub given-cheaper : (d : ℕ) → (markOf value l ≡ gives (cheaper d)) ↔ (Cuts s (l .tour) runsGiven × (plannerCost s (l .tour) ≡ cuttingCost s runsGiven + d) × (0 < d))
-    given-cheaper d = both-ways (is-given (cheaper d)) (cheaper-exactly s (l .tour) runsGiven filled d)
+      -- Best, Dearer and Cheaper exactly of legal runs of the served calls, by their cost
+      pub given-best : (markByOf value p l ≡ gives best) ↔ (Cuts s (splitBy p s (l .tour)) runsGiven × (cuttingCost s runsGiven ≡ splitBy p s (l .tour) .cost))
+      given-best = both-ways (is-given best) (best-exactly s (splitBy p s (l .tour)) runsGiven filled)
 
-    -- the planner's own cutting is Best
-    pub given-own : l .calls ≡ splitTw s (l .tour) .served → l .ends ≡ splitTw s (l .tour) .ends → (more : List ℕ) → l .breaks ≡ splitTw s (l .tour) .places ++ more → markOf value l ≡ gives best
-    given-own calls-own ends-own more breaks-own =
-        let P = promised s (l .tour) in
-        let runs-own : runsGiven ≡ P .runs =
-        ap₂ withPlaces
-        (ap₂ runsOf (calls-own ∙ sym (P .cuts)) (ends-own ∙ sym (P .ends-are)) ∙ runs-back 0 (callsIn (P .runs)))
-        (breaks-own ∙ ap (λ (p : List ℕ). p ++ more) (sym (P .places-are)))
-        ∙ own-places (P .runs) more in
-        is-given best .1 (ap (mark s (l .tour)) runs-own ∙ own-best s (l .tour))
+      pub given-dearer : (d : ℕ) → (markByOf value p l ≡ gives (dearer d)) ↔ (Cuts s (splitBy p s (l .tour)) runsGiven × (cuttingCost s runsGiven ≡ splitBy p s (l .tour) .cost + d) × (0 < d))
+      given-dearer d = both-ways (is-given (dearer d)) (dearer-exactly s (splitBy p s (l .tour)) runsGiven filled d)
 
-  -- Cheaper is given only with lateness pay and a break
-  pub given-cheaper-only : (d : ℕ) → markOf value l ≡ gives (cheaper d) → (latenessPay s ≡ true) × (present (s .head .rest) ≡ true)
+      pub given-cheaper : (d : ℕ) → (markByOf value p l ≡ gives (cheaper d)) ↔ (Cuts s (splitBy p s (l .tour)) runsGiven × (splitBy p s (l .tour) .cost ≡ cuttingCost s runsGiven + d) × (0 < d))
+      given-cheaper d = both-ways (is-given (cheaper d)) (cheaper-exactly s (splitBy p s (l .tour)) runsGiven filled d)
+
+      -- the planner's own cutting is Best
+      pub given-own : l .calls ≡ splitBy p s (l .tour) .served → l .ends ≡ splitBy p s (l .tour) .ends → (more : List ℕ)
+          → l .breaks ≡ splitBy p s (l .tour) .places ++ more → markByOf value p l ≡ gives best
+      given-own calls-own ends-own more breaks-own =
+          let P = promised-by s (l .tour) p in
+          let runs-own : runsGiven ≡ P .runs =
+          ap₂ withPlaces
+          (ap₂ runsOf (calls-own ∙ sym (P .cuts)) (ends-own ∙ sym (P .ends-are)) ∙ runs-back 0 (callsIn (P .runs)))
+          (breaks-own ∙ ap (λ (p : List ℕ). p ++ more) (sym (P .places-are)))
+          ∙ own-places (P .runs) more in
+          is-given best .1 (ap (markBy p s (l .tour)) runs-own ∙ own-best p s (l .tour))
+
+  -- against the clock's cost Cheaper is given only with lateness pay and a break
+  pub given-cheaper-only : (d : ℕ) → markByOf value byClock l ≡ gives (cheaper d) → (latenessPay s ≡ true) × (present (s .head .rest) ≡ true)
   unfolding answer
   given-cheaper-only d h =
-      let g = given-by (refusalOf value marking l) (mark s (l .tour) runsGiven) (cheaper d) h in
-      cheaper-only s (l .tour) runsGiven (filled (g .0)) d (g .1)
+      let g = given-by (refusalOf value marking l) (markBy byClock s (l .tour) runsGiven) (cheaper d) h in
+      cheaper-only s (l .tour) runsGiven (filled byClock (g .0)) d (g .1)
+
+  -- against the least pay's it never is
+  pub given-never-cheaper : (d : ℕ) → markByOf value byPay l ≡ gives (cheaper d) → ⊥
+  unfolding answer
+  given-never-cheaper d h =
+      let g = given-by (refusalOf value marking l) (markBy byPay s (l .tour) runsGiven) (cheaper d) h in
+      never-cheaper s (l .tour) runsGiven (filled byPay (g .0)) d (g .1)

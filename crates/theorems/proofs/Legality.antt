@@ -1,4 +1,4 @@
--- A run is legal with some break place exactly when it is by the clock; the clock is home no later than any legal place; without lateness pay all legal places cost the same. Assumes nothing.
+-- A run is legal with some break place exactly when it is by the clock; the clock is home no later than any legal place; without lateness pay nothing is paid. Assumes nothing.
 use Prim.Native.Nat.{ℕ, zero, suc, _+_, _-_, _≤_, _<_}
 use native.Mathlib.Omega.{arith}
 use native.Mathlib.Nat.{le-refl, not-suc-le-zero}
@@ -17,7 +17,7 @@ use Rattle.definitions.specs.Sheet.{anySoft, Window, Break, Sheet, Leg, depot, 
 use Rattle.definitions.specs.Window.{Entry, enter}
 use Rattle.definitions.specs.Limits.{within, excused}
 use Rattle.definitions.specs.Run.{Label, start, serve, breakAt, serveAll, lastOf, distanceFrom, Totals, home, Run, ride, fits, allowed, placed, legal, price, runCost}
-use Rattle.definitions.specs.Clock.{Clock, tick, clockFrom, counts, clock, Arc, arc}
+use Rattle.definitions.specs.Clock.{Clock, tick, clockFrom, counts, clock, Arc, arcOf, arc}
 use Rattle.theorems.proofs.Places.{kept}
 use Rattle.theorems.proofs.Roads.{homeBy, home-is, home-closed, home-has}
 use Rattle.theorems.proofs.Serving.{served-at, serve-leg, serve-place}
@@ -40,28 +40,29 @@ before-from s k a h x (c ∷ cs) =
         off : 0 ≡ k → ⊥
         off e = omega arith
 
-unbroken-from : (s : Sheet) (k a : ℕ) → 0 < k → (m : Option Label) (calls : List ℕ) → ((l : Label) → m ≡ some l → l .place ≡ 0)
-    → (l : Label) → serveAll s 0 k a m calls ≡ some l → l .place ≡ 0
+-- behind the call that has the break the place stays
+pub place-stays : (s : Sheet) (p k a : ℕ) → p < k → (m : Option Label) (calls : List ℕ) → ((l : Label) → m ≡ some l → l .place ≡ p)
+    → (l : Label) → serveAll s p k a m calls ≡ some l → l .place ≡ p
 unfolding serveAll
-unbroken-from s k a h m [] z l q = z l q
-unbroken-from s k a h m (c ∷ cs) z l q =
-    unbroken-from s (suc k) c (up h) (m >>= serve s (breakAt s 0 k) k a c) cs (λ n e. step n e) l q
+place-stays s p k a h m [] z l q = z l q
+place-stays s p k a h m (c ∷ cs) z l q =
+    place-stays s p (suc k) c (up h) (m >>= serve s (breakAt s p k) k a c) cs (λ n e. step n e) l q
   where
-    up : 0 < k → 0 < suc k
+    up : p < k → p < suc k
     up h = omega arith
 
-    off : 0 ≡ k → ⊥
+    off : p ≡ k → ⊥
     off e = omega arith
 
-    step : (n : Label) → (m >>= serve s (breakAt s 0 k) k a c) ≡ some n → n .place ≡ 0
+    step : (n : Label) → (m >>= serve s (breakAt s p k) k a c) ≡ some n → n .place ≡ p
     step n e =
         let y = bound m _ n e in
-        let d : breakAt s 0 k ≡ none = rw (ne-eqb 0 k (λ e. off e)) refl in
+        let d : breakAt s p k ≡ none = rw (ne-eqb p k (λ e. off e)) refl in
         sym (serve-place s none k a c (y .0) n (subst (λ (o : Option Break). serve s o k a c (y .0) ≡ some n) d (y .2))) ∙ z (y .0) (y .1)
 
 -- ---- break places
 
-placed-call : (b : Break) (p n d : ℕ) → 0 < p → p ≤ n → placed (some b) p n d ≡ true
+pub placed-call : (b : Break) (p n d : ℕ) → 0 < p → p ≤ n → placed (some b) p n d ≡ true
 unfolding placed
 placed-call b zero n d h i = absurd (not-suc-le-zero h)
 placed-call b (suc p) n d h i = le-leb (suc p) n i
@@ -79,8 +80,8 @@ module _ (s : Sheet) (calls : List ℕ) where
   pub plain : end .before ≡ labelOf 0
   plain = before-from s 1 0 (le-refl 1) (record { before = some start; after = none }) calls
 
-  unbroken : (l : Label) → labelOf 0 ≡ some l → l .place ≡ 0
-  unbroken = unbroken-from s 1 0 (le-refl 1) (some start) calls (λ l q. sym (ap (λ (m : Label). m .place) (same q)))
+  pub unbroken : (l : Label) → labelOf 0 ≡ some l → l .place ≡ 0
+  unbroken = place-stays s 0 1 0 (le-refl 1) (some start) calls (λ l q. sym (ap (λ (m : Label). m .place) (same q)))
 
   -- the run's totals by its label
   pub rides : (p : ℕ) (l : Label) → labelOf p ≡ some l → ride s (with p) ≡ home s calls l
@@ -118,7 +119,8 @@ module _ (s : Sheet) (calls : List ℕ) where
 
   -- ---- the clock's answer is that of its own place
 
-  abbrev Own : Totals → Type 0
+  -- t is what the run comes to with the place that t has
+  abbrev pub Own : Totals → Type 0
   Own t = (ride s (with (t .place)) ≡ some t) × (placed (s .head .rest) (t .place) (length calls) (t .duration) ≡ true)
 
   -- by a label, with so much time on the way back
@@ -254,18 +256,23 @@ legal-arc s r h =
     let a = allowed-le s (y .0) t (y .2) (y .3) (L .kept-limits) in
     (record { place = y .0 .place; cost = price s (y .0 .distance) (y .0 .pay) }, rw (y .1, L .some-calls, L .room, a) refl)
 
--- what an arc has: the clock's answer
-pub arc-clock : (s : Sheet) (calls : List ℕ) (a : Arc) → arc s calls ≡ some a
-    → (t : Totals) × (clock s calls ≡ some t) × LegalFacts s (record { calls = calls; place = t .place }) t × (record { place = t .place; cost = price s (t .distance) (t .pay) } ≡ a)
-unfolding arc
-arc-clock s calls a q =
-    let y = bound (clock s calls) _ a q in
+-- what an arc has that prices one of the run's own totals
+pub arc-of : (s : Sheet) (calls : List ℕ) (o : Option Totals) → ((t : Totals) → o ≡ some t → Own s calls t) → (a : Arc) → (o >>= arcOf s calls) ≡ some a
+    → (t : Totals) × (o ≡ some t) × LegalFacts s (record { calls = calls; place = t .place }) t × (record { place = t .place; cost = price s (t .distance) (t .pay) } ≡ a)
+arc-of s calls o own a q =
+    let y = bound o _ a q in
     let t = y .0 in
     let g = granted (not (isEmpty calls) && fits s calls && allowed s t) (record { place = t .place; cost = price s (t .distance) (t .pay) }) a (y .2) in
     let b = both (not (isEmpty calls) && fits s calls) _ (g .0) in
     let c = both (not (isEmpty calls)) _ (b .0) in
-    let o = clock-own s calls t (y .1) in
+    let o = own t (y .1) in
     (t, y .1, record { some-calls = c .0; room = c .1; rode = o .0; kept-limits = b .1; break-placed = o .1 }, g .1)
+
+-- by the clock
+pub arc-clock : (s : Sheet) (calls : List ℕ) (a : Arc) → arc s calls ≡ some a
+    → (t : Totals) × (clock s calls ≡ some t) × LegalFacts s (record { calls = calls; place = t .place }) t × (record { place = t .place; cost = price s (t .distance) (t .pay) } ≡ a)
+unfolding arc
+arc-clock s calls a q = arc-of s calls (clock s calls) (clock-own s calls) a q
 
 -- a run that is ridden has no closed leg, and its distance is that of its legs
 pub distance-of : (s : Sheet) (r : Run) (t : Totals) → ride s r ≡ some t → distanceFrom s 0 (r .calls) ≡ some (t .distance)
@@ -279,12 +286,16 @@ unfolding runCost
 cost-of s r t q = rw (q, distance-of s r t q) refl
 
 -- the arc's run is legal, and costs what the arc says
+pub facts-arc : (s : Sheet) (calls : List ℕ) (a : Arc) (t : Totals) → LegalFacts s (record { calls = calls; place = t .place }) t
+    → record { place = t .place; cost = price s (t .distance) (t .pay) } ≡ a
+    → (legal s (record { calls = calls; place = a .place }) ≡ true) × (runCost s (record { calls = calls; place = a .place }) ≡ a .cost)
+facts-arc s calls a t L e =
+    subst (λ (x : Arc). (legal s (record { calls = calls; place = x .place }) ≡ true) × (runCost s (record { calls = calls; place = x .place }) ≡ x .cost)) e
+    (has-legal s _ t L, cost-of s _ t (L .rode))
+
 pub arc-legal : (s : Sheet) (calls : List ℕ) (a : Arc) → arc s calls ≡ some a
     → (legal s (record { calls = calls; place = a .place }) ≡ true) × (runCost s (record { calls = calls; place = a .place }) ≡ a .cost)
-arc-legal s calls a q =
-    let y = arc-clock s calls a q in
-    subst (λ (x : Arc). (legal s (record { calls = calls; place = x .place }) ≡ true) × (runCost s (record { calls = calls; place = x .place }) ≡ x .cost)) (y .3)
-    (has-legal s _ (y .0) (y .2), cost-of s _ (y .0) (y .2 .rode))
+arc-legal s calls a q = let y = arc-clock s calls a q in facts-arc s calls a (y .0) (y .2) (y .3)
 
 -- ---- no lateness pay
 
@@ -327,16 +338,3 @@ module _ (s : Sheet) (nopay : latenessPay s ≡ false) where
       let x = home-has s (r .calls) (y .0) t (y .2) in
       sym (ap (λ (u : Totals). u .pay) (x .4))
       ∙ served-free (r .place) 1 0 (some start) (r .calls) (λ l e. sym (ap (λ (x : Label). x .pay) (same e))) (y .0) (y .1)
-
-  -- whatever its break place, a legal run costs what the clock says
-  pub free-cost : (r : Run) → legal s r ≡ true → (a : Arc) → arc s (r .calls) ≡ some a → runCost s r ≡ a .cost
-  free-cost r h a q =
-      let (t, L) = legal-has s r h in
-      let y = arc-clock s (r .calls) a q in
-      let M = y .2 in
-      cost-of s r t (L .rode)
-      ∙ even (s .head .fixed) _ _ _ _ (same (sym (distance-of s r t (L .rode)) ∙ distance-of s _ (y .0) (M .rode))) (ride-free r t (L .rode)) (ride-free _ (y .0) (M .rode))
-      ∙ ap (λ (x : Arc). x .cost) (y .3)
-    where
-      even : (f a b p q : ℕ) → a ≡ b → p ≡ 0 → q ≡ 0 → f + a + p ≡ f + b + q
-      even f a b p q d z w = omega arith

@@ -5,6 +5,10 @@ pub mod Roads
 pub mod Serving
 pub mod Places
 pub mod Legality
+-- The break where the least is paid for lateness.
+pub mod Picking
+pub mod LeastPay
+pub mod Labels
 -- The cutting: least, attained, of equals the earliest, by the generic theory.
 pub mod Recurrence
 pub mod Bridge
@@ -12,11 +16,14 @@ pub mod Least
 -- The drop rule, and demand 3 as a whole.
 pub mod Shortest
 pub mod Dropping
-pub mod Placement
+pub mod Pricing
+pub mod Placing
 pub mod Ties
 pub mod Promised
 pub mod RunListLaws
 pub mod Sentences
+-- The two placements of the break beside each other.
+pub mod Beside
 -- Without window, limit and break.
 pub mod Plain
 pub mod Agreement

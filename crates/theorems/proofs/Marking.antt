@@ -19,12 +19,14 @@ use Rattle.definitions.specs.Sheet.{Break, Sheet, Leg, drive, latenessPay}
 use Rattle.definitions.specs.Limits.{within}
 use Rattle.definitions.specs.Run.{ready, Label, start, serve, breakAt, serveAll, firstClosed, Totals, Run, ride, load, fits, placed, legal}
 use Rattle.definitions.specs.Cutting.{joined, legalCutting, cuttingCost}
-use Rattle.definitions.specs.Drop.{splitTw}
-use Rattle.definitions.specs.Marker.{markAgainst, Verdict, otherCalls, overload, overloadOf, breakTooLate, windowMissed, breakMissing, tooFar, tooLong, best, dearer, cheaper, wheelchairOverload, roadClosed, differ, breakOr, arrivalFault, callFault, walkFault, totalFault, runFault, firstFault, against, mark}
-use Rattle.definitions.specs.Marks.{Cuts, plannerCost, Compared, equal, above, below}
+use Rattle.definitions.specs.Placement.{Placement, byClock, byPay}
+use Rattle.definitions.specs.Drop.{Result, splitTw, splitBy}
+use Rattle.definitions.specs.Marker.{markAgainst, Verdict, otherCalls, overload, overloadOf, breakTooLate, windowMissed, breakMissing, tooFar, tooLong, best, dearer, cheaper, wheelchairOverload, roadClosed, differ, breakOr, arrivalFault, callFault, walkFault, totalFault, runFault, firstFault, against, markBy, mark}
+use Rattle.definitions.specs.Marks.{Cuts, Compared, equal, above, below}
 use Rattle.theorems.proofs.Roads.{by-leg, distance-home, distance-open, open-distance, homeBy, home-is}
 use Rattle.theorems.proofs.Legality.{rides, ridden, distance-of, legal-has, has-legal, legal-arc, arc-clock}
-use Rattle.theorems.proofs.Promised.{byClock, Promise, clock-runs, promised}
+use Rattle.theorems.proofs.Placing.{placedBy, placed-runs}
+use Rattle.theorems.proofs.Promised.{promised, promised-by}
 
 -- what is not there after a step that cannot fail was not there before it
 pub nothing-mapped : {A B : Type 0} (o : Option A) (f : A → B) → (o >>= λ x. some (f x)) ≡ none → o ≡ none
@@ -244,7 +246,7 @@ module _ (planner cost : ℕ) where
   against-is v (below e h) = rw (le-ltb planner cost (omega arith), lt-ltb cost planner (omega arith)) (ap cheaper (omega arith))
 
 -- without a break on the sheet every legal run is as the clock has it
-plain-by-clock : (s : Sheet) → s .head .rest ≡ none → (rs : List Run) → legalCutting s rs ≡ true → byClock s rs ≡ true
+plain-by-clock : (s : Sheet) → s .head .rest ≡ none → (rs : List Run) → legalCutting s rs ≡ true → placedBy byClock s rs ≡ true
 unfolding placed
 plain-by-clock s e [] h = refl
 plain-by-clock s e (r ∷ rs) h =
@@ -257,88 +259,89 @@ plain-by-clock s e (r ∷ rs) h =
     and-true _ _ (ap (λ (o : Option Totals). holds o (λ t. eqb (t .place) (r .place))) (y .1) ∙ eq-eqb (y .0 .place) (r .place) (q ∙ sym p)) (plain-by-clock s e rs (b .1))
 
 -- the mark's three ways
-pub mark-other : (s : Sheet) (tour : List ℕ) (rs : List Run) (p : ℕ) → differ 1 (joined rs) (splitTw s tour .served) ≡ some p → mark s tour rs ≡ otherCalls p
+pub mark-other : (s : Sheet) (plan : Result) (rs : List Run) (p : ℕ) → differ 1 (joined rs) (plan .served) ≡ some p → markAgainst s plan rs ≡ otherCalls p
 unfolding markAgainst
-mark-other s tour rs p e = rw (e, markAgainst) refl
+mark-other s plan rs p e = rw (e, markAgainst) refl
 
-pub mark-same : (s : Sheet) (tour : List ℕ) (rs : List Run) → differ 1 (joined rs) (splitTw s tour .served) ≡ none
-    → mark s tour rs ≡ valueOr (against (splitTw s tour .cost) (cuttingCost s rs)) (firstFault s 1 rs)
+pub mark-same : (s : Sheet) (plan : Result) (rs : List Run) → differ 1 (joined rs) (plan .served) ≡ none
+    → markAgainst s plan rs ≡ valueOr (against (plan .cost) (cuttingCost s rs)) (firstFault s 1 rs)
 unfolding markAgainst
-mark-same s tour rs e = rw (e, markAgainst) refl
+mark-same s plan rs e = rw (e, markAgainst) refl
 
 -- of a legal cutting of the served calls the mark is by its cost alone
-pub mark-legal : (s : Sheet) (tour : List ℕ) (rs : List Run) → joined rs ≡ splitTw s tour .served → legalCutting s rs ≡ true
-    → mark s tour rs ≡ against (splitTw s tour .cost) (cuttingCost s rs)
-mark-legal s tour rs j l =
-    mark-same s tour rs (subst (λ (c : List ℕ). differ 1 (joined rs) c ≡ none) j (same-differ 1 (joined rs)))
-    ∙ ap (λ (o : Option Verdict). valueOr (against (splitTw s tour .cost) (cuttingCost s rs)) o) (legal-runs-unmarked s 1 rs l)
+pub mark-legal : (s : Sheet) (plan : Result) (rs : List Run) → joined rs ≡ plan .served → legalCutting s rs ≡ true
+    → markAgainst s plan rs ≡ against (plan .cost) (cuttingCost s rs)
+mark-legal s plan rs j l =
+    mark-same s plan rs (subst (λ (c : List ℕ). differ 1 (joined rs) c ≡ none) j (same-differ 1 (joined rs)))
+    ∙ ap (λ (o : Option Verdict). valueOr (against (plan .cost) (cuttingCost s rs)) o) (legal-runs-unmarked s 1 rs l)
 
-module _ (s : Sheet) (tour : List ℕ) (rs : List Run) (shaped : all (λ r. not (isEmpty (r .calls))) rs ≡ true) where
-  priced-cuts : isPriced (mark s tour rs) ≡ true → Cuts s tour rs
-  priced-cuts h = go (differ 1 (joined rs) (splitTw s tour .served)) refl
+module _ (s : Sheet) (plan : Result) (rs : List Run) (shaped : all (λ r. not (isEmpty (r .calls))) rs ≡ true) where
+  priced-cuts : isPriced (markAgainst s plan rs) ≡ true → Cuts s plan rs
+  priced-cuts h = go (differ 1 (joined rs) (plan .served)) refl
     where
-      at : differ 1 (joined rs) (splitTw s tour .served) ≡ none → (o : Option Verdict) → firstFault s 1 rs ≡ o → isPriced (valueOr (against (plannerCost s tour) (cuttingCost s rs)) o) ≡ true
-          → Cuts s tour rs
+      at : differ 1 (joined rs) (plan .served) ≡ none → (o : Option Verdict) → firstFault s 1 rs ≡ o → isPriced (valueOr (against (plan .cost) (cuttingCost s rs)) o) ≡ true
+          → Cuts s plan rs
       at e (some v) f k = not-both (isPriced v) k (first-fault s 1 rs v f)
-      at e none f k = (differ-same 1 (joined rs) (splitTw s tour .served) e, unmarked-runs s 1 rs shaped f)
+      at e none f k = (differ-same 1 (joined rs) (plan .served) e, unmarked-runs s 1 rs shaped f)
 
-      go : (o : Option ℕ) → differ 1 (joined rs) (splitTw s tour .served) ≡ o → Cuts s tour rs
-      go (some p) e = not-both (isPriced (mark s tour rs)) h (ap isPriced (mark-other s tour rs p e))
-      go none e = at e (firstFault s 1 rs) refl (sym (ap isPriced (mark-same s tour rs e)) ∙ h)
+      go : (o : Option ℕ) → differ 1 (joined rs) (plan .served) ≡ o → Cuts s plan rs
+      go (some p) e = not-both (isPriced (markAgainst s plan rs)) h (ap isPriced (mark-other s plan rs p e))
+      go none e = at e (firstFault s 1 rs) refl (sym (ap isPriced (mark-same s plan rs e)) ∙ h)
 
   -- the mark is Best, Dearer or Cheaper exactly when the runs are legal with their places and join to the served customers
-  pub priced-exactly : (isPriced (mark s tour rs) ≡ true) ↔ Cuts s tour rs
-  priced-exactly = (priced-cuts, λ c. ap isPriced (mark-legal s tour rs (c .0) (c .1)) ∙ against-priced (plannerCost s tour) (cuttingCost s rs))
+  pub priced-exactly : (isPriced (markAgainst s plan rs) ≡ true) ↔ Cuts s plan rs
+  priced-exactly = (priced-cuts, λ c. ap isPriced (mark-legal s plan rs (c .0) (c .1)) ∙ against-priced (plan .cost) (cuttingCost s rs))
 
-  compared-exactly : (v : Verdict) → isPriced v ≡ true → (mark s tour rs ≡ v) ↔ (Cuts s tour rs × Compared (plannerCost s tour) (cuttingCost s rs) v)
+  compared-exactly : (v : Verdict) → isPriced v ≡ true → (markAgainst s plan rs ≡ v) ↔ (Cuts s plan rs × Compared (plan .cost) (cuttingCost s rs) v)
   compared-exactly v p = (
     λ h. let c = priced-cuts (ap isPriced h ∙ p) in (
       c,
-      subst (λ (w : Verdict). Compared (plannerCost s tour) (cuttingCost s rs) w) (sym (mark-legal s tour rs (c .0) (c .1)) ∙ h) (compared (plannerCost s tour) (cuttingCost s rs)),
+      subst (λ (w : Verdict). Compared (plan .cost) (cuttingCost s rs) w) (sym (mark-legal s plan rs (c .0) (c .1)) ∙ h) (compared (plan .cost) (cuttingCost s rs)),
     ),
-    λ x. mark-legal s tour rs (x .0 .0) (x .0 .1) ∙ against-is (plannerCost s tour) (cuttingCost s rs) v (x .1),
+    λ x. mark-legal s plan rs (x .0 .0) (x .0 .1) ∙ against-is (plan .cost) (cuttingCost s rs) v (x .1),
   )
 
   -- Best: at the planner's cost
-  pub best-exactly : (mark s tour rs ≡ best) ↔ (Cuts s tour rs × (cuttingCost s rs ≡ plannerCost s tour))
+  pub best-exactly : (markAgainst s plan rs ≡ best) ↔ (Cuts s plan rs × (cuttingCost s rs ≡ plan .cost))
   best-exactly =
       let x = compared-exactly best refl in
       (λ h. let y = x .0 h in (y .0, is-equal _ _ (y .1)), λ y. x .1 (y .0, equal (y .1)))
 
-  pub dearer-exactly : (d : ℕ) → (mark s tour rs ≡ dearer d) ↔ (Cuts s tour rs × (cuttingCost s rs ≡ plannerCost s tour + d) × (0 < d))
+  pub dearer-exactly : (d : ℕ) → (markAgainst s plan rs ≡ dearer d) ↔ (Cuts s plan rs × (cuttingCost s rs ≡ plan .cost + d) × (0 < d))
   dearer-exactly d =
       let x = compared-exactly (dearer d) refl in
       (λ h. let y = x .0 h in let z = is-above _ _ d (y .1) in (y .0, z .0, z .1), λ y. x .1 (y .0, above (y .1) (y .2)))
 
-  pub cheaper-exactly : (d : ℕ) → (mark s tour rs ≡ cheaper d) ↔ (Cuts s tour rs × (plannerCost s tour ≡ cuttingCost s rs + d) × (0 < d))
+  pub cheaper-exactly : (d : ℕ) → (markAgainst s plan rs ≡ cheaper d) ↔ (Cuts s plan rs × (plan .cost ≡ cuttingCost s rs + d) × (0 < d))
   cheaper-exactly d =
       let x = compared-exactly (cheaper d) refl in
       (λ h. let y = x .0 h in let z = is-below _ _ d (y .1) in (y .0, z .0, z .1), λ y. x .1 (y .0, below (y .1) (y .2)))
 
-  -- Cheaper occurs only with lateness pay and a break
-  pub cheaper-only : (d : ℕ) → mark s tour rs ≡ cheaper d → (latenessPay s ≡ true) × (present (s .head .rest) ≡ true)
-  cheaper-only d h = (
-    by-test (latenessPay s) (λ t. t) (λ f. off (P .least-free f rs (c .0 .0) (c .0 .1)) (c .1) (c .2)),
-    by-rest (s .head .rest) refl,
-  )
+-- Cheaper, against the clock's cost, occurs only with lateness pay and a break; against the least pay's it never does
+module _ (s : Sheet) (tour : List ℕ) (rs : List Run) (shaped : all (λ r. not (isEmpty (r .calls))) rs ≡ true) (d : ℕ) where
+  undercut : {A : Type 0} {planner : ℕ} → planner ≤ cuttingCost s rs → planner ≡ cuttingCost s rs + d → 0 < d → A
+  undercut p q r = absurd (omega arith)
+
+  pub cheaper-only : mark s tour rs ≡ cheaper d → (latenessPay s ≡ true) × (present (s .head .rest) ≡ true)
+  cheaper-only h =
+      let (c, e, i) = cheaper-exactly s (splitTw s tour) rs shaped d .0 h in
+      let L = promised s tour .least in (
+        by-test (latenessPay s) (λ t. t) (λ f. undercut (L .0 f rs (c .0) (c .1)) e i),
+        by-rest (λ n. undercut (L .1 rs (c .0) (c .1, placed-runs s byClock rs (plain-by-clock s n rs (c .1)))) e i) (s .head .rest) refl,
+      )
     where
-      P : Promise s tour (splitTw s tour)
-      P = promised s tour
+      by-rest : (s .head .rest ≡ none → present (s .head .rest) ≡ true) → (o : Option Break) → s .head .rest ≡ o → present (s .head .rest) ≡ true
+      by-rest f none e = f e
+      by-rest f (some b) e = ap present e
 
-      c : Cuts s tour rs × (plannerCost s tour ≡ cuttingCost s rs + d) × (0 < d)
-      c = cheaper-exactly d .0 h
-
-      off : {A : Type 0} {a b d : ℕ} → b ≤ a → b ≡ a + d → 0 < d → A
-      off p q r = absurd (omega arith)
-
-      by-rest : (o : Option Break) → s .head .rest ≡ o → present o ≡ true
-      by-rest (some b) e = refl
-      by-rest none e = off (P .least-clock rs (c .0 .0) (c .0 .1, clock-runs s rs (plain-by-clock s e rs (c .0 .1)))) (c .1) (c .2)
+  pub never-cheaper : markBy byPay s tour rs ≡ cheaper d → ⊥
+  never-cheaper h =
+      let (c, e, i) = cheaper-exactly s (splitBy byPay s tour) rs shaped d .0 h in
+      undercut (promised-by s tour byPay .least rs (c .0) (c .1)) e i
 
 -- the planner's own cutting is marked Best
-pub own-best : (s : Sheet) (tour : List ℕ) → mark s tour (promised s tour .runs) ≡ best
-own-best s tour =
-    let P = promised s tour in
-    mark-legal s tour (P .runs) (P .cuts) (P .all-legal)
-    ∙ ap (λ (n : ℕ). against (splitTw s tour .cost) n) (P .adds-up)
-    ∙ against-is (splitTw s tour .cost) (splitTw s tour .cost) best (equal refl)
+pub own-best : (p : Placement) (s : Sheet) (tour : List ℕ) → markBy p s tour (promised-by s tour p .runs) ≡ best
+own-best p s tour =
+    let P = promised-by s tour p in
+    let plan = splitBy p s tour in
+    mark-legal s plan (P .runs) (P .cuts) (P .all-legal) ∙ ap (λ (n : ℕ). against (plan .cost) n) (P .adds-up) ∙ against-is (plan .cost) (plan .cost) best (equal refl)

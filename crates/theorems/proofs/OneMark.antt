@@ -18,10 +18,10 @@ use Rattle.definitions.specs.Window.{enter, late, dueOf}
 use Rattle.definitions.specs.Limits.{within}
 use Rattle.definitions.specs.Run.{breakStart, tooLate, ready, Label, start, serve, serveAt, Run, breakAt, serveAll, lastOf, firstClosed, Totals, ride, load, fits, placed, legal}
 use Rattle.definitions.specs.Cutting.{joined, legalCutting, cuttingCost}
-use Rattle.definitions.specs.Drop.{splitTw}
-use Rattle.definitions.specs.Marker.{Verdict, otherCalls, overload, breakTooLate, windowMissed, breakMissing, tooFar, tooLong, best, dearer, cheaper, wheelchairOverload, roadClosed, differ, breakOr, arrivalFault, callFault, walkFault, totalFault, runFault, firstFault, against, mark}
+use Rattle.definitions.specs.Drop.{Result}
+use Rattle.definitions.specs.Marker.{Verdict, otherCalls, overload, breakTooLate, windowMissed, breakMissing, tooFar, tooLong, best, dearer, cheaper, wheelchairOverload, roadClosed, differ, breakOr, arrivalFault, callFault, walkFault, totalFault, runFault, firstFault, against, markAgainst}
 use Rattle.definitions.specs.Marks as Marks
-use Rattle.definitions.specs.Marks.{Differs, Overloaded, WheelchairsOver, Reached, arrival, BreakLate, WindowLate, Home, BreakLeftOut, Far, Long, Open, Fails, by-road, by-load, by-wheelchairs, by-break, by-window, by-missing, by-distance, by-duration, FirstFails, Cuts, plannerCost, Compared, equal, above, below, Says, other, fault, priced}
+use Rattle.definitions.specs.Marks.{Differs, Overloaded, WheelchairsOver, Reached, arrival, BreakLate, WindowLate, Home, BreakLeftOut, Far, Long, Open, Fails, by-road, by-load, by-wheelchairs, by-break, by-window, by-missing, by-distance, by-duration, FirstFails, Cuts, Compared, equal, above, below, Says, other, fault, priced}
 use Rattle.theorems.proofs.Roads.{is-closed}
 use Rattle.theorems.proofs.Marking.{served-none, legal-unmarked, same-differ, mark-other, mark-same, mark-legal}
 
@@ -251,15 +251,15 @@ against-is planner cost v (below {d} e o) = rw (le-ltb planner cost (omega (arit
     gap : (p c d : ℕ) → c ≡ p + d → c - p ≡ d
     gap p c d q = omega (arith, q)
 
-module _ (s : Sheet) (tour : List ℕ) (rs : List Run) where
-  pub says-mark : (v : Verdict) → Says s tour rs v → mark s tour rs ≡ v
-  says-mark v (other {p} d) = mark-other s tour rs p (differs-differ 1 (joined rs) (splitTw s tour .served) p d)
+module _ (s : Sheet) (plan : Result) (rs : List Run) where
+  pub says-mark : (v : Verdict) → Says s plan rs v → markAgainst s plan rs ≡ v
+  says-mark v (other {p} d) = mark-other s plan rs p (differs-differ 1 (joined rs) (plan .served) p d)
   says-mark v (fault e x) =
-      mark-same s tour rs (ap (λ (l : List ℕ). differ 1 l (splitTw s tour .served)) e ∙ same-differ 1 (splitTw s tour .served))
-      ∙ ap (valueOr (against (splitTw s tour .cost) (cuttingCost s rs)))
+      mark-same s plan rs (ap (λ (l : List ℕ). differ 1 l (plan .served)) e ∙ same-differ 1 (plan .served))
+      ∙ ap (valueOr (against (plan .cost) (cuttingCost s rs)))
       (ap (firstFault s 1) (x .runs-are) ∙ first-at s 1 (x .earlier) (x .faulty) (x .later) (x .number) v (x .number-is) (x .earlier-legal) (x .fails))
-  says-mark v (priced c x) = mark-legal s tour rs (c .0) (c .1) ∙ against-is (splitTw s tour .cost) (cuttingCost s rs) v x
+  says-mark v (priced c x) = mark-legal s plan rs (c .0) (c .1) ∙ against-is (plan .cost) (cuttingCost s rs) v x
 
   -- no two verdicts say so of the same runs
-  pub says-one : (v w : Verdict) → Says s tour rs v → Says s tour rs w → v ≡ w
+  pub says-one : (v w : Verdict) → Says s plan rs v → Says s plan rs w → v ≡ w
   says-one v w x y = sym (says-mark v x) ∙ says-mark w y

@@ -18,17 +18,18 @@ use Rattle.definitions.specs.Sheet.{Break, Sheet, mapBreak}
 use Rattle.definitions.specs.Run.{Run, placed, legal}
 use Rattle.definitions.specs.RunList.{callsOf, endsFrom}
 use Rattle.definitions.specs.Cutting.{callsIn, joined, legalCutting}
-use Rattle.definitions.specs.Drop.{callAt, callsAt, Result, splitTw}
+use Rattle.definitions.specs.Placement.{Placement}
+use Rattle.definitions.specs.Drop.{callAt, callsAt, Result, splitBy}
 use Rattle.definitions.specs.Promise.{Parts, ended, kept, gone}
 use Rattle.definitions.specs.Marker.{best}
 use Rattle.definitions.specs.Lent.{Lent, whole, wholeSheet, cutting, marking}
 use Rattle.definitions.specs.Refusals.{endsFall, emptyRun, breakBeyond, badCalls, refusalOf}
-use Rattle.definitions.specs.Answers.{gives, markOf}
+use Rattle.definitions.specs.Answers.{gives, markByOf}
 use Rattle.theorems.proofs.Ranges.{calls-in-range, range-calls, RunsEven}
 use Rattle.theorems.proofs.RunListLaws.{ends-many}
 use Rattle.theorems.proofs.Accepted.{present-same, Accepted, accepted-within, accepted-none}
 use Rattle.theorems.proofs.Legality.{LegalFacts, legal-has}
-use Rattle.theorems.proofs.Promised.{Promise, promised}
+use Rattle.theorems.proofs.Promised.{PromiseBy, promised-by}
 use Rattle.theorems.proofs.GivenMarks.{given-own}
 
 -- ---- served calls are calls of the tour
@@ -108,13 +109,13 @@ module _ (s : Sheet) where
 
 -- ---- the planner's cutting given back
 
-module _ {F : Type 0} (value : F → Option ℕ) (l : Lent F) where
+module _ (p : Placement) {F : Type 0} (value : F → Option ℕ) (l : Lent F) where
   -- the sheet that is meant, and its plan
   abbrev s : Sheet
   s = wholeSheet value (l .sheet)
 
   abbrev plan : Result
-  plan = splitTw s (l .tour)
+  plan = splitBy p s (l .tour)
 
   -- what the marker is then lent
   abbrev pub ownLent : Lent F
@@ -124,8 +125,8 @@ module _ {F : Type 0} (value : F → Option ℕ) (l : Lent F) where
     A : Accepted value cutting l
     A = accepted-within value cutting l accepted
 
-    P : Promise s (l .tour) plan
-    P = promised s (l .tour)
+    P : PromiseBy p s (l .tour) plan
+    P = promised-by s (l .tour) p
 
     own-calls : badCalls (l .sheet .head .places) (plan .served) ≡ false
     unfolding wholeSheet
@@ -177,5 +178,5 @@ module _ {F : Type 0} (value : F → Option ℕ) (l : Lent F) where
         })
 
     -- and marks it Best
-    pub own-marked : markOf value ownLent ≡ gives best
-    own-marked = given-own value ownLent own-accepted refl refl [] (sym (append-nil (plan .places)))
+    pub own-marked : markByOf value p ownLent ≡ gives best
+    own-marked = given-own value ownLent p own-accepted refl refl [] (sym (append-nil (plan .places)))

@@ -20,7 +20,7 @@ use Rattle.definitions.specs.Clock.{Arc}
 use Rattle.definitions.specs.Cutting.{joined, legalCutting, cuttingCost, Best, cheapest}
 use Rattle.definitions.specs.Promise.{Ties, no-run, last-run}
 use Rattle.theorems.proofs.Least.{Earliest, joined-append, worth, costIn, candidate, best-of, best-earliest}
-use Rattle.theorems.proofs.Placement.{Placement, no-empty, made-legal, runs-reach}
+use Rattle.theorems.proofs.Pricing.{Pricing, no-empty, made-legal, runs-reach}
 use Rattle.theorems.proofs.Recurrence.{best-none}
 
 -- ---- lists
@@ -42,7 +42,7 @@ ends-in c (x ∷ before) since (y ∷ done) e h =
     let r = ends-in c before since done (tail-eq-of-cons-eq e) h in
     (r .0, r .1, ap (λ (z : ℕ). z ∷ (before ++ r .0)) (head-eq-of-cons-eq e) ∙ ap (λ (l : List ℕ). y ∷ l) (r .2))
 
-module _ (s : Sheet) (price : List ℕ → Option Arc) (P : Placement s price) (Rival : List Run → Type 0)
+module _ (s : Sheet) (price : List ℕ → Option Arc) (P : Pricing s price) (Rival : List Run → Type 0)
     (legal-rival : (rs : List Run) → Rival rs → legalCutting s rs ≡ true) (dear-rival : (rs : List Run) → Rival rs → worth price rs ≤ cuttingCost s rs) where
   -- a rival's last run starts at a cut point, whose candidate costs no more than the rival
   rival-candidate : (u : List ℕ) (c : ℕ) (ts : List Run) (t : Run) → joined (ts ++ (t ∷ [])) ≡ u ++ (c ∷ []) → Rival (ts ++ (t ∷ []))

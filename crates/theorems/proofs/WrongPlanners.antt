@@ -12,6 +12,7 @@ use Rattle.definitions.specs.RunList.{runsFrom}
 use Rattle.definitions.specs.Cutting.{cuttingCost}
 use Rattle.definitions.specs.Drop.{callAt, callsAt, Held, splitTw}
 use Rattle.definitions.specs.Promise.{HasCutting, Parts, ended, kept, gone}
+use Rattle.definitions.specs.Placement.{byClock}
 use Rattle.definitions.specs.Clauses.{returned, Legal, Sum, Least, Drops, Served, Partition}
 use Rattle.definitions.specs.Marker.{Verdict, best, dearer, verdictNumber, verdictValues, mark}
 use Rattle.definitions.specs.Marks.{Says}
@@ -32,13 +33,13 @@ Same a b = a ≡ b
 
 -- ---- against `sum`: a cost is invented
 
-pub invented-cost : Sum base tour (2 ∷ []) 28 → ⊥
+pub invented-cost : Sum byClock base tour (2 ∷ []) 28 → ⊥
 unfolding opened runsFrom
-invented-cost e = let c : cuttingCost base (returned base tour (2 ∷ [])) ≡ 27 = refl in omega (arith, sym c ∙ e)
+invented-cost e = let c : cuttingCost base (returned byClock base tour (2 ∷ [])) ≡ 27 = refl in omega (arith, sym c ∙ e)
 
 -- ---- against `least`: each call is a run of its own
 
-pub each-call-alone : Least base tour 44 → ⊥
+pub each-call-alone : Least byClock base tour 44 → ⊥
 unfolding opened anySoft
 each-call-alone l =
     let h = l .0 refl (run tour 0 ∷ []) refl refl in
@@ -47,7 +48,7 @@ each-call-alone l =
 
 -- ---- against `legal`: the tour is one run, whatever it carries
 
-pub tour-whole : Legal (carrying 3) tour (2 ∷ []) → ⊥
+pub tour-whole : Legal byClock (carrying 3) tour (2 ∷ []) → ⊥
 unfolding opened runsFrom
 tour-whole l = false≢true (l .1)
 
@@ -95,17 +96,17 @@ served-and-dropped held e p =
 abbrev singly : List Run
 singly = run (1 ∷ []) 0 ∷ run (2 ∷ []) 0 ∷ []
 
-pub everything-best : Says base tour singly best → ⊥
+pub everything-best : Says base (splitTw base tour) singly best → ⊥
 unfolding opened
 everything-best x =
-    let is : dearer 17 ≡ best = says-mark base tour singly best x in
+    let is : dearer 17 ≡ best = says-mark base (splitTw base tour) singly best x in
     let n : Same 9 8 = ap verdictNumber is in
     omega (arith, n)
 
-pub everything-dearer-by-nothing : Says base tour (run tour 0 ∷ []) (dearer 0) → ⊥
+pub everything-dearer-by-nothing : Says base (splitTw base tour) (run tour 0 ∷ []) (dearer 0) → ⊥
 unfolding opened
 everything-dearer-by-nothing x =
-    let is : best ≡ dearer 0 = says-mark base tour (run tour 0 ∷ []) (dearer 0) x in
+    let is : best ≡ dearer 0 = says-mark base (splitTw base tour) (run tour 0 ∷ []) (dearer 0) x in
     let n : Same 8 9 = ap verdictNumber is in
     omega (arith, n)
 

@@ -20,6 +20,15 @@ pub const CALLS: usize = 128;
 /// The value of the C and D words of a leg that can't be driven.
 pub const NO_ROAD: u32 = 0x0FFF_FFFF;
 
+/// Where the planner puts the break of a run. Both drop the same calls; `lizsomdur.h` says more of each.
+#[derive(Clone, Copy, Debug, PartialEq, Eq)]
+pub enum Placement {
+    /// Call by call where the bus is done sooner, as the clock has it. Where lateness is paid, another place may cost less.
+    Clock,
+    /// Where the least is paid for lateness, at any call or, if the run needs none, at no call. No legal cutting of the served calls costs less.
+    Least,
+}
+
 /// Why nothing was answered, by the number that `lizsomdur.h` lists.
 #[derive(Clone, Copy, Debug, PartialEq, Eq)]
 pub struct Refusal {
@@ -97,14 +106,20 @@ fn joined<'a>(runs: impl Iterator<Item = &'a [u8]>) -> (Vec<u8>, Vec<u8>) {
     (calls, ends)
 }
 
-/// Cuts a sheet's calls into runs at least cost.
+/// Cuts a sheet's calls into runs at least cost, with breaks by the clock.
 pub fn plan(sheet: &[u8]) -> Result<Plan, Refusal> {
+    plan_by(Placement::Clock, sheet)
+}
+
+/// The same with breaks by this placement.
+pub fn plan_by(placement: Placement, sheet: &[u8]) -> Result<Plan, Refusal> {
     let (mut served, mut ends) = ([0; TOUR], [0; TOUR]);
     let (mut places, mut starts) = ([0; TOUR], [0.0; TOUR]);
     let mut dropped = [0; TOUR];
     let (mut counts, mut totals) = ([0; 3], [0.0; 2]);
     let mut word = NO_WORD;
     let number = slices::plan(
+        placement,
         sheet,
         &mut served,
         &mut ends,
@@ -133,8 +148,13 @@ pub fn plan(sheet: &[u8]) -> Result<Plan, Refusal> {
     })
 }
 
-/// Marks runs against the planner's own; of a run's break only its place is read.
+/// Marks runs against those of `plan`; of a run's break only its place is read.
 pub fn mark(sheet: &[u8], runs: &[Run]) -> Result<Verdict, Refusal> {
+    mark_by(Placement::Clock, sheet, runs)
+}
+
+/// The same against the runs of `plan_by` with this placement. With `Placement::Least` the verdict is never `Cheaper`.
+pub fn mark_by(placement: Placement, sheet: &[u8], runs: &[Run]) -> Result<Verdict, Refusal> {
     let (calls, ends) = joined(runs.iter().map(|run| &run.calls[..]));
     let places: Vec<u8> = runs
         .iter()
@@ -142,6 +162,7 @@ pub fn mark(sheet: &[u8], runs: &[Run]) -> Result<Verdict, Refusal> {
         .collect();
     let (mut word, mut verdict, mut values) = (NO_WORD, 0, [0.0; 5]);
     let number = slices::mark(
+        placement,
         sheet,
         &calls,
         &ends,

@@ -19,7 +19,39 @@ extern "C" {
         word: *mut usize,
     ) -> u32;
 
+    pub fn lizsomdur_plan_least(
+        sheet: *const u8,
+        sheet_length: usize,
+        served: *mut u8,
+        served_length: usize,
+        run_ends: *mut u8,
+        run_ends_length: usize,
+        break_places: *mut u8,
+        break_places_length: usize,
+        break_starts: *mut f64,
+        break_starts_length: usize,
+        dropped: *mut u8,
+        dropped_length: usize,
+        counts: *mut [usize; 3],
+        totals: *mut [f64; 2],
+        word: *mut usize,
+    ) -> u32;
+
     pub fn lizsomdur_mark(
+        sheet: *const u8,
+        sheet_length: usize,
+        calls: *const u8,
+        calls_length: usize,
+        ends: *const u8,
+        ends_length: usize,
+        places: *const u8,
+        places_length: usize,
+        word: *mut usize,
+        verdict: *mut u32,
+        values: *mut [f64; 5],
+    ) -> u32;
+
+    pub fn lizsomdur_mark_least(
         sheet: *const u8,
         sheet_length: usize,
         calls: *const u8,

@@ -1,8 +1,9 @@
 //! The library's functions on slices, which know their lengths and never overlap what is written.
-use crate::raw;
+use crate::{raw, Placement};
 
-#[allow(clippy::too_many_arguments)] // as many as the function has
+#[allow(clippy::too_many_arguments)] // as many as the function has, and which of the two it is
 pub fn plan(
+    placement: Placement,
     sheet: &[u8],
     served: &mut [u8],
     run_ends: &mut [u8],
@@ -13,9 +14,13 @@ pub fn plan(
     totals: &mut [f64; 2],
     word: &mut usize,
 ) -> u32 {
+    let plan = match placement {
+        Placement::Clock => raw::lizsomdur_plan,
+        Placement::Least => raw::lizsomdur_plan_least,
+    };
     // SAFETY: a slice is as long as it says, and nothing else refers to one that is lent to be written.
     unsafe {
-        raw::lizsomdur_plan(
+        plan(
             sheet.as_ptr(),
             sheet.len(),
             served.as_mut_ptr(),
@@ -35,7 +40,9 @@ pub fn plan(
     }
 }
 
+#[allow(clippy::too_many_arguments)] // as in `plan`
 pub fn mark(
+    placement: Placement,
     sheet: &[u8],
     calls: &[u8],
     ends: &[u8],
@@ -44,9 +51,13 @@ pub fn mark(
     verdict: &mut u32,
     values: &mut [f64; 5],
 ) -> u32 {
+    let mark = match placement {
+        Placement::Clock => raw::lizsomdur_mark,
+        Placement::Least => raw::lizsomdur_mark_least,
+    };
     // SAFETY: as in `plan`.
     unsafe {
-        raw::lizsomdur_mark(
+        mark(
             sheet.as_ptr(),
             sheet.len(),
             calls.as_ptr(),

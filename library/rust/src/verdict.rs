@@ -47,7 +47,7 @@ pub enum Verdict {
     Dearer {
         by: u64,
     },
-    /// Only where lateness is paid and there is a break.
+    /// Only where lateness is paid and there is a break, and the mark is by the clock.
     Cheaper {
         by: u64,
     },

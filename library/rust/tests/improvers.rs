@@ -1,6 +1,6 @@
 //! Reversed runs and runs left by elimination, beside the original Rust planner's.
 mod common;
-use common::{kind, records, words};
+use common::{pays, records, words};
 use lizsomdur::{eliminate, reverse, Refusal, NO_ROAD};
 
 /// Numbers behind how many they are, a byte each, and what follows.
@@ -35,13 +35,6 @@ fn lines(answer: &str, word: &str) -> Vec<Vec<u64>> {
 /// A run's calls as the answer has them.
 fn numbers(run: &[u8]) -> Vec<u64> {
     run.iter().map(|&call| call.into()).collect()
-}
-
-/// Lateness is paid where a customer has a window and a penalty.
-fn pays(sheet: &[u8]) -> bool {
-    words(sheet)
-        .windows(2)
-        .any(|pair| kind(pair[0]) == 0xA && kind(pair[1]) == 0xB)
 }
 
 /// Whether a leg is closed, by the distances.

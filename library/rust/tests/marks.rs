@@ -2,8 +2,8 @@
 mod common;
 use common::recorded_marks::{recorded_marks, wrong_marks, Recorded};
 use common::worked::{marked, of_closed};
-use common::{kept, runs};
-use lizsomdur::{mark, Refusal, Run, Verdict};
+use common::{kept, runs, PLACEMENTS};
+use lizsomdur::{mark, mark_by, Placement, Refusal, Run, Verdict};
 
 /// A fault with what clashes, as that program says it.
 fn fault(
@@ -150,31 +150,38 @@ fn given(question: &Recorded) -> Option<Vec<Run>> {
 }
 
 /// What the library says of a question that can be asked by runs.
-fn asked(question: &Recorded) -> Option<Result<(u32, Vec<u64>), Refusal>> {
+fn asked(placement: Placement, question: &Recorded) -> Option<Result<(u32, Vec<u64>), Refusal>> {
     let runs = given(question)?;
-    Some(mark(&question.sheet, &runs).map(numbered))
+    Some(mark_by(placement, &question.sheet, &runs).map(numbered))
 }
 
 #[test]
 fn marks_are_the_recorded_ones() {
-    let mut marked = 0;
-    for (number, question) in recorded_marks().iter().enumerate() {
-        if let Some(said) = asked(question) {
-            assert_eq!(said, question.mark, "question {number}");
-            marked += 1;
+    for placement in PLACEMENTS {
+        let mut marked = 0;
+        for (number, question) in recorded_marks(placement).iter().enumerate() {
+            if let Some(said) = asked(placement, question) {
+                assert_eq!(said, question.mark, "{placement:?}, question {number}");
+                marked += 1;
+            }
         }
+        assert!(marked > 200, "{placement:?}");
     }
-    assert!(marked > 200);
 }
 
 #[test]
 fn wrong_marks_are_noticed() {
-    let mut marked = 0;
-    for (number, question) in wrong_marks().iter().enumerate() {
-        if let Some(said) = asked(question) {
-            assert_ne!(said, question.mark, "wrong question {number}");
-            marked += 1;
+    for placement in PLACEMENTS {
+        let mut marked = 0;
+        for (number, question) in wrong_marks(placement).iter().enumerate() {
+            if let Some(said) = asked(placement, question) {
+                assert_ne!(
+                    said, question.mark,
+                    "{placement:?}, wrong question {number}"
+                );
+                marked += 1;
+            }
         }
+        assert!(marked > 40, "{placement:?}");
     }
-    assert!(marked > 40);
 }

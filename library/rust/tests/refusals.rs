@@ -3,8 +3,8 @@ mod common;
 use common::faulty::faulty;
 use common::sheets::Sheet;
 use common::worked::{base, with_break, with_closed, with_window};
-use common::{runs, sample};
-use lizsomdur::{eliminate, mark, plan, reverse, Refusal};
+use common::{runs, sample, PLACEMENTS};
+use lizsomdur::{eliminate, mark_by, plan_by, reverse, Refusal};
 
 fn refused<T>(number: u32, word: impl Into<Option<usize>>) -> Result<T, Refusal> {
     Err(Refusal {
@@ -16,8 +16,10 @@ fn refused<T>(number: u32, word: impl Into<Option<usize>>) -> Result<T, Refusal>
 #[test]
 fn bad_words_are_named() {
     for (sheet, number, word) in faulty() {
-        assert_eq!(plan(&sheet), refused(number, word));
-        assert_eq!(mark(&sheet, &[]), refused(number, word));
+        for placement in PLACEMENTS {
+            assert_eq!(plan_by(placement, &sheet), refused(number, word));
+            assert_eq!(mark_by(placement, &sheet, &[]), refused(number, word));
+        }
         assert_eq!(reverse(&sheet, &[]), refused(number, word));
         assert_eq!(eliminate(&sheet, &[]), refused(number, word));
     }
@@ -26,9 +28,12 @@ fn bad_words_are_named() {
 #[test]
 fn bad_runs_are_refused_without_a_word() {
     let sheet = sample("m");
-    assert_eq!(mark(&sheet, &runs(&[([1, 3], 0)])), refused(1, None));
-    assert_eq!(mark(&sheet, &runs(&[([1, 2], 3)])), refused(5, None));
-    assert_eq!(mark(&sheet, &runs(&[([], 0)])), refused(5, None));
+    for placement in PLACEMENTS {
+        let said = |calls: &[u8], place| mark_by(placement, &sheet, &runs(&[(calls, place)]));
+        assert_eq!(said(&[1, 3], 0), refused(1, None));
+        assert_eq!(said(&[1, 2], 3), refused(5, None));
+        assert_eq!(said(&[], 0), refused(5, None));
+    }
     assert_eq!(reverse(&sheet, &[1; 129]), refused(1, None));
     assert_eq!(eliminate(&sheet, &[vec![0]]), refused(1, None));
     assert_eq!(eliminate(&sheet, &vec![vec![]; 129]), refused(5, None));
@@ -71,7 +76,10 @@ fn closed_legs_are_refused_by_the_improvers() {
         let sheet = with_closed(base(), &[leg]);
         assert_eq!(refused_by(&sheet), 23);
         assert_eq!(refused_by(&with_window(sheet.clone(), [0, 9], Some(0))), 4);
-        let planned = plan(&sheet.with(&[1, 2])).expect("a plan");
-        assert!(mark(&sheet.with(&[1, 2]), &planned.runs).is_ok());
+        let called = sheet.with(&[1, 2]);
+        for placement in PLACEMENTS {
+            let planned = plan_by(placement, &called).expect("a plan");
+            assert!(mark_by(placement, &called, &planned.runs).is_ok());
+        }
     }
 }

@@ -1,7 +1,8 @@
 //! All functions on the largest sheets, with as much stack as lizsomdur.h says is enough.
 mod common;
 use common::sheets::{Customer, Sheet};
-use lizsomdur::{eliminate, mark, plan, reverse, Verdict, CALLS, NO_ROAD};
+use common::PLACEMENTS;
+use lizsomdur::{eliminate, mark_by, plan_by, reverse, Verdict, CALLS, NO_ROAD};
 use std::thread;
 
 const STACK: usize = 512_000;
@@ -49,11 +50,14 @@ fn closed() -> Sheet {
     sheet
 }
 
-/// Plans the sheet and marks the plan.
+/// Plans the sheet by each placement and marks the plan.
 fn plan_and_mark(sheet: &[u8]) {
-    let plan = plan(sheet).expect("an accepted sheet");
-    assert!(plan.runs.len() > 1 && plan.served() == CUSTOMERS);
-    assert_eq!(mark(sheet, &plan.runs), Ok(Verdict::Best));
+    for placement in PLACEMENTS {
+        let plan = plan_by(placement, sheet).expect("an accepted sheet");
+        assert!(plan.runs.len() > 1 && plan.served() == CUSTOMERS);
+        let said = mark_by(placement, sheet, &plan.runs);
+        assert_eq!(said, Ok(Verdict::Best));
+    }
 }
 
 /// Improves as many calls as runs may have: as one run, and as a run each.

@@ -5,10 +5,10 @@ use Rattle.test_cases.proofs.show_runs.Statement.{statement}
 use Rattle.test_cases.proofs.show_runs.Tie as tie
 
 abbrev Inv-loop : tie.InvT-loop
-Inv-loop change served ends n from₀ i₀ from i = Unit
+Inv-loop case served ends n from₀ i₀ from i = Unit
 
 abbrev μ-loop : tie.MeasureT-loop
-μ-loop change served ends n from₀ i₀ from i = n - i
+μ-loop case served ends n from₀ i₀ from i = n - i
 
 loop-holds : tie.Need-loop-holds Inv-loop μ-loop
 loop-holds c = search needs

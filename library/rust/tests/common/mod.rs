@@ -6,8 +6,10 @@ pub mod recorded_marks;
 pub mod sheets;
 pub mod worked;
 
-use lizsomdur::{Rest, Run};
+use lizsomdur::{Placement, Rest, Run};
 use std::path::{Path, PathBuf};
+
+pub const PLACEMENTS: [Placement; 2] = [Placement::Clock, Placement::Least];
 
 /// A file of the repository.
 pub fn kept(path: &str) -> PathBuf {
@@ -26,6 +28,7 @@ pub fn records(kind: u8) -> Vec<(Vec<u8>, String)> {
     let files = [
         "crates/test_replay/stdin",
         "library/rust/tests/marks.recorded",
+        "library/rust/tests/least.recorded",
     ];
     let files = files.map(|file| std::fs::read(kept(file)).expect("recorded answers"));
     let mut bytes = files.concat();
@@ -66,6 +69,13 @@ pub fn bytes(words: &[u32]) -> Vec<u8> {
 
 pub fn kind(word: u32) -> u32 {
     word >> 28
+}
+
+/// Lateness is paid where a customer has a window and a penalty.
+pub fn pays(sheet: &[u8]) -> bool {
+    words(sheet)
+        .windows(2)
+        .any(|pair| kind(pair[0]) == 0xA && kind(pair[1]) == 0xB)
 }
 
 /// The customers of a sheet's calls.

@@ -1,6 +1,6 @@
 //! Recorded cuttings with the marks of the oracle's own marker.
 use super::records;
-use lizsomdur::Refusal;
+use lizsomdur::{Placement, Refusal};
 
 /// A cutting as the library is lent it; its lists may have anything wrong.
 pub struct Recorded {
@@ -12,14 +12,22 @@ pub struct Recorded {
     pub mark: Result<(u32, Vec<u64>), Refusal>,
 }
 
-/// Those in the repository, and the fresh ones if there are any.
-pub fn recorded_marks() -> Vec<Recorded> {
-    marks(b'm')
+/// Those beside the plan of this placement that are in the repository, and the fresh ones if there are any.
+pub fn recorded_marks(placement: Placement) -> Vec<Recorded> {
+    marks(letter(placement))
 }
 
 /// Those that are wrong on purpose.
-pub fn wrong_marks() -> Vec<Recorded> {
-    marks(b'M')
+pub fn wrong_marks(placement: Placement) -> Vec<Recorded> {
+    marks(letter(placement).to_ascii_uppercase())
+}
+
+/// The kind of the records.
+fn letter(placement: Placement) -> u8 {
+    match placement {
+        Placement::Clock => b'm',
+        Placement::Least => b'p',
+    }
 }
 
 fn marks(kind: u8) -> Vec<Recorded> {

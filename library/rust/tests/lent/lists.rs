@@ -1,5 +1,5 @@
 //! What each function of the library is lent, as it stands before and after a call.
-use crate::slices;
+use crate::{slices, Placement};
 use std::fmt;
 
 /// What stands in lent memory before a call; no answer has these numbers.
@@ -72,9 +72,10 @@ impl Planned {
         }
     }
 
-    /// What `lizsomdur_plan` returns, and what it leaves.
-    pub fn after(mut self, sheet: &[u8]) -> (u32, Planned) {
+    /// What `lizsomdur_plan` or `lizsomdur_plan_least` returns, and what it leaves.
+    pub fn after(mut self, placement: Placement, sheet: &[u8]) -> (u32, Planned) {
         let number = slices::plan(
+            placement,
             sheet,
             self.served.lent(),
             self.run_ends.lent(),
@@ -105,15 +106,17 @@ impl Judged {
         }
     }
 
-    /// What `lizsomdur_mark` returns, and what it leaves.
+    /// What `lizsomdur_mark` or `lizsomdur_mark_least` returns, and what it leaves.
     pub fn after(
         mut self,
+        placement: Placement,
         sheet: &[u8],
         calls: &[u8],
         ends: &[u8],
         places: &[u8],
     ) -> (u32, Judged) {
         let number = slices::mark(
+            placement,
             sheet,
             calls,
             ends,

@@ -9,10 +9,11 @@ mod recorded;
 mod slices;
 
 use common::faulty::faulty;
-use common::sample;
 use common::sheets::{Customer, Sheet};
 use common::worked::{base, full, marked, of_closed, with_capacity, with_closed, with_window};
+use common::{sample, PLACEMENTS};
 use lists::{Judged, Left, Planned, Reversed, OLD_FLOAT};
+use lizsomdur::Placement;
 
 const ROOM: usize = lizsomdur::TOUR;
 
@@ -69,7 +70,10 @@ fn a_plan_is_written_at_the_fronts() {
             totals: [2644.0, 2344.0],
             ..lent.clone()
         };
-        assert_eq!(lent.after(&sample("drops")), (0, left));
+        for placement in PLACEMENTS {
+            let after = lent.clone().after(placement, &sample("drops"));
+            assert_eq!(after, (0, left.clone()));
+        }
     }
 }
 
@@ -84,7 +88,10 @@ fn a_plan_without_room_is_refused_before_the_sheet_is_read() {
                 word: 0,
                 ..lent.clone()
             };
-            assert_eq!(lent.after(&sheet), (13, left), "list {list}");
+            for placement in PLACEMENTS {
+                let after = lent.clone().after(placement, &sheet);
+                assert_eq!(after, (13, left.clone()), "list {list}");
+            }
         }
     }
 }
@@ -98,15 +105,16 @@ fn a_refused_sheet_sets_the_word_alone() {
             word,
             ..planned.clone()
         };
-        assert_eq!(planned.after(&sheet), (number, left));
-        let left = Judged {
+        let judged = Judged {
             word,
             ..Judged::new()
         };
-        assert_eq!(
-            Judged::new().after(&sheet, &[99], &[7], &[]),
-            (number, left)
-        );
+        for placement in PLACEMENTS {
+            let after = planned.clone().after(placement, &sheet);
+            assert_eq!(after, (number, left.clone()));
+            let after = Judged::new().after(placement, &sheet, &[99], &[7], &[]);
+            assert_eq!(after, (number, judged.clone()));
+        }
         let left = Reversed {
             word,
             ..Reversed::new(0)
@@ -141,7 +149,8 @@ fn a_verdict_sets_its_own_values() {
     for cut in marked().into_iter().chain(closed) {
         let calls: Vec<u8> = cut.runs.iter().flat_map(|run| run.0.clone()).collect();
         let (ends, places) = ends_and_places(&cut.runs);
-        let (number, left) = Judged::new().after(&cut.sheet, &calls, &ends, &places);
+        let judged = Judged::new();
+        let (number, left) = judged.after(Placement::Clock, &cut.sheet, &calls, &ends, &places);
         let count = VALUES[left.verdict as usize];
         seen[left.verdict as usize] = true;
         let mut values = left.values;
@@ -182,19 +191,20 @@ fn refused_runs_of_a_mark_leave_everything() {
         (&broken, &[1, 2], &[2], &[66], 5),
     ];
     for (row, (sheet, calls, ends, places, number)) in table.into_iter().enumerate() {
-        let refused = (number, Judged::new());
-        assert_eq!(
-            Judged::new().after(sheet, calls, ends, places),
-            refused,
-            "row {row}"
-        );
+        for placement in PLACEMENTS {
+            let after = Judged::new().after(placement, sheet, calls, ends, places);
+            assert_eq!(after, (number, Judged::new()), "row {row}");
+        }
     }
 }
 
 #[test]
 fn break_places_beyond_the_runs_are_not_read() {
-    let (number, left) = Judged::new().after(&base().with(&[1, 2]), &[1, 2], &[2], &[0, 99]);
-    assert_eq!((number, left.verdict), (0, 8));
+    let sheet = base().with(&[1, 2]);
+    for placement in PLACEMENTS {
+        let (number, left) = Judged::new().after(placement, &sheet, &[1, 2], &[2], &[0, 99]);
+        assert_eq!((number, left.verdict), (0, 8));
+    }
 }
 
 #[test]

@@ -1,7 +1,8 @@
 //! Recorded marks, with what they leave in lent memory.
 use crate::common::recorded_marks::{recorded_marks, wrong_marks, Recorded};
+use crate::common::PLACEMENTS;
 use crate::lists::{Judged, OLD};
-use lizsomdur::Refusal;
+use lizsomdur::{Placement, Refusal};
 use std::collections::BTreeSet;
 
 /// The number returned, and what is left: a verdict with its values at the front, the bad word of a sheet, or nothing new.
@@ -32,7 +33,7 @@ fn said(question: &Recorded) -> Option<Result<u32, u32>> {
 }
 
 /// The number returned, and what the library leaves.
-fn given(question: &Recorded) -> (u32, Judged) {
+fn given(placement: Placement, question: &Recorded) -> (u32, Judged) {
     let Recorded {
         sheet,
         calls,
@@ -40,25 +41,41 @@ fn given(question: &Recorded) -> (u32, Judged) {
         places,
         ..
     } = question;
-    Judged::new().after(sheet, calls, ends, places)
+    Judged::new().after(placement, sheet, calls, ends, places)
 }
 
 #[test]
 fn marks_are_the_recorded_ones_and_leave_the_rest() {
-    let questions = recorded_marks();
-    for (number, question) in questions.iter().enumerate() {
-        assert_eq!(given(question), expected(question), "question {number}");
+    for placement in PLACEMENTS {
+        for (number, question) in recorded_marks(placement).iter().enumerate() {
+            let (given, expected) = (given(placement, question), expected(question));
+            assert_eq!(given, expected, "{placement:?}, question {number}");
+        }
     }
-    let seen: BTreeSet<_> = questions.iter().filter_map(said).collect();
+}
+
+/// Beside the plan by the clock all are. Beside that by least pay, which is the same marker's work, some are, and none is cheaper.
+#[test]
+fn verdicts_and_refusals_are_among_the_recorded() {
+    let seen = |placement| -> BTreeSet<_> {
+        let questions = recorded_marks(placement);
+        questions.iter().filter_map(said).collect()
+    };
     let all = (1..=12).map(Ok).chain([1, 5, 13].map(Err));
-    assert_eq!(seen, all.collect());
+    assert_eq!(seen(Placement::Clock), all.collect());
+    let least = seen(Placement::Least);
+    assert!(least.is_superset(&[1, 5, 8, 9].map(Ok).into()));
+    assert!(!least.contains(&Ok(10)));
 }
 
 #[test]
 fn wrong_marks_are_noticed() {
-    let questions = wrong_marks();
-    assert!(questions.len() >= 57);
-    for (number, question) in questions.iter().enumerate() {
-        assert_ne!(given(question), expected(question), "question {number}");
+    for placement in PLACEMENTS {
+        let questions = wrong_marks(placement);
+        assert!(questions.len() >= 57);
+        for (number, question) in questions.iter().enumerate() {
+            let (given, expected) = (given(placement, question), expected(question));
+            assert_ne!(given, expected, "{placement:?}, question {number}");
+        }
     }
 }

@@ -76,7 +76,7 @@ returns c s tour e =
     let visited = take (l .calls) (x .load .last .1 .1 .1 .1 .0) in
     let distances = take (l .«distance_count») (x .load .last .1 .1 .0) in
     let times = take (l .«time_count») (x .load .last .1 .1 .1 .0) in
-    marked-on s visited (l .head) (l .customers) distances times M given tour (calls-are H) (c .mark .result) (c .mark .ensures)
+    marked-on (a .placement) s visited (l .head) (l .customers) distances times M given tour (calls-are H) (c .mark .result) (c .mark .ensures)
 
 pub mark-sheet-spec : {M : Type 1} → statement M
 mark-sheet-spec =

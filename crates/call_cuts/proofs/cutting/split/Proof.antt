@@ -2,6 +2,7 @@
 use mathlib.Core.List.{[]}
 use Rattle.definitions.specs.Lent.{cutting}
 use Rattle.definitions.specs.Drop.{split}
+use Rattle.models.specs.declared.placement.Placement.the-variants.{Clock}
 use Rattle.split_tw.specs.SplitTw.{splitTwF}
 use Rattle.bounds.proofs.InBytes.{split-few}
 use Rattle.call_cuts.specs.Stored.{plainOf, CutLists, cutLists}
@@ -17,7 +18,7 @@ start c = let known = c .before .before .before in known .before .before .before
 abbrev asked : tie.Start → Asked
 asked s =
     let a = s .args in
-    record { head = a .head; array = a .all; count = a .n; distances = a .distances .now; times = a .times .now; tour = a .tour .now }
+    record { head = a .head; array = a .all; count = a .n; distances = a .distances .now; times = a .times .now; tour = a .tour .now; placement = Clock }
 
 abbrev lists : tie.Start → CutLists
 lists s = let a = s .args in cutLists (a .served .now) (a .run-ends .now) (a .dropped .now)

@@ -1,9 +1,10 @@
 -- `cutting::split_tw` meets its contract. Assumes nothing.
 use mathlib.Core.List.{[]}
 use Rattle.definitions.specs.Lent.{cutting}
-use Rattle.definitions.specs.Drop.{splitTw}
+use Rattle.definitions.specs.Drop.{splitBy}
+use Rattle.placements.specs.Chosen.{placementOf}
 use Rattle.split_tw.specs.SplitTw.{splitTwF}
-use Rattle.bounds.proofs.InBytes.{split-tw-few}
+use Rattle.bounds.proofs.InBytes.{split-by-few}
 use Rattle.call_cuts.specs.Stored.{timedOf, CutLists, cutLists}
 use Rattle.call_cuts.proofs.CutAnswers.{Asked, rooms, tour-fits, refused-cut, given-cut}
 use Rattle.call_cuts.proofs.SplitCase.{split-tw-holds}
@@ -17,7 +18,7 @@ start c = let known = c .before .before .before in known .before .before .before
 abbrev asked : tie.Start → Asked
 asked s =
     let a = s .args in
-    record { head = a .head; array = a .all; count = a .n; distances = a .distances .now; times = a .times .now; tour = a .tour .now }
+    record { head = a .head; array = a .all; count = a .n; distances = a .distances .now; times = a .times .now; tour = a .tour .now; placement = a .placement }
 
 abbrev lists : tie.Start → CutLists
 lists s = let a = s .args in cutLists (a .served .now) (a .run-ends .now) (a .dropped .now)
@@ -29,7 +30,7 @@ returns : tie.Need-returns
 returns c =
     let s = start (c .before) in
     let number = c .before .refuse-cutting in
-    refused-cut (asked s) (lists s) (number .result) (number .ensures .0) (λ x. splitTw x (s .args .tour .now)) (c .if1 .taken)
+    refused-cut (asked s) (lists s) (number .result) (number .ensures .0) (λ x. splitBy (placementOf (s .args .placement)) x (s .args .tour .now)) (c .if1 .taken)
 
 split-tw-stored-requires : tie.Need-split-tw-stored-requires
 split-tw-stored-requires c κs =
@@ -57,8 +58,8 @@ returns-2 c =
     let h = a .head in
     let number = tested .before .refuse-cutting in
     let done = cut .split-tw-stored in
-    given-cut (asked s) (lists s) (number .result) (number .ensures .0) (λ x. splitTw x (a .tour .now)) (number .ensures .1) (tested .if1 .left)
-    (split-tw-few (a .tour .now)) (splitTwF (timedOf h (a .all) (a .distances .now) (a .times .now)) (a .tour .now))
+    given-cut (asked s) (lists s) (number .result) (number .ensures .0) (λ x. splitBy (placementOf (a .placement)) x (a .tour .now)) (number .ensures .1) (tested .if1 .left)
+    (split-by-few (a .tour .now) (placementOf (a .placement))) (splitTwF (timedOf h (a .all) (a .distances .now) (a .times .now) (a .placement)) (a .tour .now))
     (split-tw-holds cutting (asked s) [] [] [] (rooms (asked s) (lists s))) (done .result) (cutLists _ _ _) (done .ensures)
 
 pub split-tw-spec : {M : Type 1} → statement M

@@ -15,7 +15,7 @@ start c = let known = c .before .before .before in known .before .before .before
 abbrev asked : tie.Start → Asked
 asked s =
     let a = s .args in
-    record { head = a .head; array = a .all; count = a .n; distances = a .distances .now; times = a .times .now; tour = a .tour .now }
+    record { head = a .head; array = a .all; count = a .n; distances = a .distances .now; times = a .times .now; tour = a .tour .now; placement = a .placement }
 
 abbrev given : tie.Start → Given
 given s = let a = s .args in record { calls = a .calls .now; ends = a .ends .now; places = a .places .now }

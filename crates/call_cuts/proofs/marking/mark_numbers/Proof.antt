@@ -24,10 +24,10 @@ module _ (k : tie.After-split-tw) where
   begun = let earlier = k .before .before .before .before .before in earlier .before .before .before .before .before
 
   abbrev plan : ResultF
-  plan = let a = begun .args in splitTwF (timedOf (a .head) (a .all) (a .distances .now) (a .times .now)) (a .tour .now)
+  plan = let a = begun .args in splitTwF (timedOf (a .head) (a .all) (a .distances .now) (a .times .now) (a .chosen)) (a .tour .now)
 
   abbrev served : List ℕ
-  served = k .split-tw .last .1 .1 .1 .1 .1 .1 .1 .1 .0
+  served = k .split-tw .last .1 .1 .1 .1 .1 .1 .1 .1 .1 .0
 
 slice-aggregate-split-tw : tie.Need-slice-aggregate-split-tw
 slice-aggregate-split-tw c = search needs

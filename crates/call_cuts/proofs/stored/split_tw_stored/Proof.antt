@@ -67,7 +67,7 @@ returns c =
     let cut = earlier .before .before .before in
     let earlier = cut .before .before .before .before .before in
     let a = earlier .before .before .before .before .before .args in
-    let x = splitTwF (timedOf (a .head) (a .all) (a .distances .now) (a .times .now)) (a .tour .now) in
+    let x = splitTwF (timedOf (a .head) (a .all) (a .distances .now) (a .times .now) (a .placement)) (a .tour .now) in
     let done = cut .split-tw in
     record {
       counts = done .ensures .0;

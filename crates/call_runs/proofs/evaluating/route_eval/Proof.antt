@@ -1,9 +1,10 @@
 -- `evaluating::route_eval` meets its contract. Assumes nothing.
 use mathlib.Core.Path.{_≡_, ap, _∙_}
-use Rattle.definitions.specs.Evaluation.{routeEval}
+use Rattle.definitions.specs.Evaluation as Whole
 use Rattle.evaluation.specs.declared.route.Evaluated.the-variants as Evaluateds
 use Rattle.evaluation.specs.Records.{lent, limitsOf}
-use Rattle.evaluation.specs.Route.{evalF}
+use Rattle.placements.specs.Chosen.{placementOf}
+use Rattle.placements.specs.Placed.{evalBy}
 use Rattle.call_runs.specs.declared.evaluating.Evaluation.the-variants.{NotAllowed, Allowed}
 use Rattle.call_runs.specs.Evaluating.{evaluationIn}
 use Rattle.byte_lists.proofs.Widened.{zeros, as-many}
@@ -22,7 +23,7 @@ returns c =
     let told = asked .refuse-evaluating in
     let a = asked .before .before .before .before .args in
     refused-run (a .head) (a .all) (a .n) (a .distances .now) (a .times .now) (a .run .now) (told .result) (told .ensures .0) (told .ensures .1)
-    evaluationIn (λ s. routeEval s (a .run .now)) (c .if1 .taken)
+    evaluationIn (λ s. Whole.evalBy (placementOf (a .placement)) s (a .run .now)) (c .if1 .taken)
 
 slice-aggregate-widen : tie.Need-slice-aggregate-widen
 slice-aggregate-widen c = search needs
@@ -33,15 +34,15 @@ widen-requires c κs = search needs
 array-share-prefix-calls : tie.Need-array-share-prefix-calls
 array-share-prefix-calls c = search needs
 
-slice-aggregate-route-eval : tie.Need-slice-aggregate-route-eval
-slice-aggregate-route-eval c =
+slice-aggregate-eval-by : tie.Need-slice-aggregate-eval-by
+slice-aggregate-eval-by c =
     let w = c .before .before in
     let earlier = w .before .before .before .before in
     let a = earlier .before .before .before .args in
     as-many (a .run .now) zeros (w .widen .last .1 .0) (w .widen .result) (w .widen .ensures .0) (w .widen .ensures .1)
 
-route-eval-requires : tie.Need-route-eval-requires
-route-eval-requires c κs = search needs
+eval-by-requires : tie.Need-eval-by-requires
+eval-by-requires c κs = search needs
 
 enum-told : tie.Need-enum-told
 enum-told c = search needs
@@ -61,10 +62,10 @@ returns-2 c =
     let run = run-read (a .head) (a .all) (a .n) (a .distances .now) (a .times .now) (a .run .now) (told .result) (told .ensures .0) (told .ensures .1)
     (passed .if1 .left) (s .good .1 .0 .1 .0 .1) (w .widen .last .1 .0) (w .widen .result) (w .widen .ensures .0) (w .widen .ensures .1) in
     let t = lent (a .all) (a .distances .now) (a .times .now) (a .head .places) in
-    let evaluated = answered .route-eval in
+    let evaluated = answered .eval-by in
     let e : evaluated .result ≡ Evaluateds.NotAllowed = c .enum-told .given .1 in
-    evaluated-run (a .head) (a .all) (a .n) (a .distances .now) (a .times .now) (a .run .now) (told .result) (told .ensures .0) (told .ensures .1)
-    (passed .if1 .left) (evaluated .result) (evaluated .ensures ∙ ap (evalF t (limitsOf (a .head .limits))) run) NotAllowed (not-allowed-in (evaluated .result) e)
+    evaluated-run (a .head) (a .all) (a .n) (a .distances .now) (a .times .now) (a .run .now) (a .placement) (told .result) (told .ensures .0) (told .ensures .1)
+    (passed .if1 .left) (evaluated .result) (evaluated .ensures ∙ ap (evalBy t (limitsOf (a .head .limits)) (a .placement)) run) NotAllowed (not-allowed-in (evaluated .result) e)
 
 returns-3 : tie.Need-returns-3
 returns-3 c =
@@ -78,11 +79,11 @@ returns-3 c =
     let run = run-read (a .head) (a .all) (a .n) (a .distances .now) (a .times .now) (a .run .now) (told .result) (told .ensures .0) (told .ensures .1)
     (passed .if1 .left) (s .good .1 .0 .1 .0 .1) (w .widen .last .1 .0) (w .widen .result) (w .widen .ensures .0) (w .widen .ensures .1) in
     let t = lent (a .all) (a .distances .now) (a .times .now) (a .head .places) in
-    let evaluated = answered .route-eval in
+    let evaluated = answered .eval-by in
     let x = c .before .e .given .0 .0 in
     let e : evaluated .result ≡ Evaluateds.Allowed x = c .before .e .given .1 in
-    evaluated-run (a .head) (a .all) (a .n) (a .distances .now) (a .times .now) (a .run .now) (told .result) (told .ensures .0) (told .ensures .1)
-    (passed .if1 .left) (evaluated .result) (evaluated .ensures ∙ ap (evalF t (limitsOf (a .head .limits))) run) (Allowed x) (allowed-in (evaluated .result) x e)
+    evaluated-run (a .head) (a .all) (a .n) (a .distances .now) (a .times .now) (a .run .now) (a .placement) (told .result) (told .ensures .0) (told .ensures .1)
+    (passed .if1 .left) (evaluated .result) (evaluated .ensures ∙ ap (evalBy t (limitsOf (a .head .limits)) (a .placement)) run) (Allowed x) (allowed-in (evaluated .result) x e)
 
 pub route-eval-spec : {M : Type 1} → statement M
 route-eval-spec =
@@ -93,8 +94,8 @@ route-eval-spec =
     slice-aggregate-widen
     widen-requires
     array-share-prefix-calls
-    slice-aggregate-route-eval
-    route-eval-requires
+    slice-aggregate-eval-by
+    eval-by-requires
     enum-told
     enum-known-e
     returns-2

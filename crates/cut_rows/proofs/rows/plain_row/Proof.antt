@@ -36,7 +36,7 @@ abbrev Inv-loop : tie.InvT-loop
 Inv-loop cost₀ dist₀ pred₀ held legs time-legs codes figures terms i base before load₀ gone₀ time₀ late-cost₀ left m₀ cost dist pred load gone time late-cost m =
     Going (rowLists held legs time-legs codes figures) i (loadOf load) m
     (λ t.
-    PlainAlong (overBy t terms none) (rowFrom (drop i held) i (table cost₀ dist₀ pred₀) base before) (table cost dist pred) (loadOf load) gone time late-cost m)
+    PlainAlong (overBy t terms (terms .placement) none) (rowFrom (drop i held) i (table cost₀ dist₀ pred₀) base before) (table cost dist pred) (loadOf load) gone time late-cost m)
 
 abbrev μ-loop : tie.MeasureT-loop
 μ-loop cost₀ dist₀ pred₀ held legs time-legs codes figures terms i base before load₀ gone₀ time₀ late-cost₀ left m₀ cost dist pred load gone time late-cost m =
@@ -56,7 +56,7 @@ module _ (n : tie.After-none Inv-loop μ-loop) where
   rowAt base ahead = let a = begun .args in rowFrom (drop (a .i) (now (a .held))) (a .i) (table (now (a .cost)) (now (a .dist)) (now (a .pred))) base ahead
 
   abbrev over : Tables → Instance
-  over t = overBy t (begun .args .terms) none
+  over t = overBy t (begun .args .terms) (begun .args .terms .placement) none
 
 -- the next run
 module _ (r : tie.After-run Inv-loop μ-loop) where

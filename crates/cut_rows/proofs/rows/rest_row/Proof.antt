@@ -14,6 +14,7 @@ use Rattle.basics.proofs.TestLaws.{not-false}
 use Rattle.cut_theory.specs.Tab.{mostCut}
 use Rattle.definitions.specs.Load.{noLoad}
 use Rattle.definitions.specs.Sheet.{BreakOf}
+use Rattle.models.specs.declared.placement.Placement.the-variants.{Clock}
 use Rattle.models.specs.Records.{breakOf}
 use Rattle.models.specs.Load.{loadOf, UpTo, none-up-to, up-to-more}
 use Rattle.whole.proofs.Bits.{fl-zero}
@@ -31,7 +32,7 @@ use Rattle.cut_rows.proofs.Branches.{fails, holds}
 use Rattle.cut_rows.proofs.Along.{Row, rowFrom, setout}
 use Rattle.cut_rows.proofs.Ends.{run-out, overloaded, cut-off}
 use Rattle.cut_rows.proofs.Calls.{RunIs, run-is, call-below, way-is, CallIs, call-is, leg-closed}
-use Rattle.cut_rows.proofs.Going.{Going, same-break}
+use Rattle.cut_rows.proofs.Going.{Going, same-terms}
 use Rattle.cut_rows.proofs.RestAlong.{RestAlong, rest-setout, first-index, next-index, dead, homeless, endless, skip, put}
 use Rattle.cut_rows.proofs.rows.rest_row.Statement.{statement}
 use Rattle.cut_rows.proofs.rows.rest_row.Tie as tie
@@ -40,7 +41,7 @@ abbrev Inv-loop : tie.InvT-loop
 Inv-loop cost₀ dist₀ pred₀ held legs time-legs codes figures terms i base before load₀ gone₀ clock₀ left m₀ cost dist pred load gone clock m =
     Going (rowLists held legs time-legs codes figures) i (loadOf load) m
     (λ t.
-    RestAlong (overBy t terms (some (clockOf clock₀ .rest))) (clockOf clock₀ .rest) (rowFrom (drop i held) i (table cost₀ dist₀ pred₀) base before) (table cost dist pred)
+    RestAlong (overBy t terms Clock (some (clockOf clock₀ .rest))) (clockOf clock₀ .rest) (rowFrom (drop i held) i (table cost₀ dist₀ pred₀) base before) (table cost dist pred)
     (loadOf load) gone (clockOf clock) m)
     × (clockOf clock .index ≡ m + 1)
 
@@ -68,12 +69,12 @@ module _ (n : tie.After-new Inv-loop μ-loop) where
   pause = clockOf (n .new .result) .rest
 
   abbrev over : Tables → Instance
-  over t = overBy t (begun .args .terms) (some pause)
+  over t = overBy t (begun .args .terms) Clock (some pause)
 
   -- the row with the break of the clock is that with the break lent
   as-lent : (new : Table) (r : ℕ) → Rowed over lists (begun .args .i) old new r
-      → Rowed (λ t. overBy t (begun .args .terms) (some (breakOf (begun .args .rest)))) lists (begun .args .i) old new r
-  as-lent new r = same-break _ _ (ap (λ (x : ClockF). some (x .rest)) (n .new .ensures)) (begun .args .terms) lists (begun .args .i) old new r
+      → Rowed (λ t. overBy t (begun .args .terms) Clock (some (breakOf (begun .args .rest)))) lists (begun .args .i) old new r
+  as-lent new r = same-terms _ _ refl _ _ (ap (λ (x : ClockF). some (x .rest)) (n .new .ensures)) (begun .args .terms) lists (begun .args .i) old new r
 
 -- the next run
 module _ (r : tie.After-run Inv-loop μ-loop) where
@@ -341,7 +342,7 @@ returns-3 c =
     let l = top p in (
       as-lent (l .before) _ _
           (λ t W L.
-          dead (over (l .before) t) (pause (l .before)) refl _ _ _ _ (l .loop .inv .0 .keeps t W L) (called p t W L _ _ (road k .before .leg-to .ensures) (k .before .leg-to2 .ensures))
+          dead (over (l .before) t) refl (pause (l .before)) refl _ _ _ _ (l .loop .inv .0 .keeps t W L) (called p t W L _ _ (road k .before .leg-to .ensures) (k .before .leg-to2 .ensures))
           (inside p) (short p) (b .before .before .plus .ensures .0) (holds _ _ (b .before .fits2 .ensures .0) (b .if1 .left)) (leg-open k) (far-way k) (served k)
           (fails _ _ (c .before .alive .ensures) (c .if2 .taken))),
       l .loop .inv .0 .within,
@@ -375,7 +376,7 @@ loop-again c =
         light = b .before .fits2 .ensures .1 (not-false _ (b .if1 .left));
         keeps =
             λ t W L.
-            homeless (over (l .before) t) (pause (l .before)) refl _ _ _ _ (l .loop .inv .0 .keeps t W L) (called p t W L _ _ (road k .before .leg-to .ensures) (k .before .leg-to2 .ensures))
+            homeless (over (l .before) t) refl (pause (l .before)) refl _ _ _ _ (l .loop .inv .0 .keeps t W L) (called p t W L _ _ (road k .before .leg-to .ensures) (k .before .leg-to2 .ensures))
             (inside p) (short p) (b .before .before .plus .ensures .0) (holds _ _ (b .before .fits2 .ensures .0) (b .if1 .left)) (leg-open k) (far-way k) (served k)
             (sym (h .road-of2 .ensures) ∙ ap roadOf e);
       },
@@ -407,7 +408,7 @@ loop-again-2 c =
         light = b .before .fits2 .ensures .1 (not-false _ (b .if1 .left));
         keeps =
             λ t W L.
-            endless (over (l .before) t) (pause (l .before)) refl _ _ _ _ (l .loop .inv .0 .keeps t W L) (called p t W L _ _ (road k .before .leg-to .ensures) (k .before .leg-to2 .ensures))
+            endless (over (l .before) t) refl (pause (l .before)) refl _ _ _ _ (l .loop .inv .0 .keeps t W L) (called p t W L _ _ (road k .before .leg-to .ensures) (k .before .leg-to2 .ensures))
             (inside p) (short p) (b .before .before .plus .ensures .0) (holds _ _ (b .before .fits2 .ensures .0) (b .if1 .left)) (leg-open k) (far-way k) (served k)
             _ (home-open f) _ (f .finish .ensures) (ap finishedOf e);
       },
@@ -433,7 +434,7 @@ loop-again-3 c =
         light = b .before .fits2 .ensures .1 (not-false _ (b .if1 .left));
         keeps =
             λ t W L.
-            skip (over (l .before) t) (pause (l .before)) refl _ _ _ _ (l .loop .inv .0 .keeps t W L) (called p t W L _ _ (road k .before .leg-to .ensures) (k .before .leg-to2 .ensures))
+            skip (over (l .before) t) refl (pause (l .before)) refl _ _ _ _ (l .loop .inv .0 .keeps t W L) (called p t W L _ _ (road k .before .leg-to .ensures) (k .before .leg-to2 .ensures))
             (inside p) (short p) (b .before .before .plus .ensures .0) (holds _ _ (b .before .fits2 .ensures .0) (b .if1 .left)) (leg-open k) (far-way k) (served k)
             _ (home-open f) _ (f .finish .ensures) _ (at-home g) (fails _ _ (g .allow .ensures) (c .if3 .taken));
       },
@@ -459,7 +460,7 @@ loop-again-4 c =
         light = b .before .fits2 .ensures .1 (not-false _ (b .if1 .left));
         keeps =
             λ t W L.
-            put (over (l .before) t) (pause (l .before)) refl _ _ _ _ (l .loop .inv .0 .keeps t W L) (called p t W L _ _ (road k .before .leg-to .ensures) (k .before .leg-to2 .ensures))
+            put (over (l .before) t) refl (pause (l .before)) refl _ _ _ _ (l .loop .inv .0 .keeps t W L) (called p t W L _ _ (road k .before .leg-to .ensures) (k .before .leg-to2 .ensures))
             (inside p) (short p) (b .before .before .plus .ensures .0) (holds _ _ (b .before .fits2 .ensures .0) (b .if1 .left)) (leg-open k) (far-way k) (served k)
             _ (home-open f) _ (f .finish .ensures) _ (at-home g) _ _ (holds _ _ (g .allow .ensures) (c .before .before .before .before .before .if3 .left)) (next-cell p)
             (c .offer .ensures);

@@ -1,11 +1,11 @@
 -- `rows::row` meets its contract, by whether the limits have a break. Assumes nothing.
-use mathlib.Core.Path.{_≡_, sym, ap}
+use mathlib.Core.Path.{_≡_, refl, sym, ap}
 use denote.Ref.{now}
 use Rattle.models.specs.declared.vehicle.Rest.the-variants.{Unbroken, Break}
 use Rattle.models.specs.Records.{restOf}
 use Rattle.cut_table.specs.Table.{Table, table}
 use Rattle.cut_rows.specs.Runs.{RowLists, rowLists}
-use Rattle.cut_rows.proofs.Going.{same-break}
+use Rattle.cut_rows.proofs.Going.{same-terms}
 use borrow.Author.Needs.{needs}
 use Rattle.cut_rows.proofs.rows.row.Statement.{statement}
 use Rattle.cut_rows.proofs.rows.row.Tie as tie
@@ -30,8 +30,8 @@ plain-row-requires c κs = search needs
 enum-known-rest : tie.Need-enum-known-rest
 enum-known-rest c = search needs
 
-rest-row-requires : tie.Need-rest-row-requires
-rest-row-requires c κs = search needs
+broken-row-requires : tie.Need-broken-row-requires
+broken-row-requires c κs = search needs
 
 returns : tie.Need-returns
 returns c =
@@ -39,7 +39,7 @@ returns c =
     let l = told .before .before in
     let a = begun l .args in
     let e : a .terms .limits .rest ≡ Unbroken = search needs in
-    (same-break _ _ (sym (ap restOf e)) (a .terms) (lists l) (a .i) (old l) _ _ (c .plain-row .ensures .0), c .plain-row .ensures .1)
+    (same-terms _ _ refl _ _ (sym (ap restOf e)) (a .terms) (lists l) (a .i) (old l) _ _ (c .plain-row .ensures .0), c .plain-row .ensures .1)
 
 returns-2 : tie.Need-returns-2
 returns-2 c =
@@ -47,9 +47,9 @@ returns-2 c =
     let l = rest .before .before in
     let a = begun l .args in
     let e : a .terms .limits .rest ≡ Break (rest .rest .given .0 .0) = search needs in
-    (same-break _ _ (sym (ap restOf e)) (a .terms) (lists l) (a .i) (old l) _ _ (c .rest-row .ensures .0), c .rest-row .ensures .1)
+    (same-terms _ _ refl _ _ (sym (ap restOf e)) (a .terms) (lists l) (a .i) (old l) _ _ (c .broken-row .ensures .0), c .broken-row .ensures .1)
 
 pub row-spec : {M : Type 1} → statement M
 row-spec =
     tie.close
-    (tie.spec enum-told plain-row-requires enum-known-rest rest-row-requires returns returns-2)
+    (tie.spec enum-told plain-row-requires enum-known-rest broken-row-requires returns returns-2)

@@ -11,9 +11,10 @@ use contract.Monad.{Fun}
 use contract.Running.{givenOf}
 use denote.Triple.Entry.{Args, Res}
 use denote.Triple.Clauses.{AtExit}
-use Rattle.definitions.specs.Answers.{markOf}
+use Rattle.definitions.specs.Answers.{markByOf}
 use Rattle.whole.specs.Value.{value}
 use Rattle.lending.specs.Padding.{padded}
+use Rattle.placements.specs.Chosen.{placementOf}
 use Rattle.walks.proofs.Calling.{asked, asked-none}
 use Rattle.call_shared.specs.Answers.{Answers}
 use Rattle.call_cuts.specs.Marking.{markLent, markIn}
@@ -33,8 +34,8 @@ use Rattle.planner.proofs.marking.mark.Code as code
 
 -- what the core says of its result
 abbrev Said : (κs : Lfts 7) → Args call.signature κs → Res core.signature (κs .1) → AtExit core.ended (κs .1) → Type 0
-Said κs (head, (customers, (distances, (times, (tour, (calls, (ends, (breaks, u)))))))) r e =
-    Answers (λ cs. markIn (markOf value (markLent head cs (distances .now) (times .now) (tour .now) (calls .now) (ends .now) (breaks .now))))
+Said κs (head, (customers, (distances, (times, (tour, (calls, (ends, (breaks, (p, u))))))))) r e =
+    Answers (λ cs. markIn (markByOf value (placementOf p) (markLent head cs (distances .now) (times .now) (tour .now) (calls .now) (ends .now) (breaks .now))))
     (length (customers .now)) (padded 64 (customers .now)) r
 
 carries : {M : Type 1} (𝓤 : URA M) (H : Heap 𝓤) (A : Atoms 𝓤) (mem : Memory → SProp 𝓤) (run : Routine → Fun 𝓤) → Carries markLists Md 𝓤 H A (core.clauses 𝓤 H A mem run) (call.clauses 𝓤 H A mem run)
@@ -45,9 +46,9 @@ carries 𝓤 H A mem run =
       Said = Said;
       heard = λ κs a r e. id⊢ 𝓤 _;
       told = λ κs a g r ws said.
-          let (head, (customers, (distances, (times, (tour, (calls, (ends, (breaks, u)))))))) = a in
+          let (head, (customers, (distances, (times, (tour, (calls, (ends, (breaks, (p, u))))))))) = a in
           let cs = customers .now in
-          asked 𝓤 (kept (lentSheet head cs (distances .now) (times .now)) (tour .now) (calls .now) (ends .now) (breaks .now) (said cs (padded-gathered cs)));
+          asked 𝓤 (kept (lentSheet head cs (distances .now) (times .now)) (tour .now) (calls .now) (ends .now) (breaks .now) (placementOf p) (said cs (padded-gathered cs)));
     }
 
 pub mark-spec : {M : Type 1} → stated.statement M

@@ -4,27 +4,26 @@ use native.Mathlib.Omega.{arith}
 use lib.ListN.{length}
 use denote.Ref.{now}
 use borrow.Author.Needs.{needs}
-use Rattle.models.specs.Records.{restOf}
-use Rattle.evaluation.specs.Records.{lent, takenOf}
-use Rattle.evaluation.specs.Route.{breakF}
+use Rattle.evaluation.specs.Records.{lent, limitsOf, takenOf}
 use Rattle.listing_lines.proofs.RunWalk.{begins, rises, inside}
+use Rattle.sheet_plan.specs.Breaks.{breakBy}
 use Rattle.sheet_plan.proofs.BreakTurns.{breakLists, BreaksTo, set-out, places-kept, starts-kept, turn, places-ended, starts-ended}
 use Rattle.sheet_plan.proofs.breaks.write_breaks.Statement.{statement}
 use Rattle.sheet_plan.proofs.breaks.write_breaks.Tie as tie
 
 abbrev Inv-loop : tie.InvT-loop
-Inv-loop calls ends customers distances times size rest places₀ starts₀ from₀ k₀ places starts from k =
-    BreaksTo (breakF (lent customers distances times size) (restOf rest)) calls ends (breakLists places₀ starts₀) (breakLists places starts) from k
+Inv-loop calls ends customers distances times size limits placement places₀ starts₀ from₀ k₀ places starts from k =
+    BreaksTo (breakBy (lent customers distances times size) (limitsOf limits) placement) calls ends (breakLists places₀ starts₀) (breakLists places starts) from k
 
 abbrev μ-loop : tie.MeasureT-loop
-μ-loop calls ends customers distances times size rest places₀ starts₀ from₀ k₀ places starts from k = length ends - k
+μ-loop calls ends customers distances times size limits placement places₀ starts₀ from₀ k₀ places starts from k = length ends - k
 
 loop-holds : tie.Need-loop-holds Inv-loop μ-loop
 loop-holds c =
     let known = c .before .before .before in
     let s = known .before .before .before in
     let a = s .args in
-    let by = breakF (lent (a .customers) (now (a .distances)) (now (a .times)) (a .size)) (restOf (a .rest)) in
+    let by = breakBy (lent (a .customers) (now (a .distances)) (now (a .times)) (a .size)) (limitsOf (a .limits)) (a .placement) in
     set-out by (now (a .calls)) (now (a .ends)) (breakLists (now (a .places)) (now (a .starts))) (s .pre .0)
 
 mul-to : tie.Need-mul-to Inv-loop μ-loop
@@ -33,20 +32,20 @@ mul-to c = search needs
 shared-slice-read-to : tie.Need-shared-slice-read-to Inv-loop μ-loop
 shared-slice-read-to c = omega arith
 
-mul-break-of : tie.Need-mul-break-of Inv-loop μ-loop
-mul-break-of c = omega (arith, begins (c .before .before .loop .inv .at-run))
+mul-break-by : tie.Need-mul-break-by Inv-loop μ-loop
+mul-break-by c = omega (arith, begins (c .before .before .loop .inv .at-run))
 
-sub-break-of : tie.Need-sub-break-of Inv-loop μ-loop
-sub-break-of c = rises (c .before .before .loop .inv .at-run) (c .before .loop-test .taken)
+sub-break-by : tie.Need-sub-break-by Inv-loop μ-loop
+sub-break-by c = rises (c .before .before .loop .inv .at-run) (c .before .loop-test .taken)
 
-part-break-of-start : tie.Need-part-break-of-start Inv-loop μ-loop
-part-break-of-start c = rises (c .before .before .loop .inv .at-run) (c .before .loop-test .taken)
+part-break-by-start : tie.Need-part-break-by-start Inv-loop μ-loop
+part-break-by-start c = rises (c .before .before .loop .inv .at-run) (c .before .loop-test .taken)
 
-part-break-of-end : tie.Need-part-break-of-end Inv-loop μ-loop
-part-break-of-end c = inside (c .before .before .loop .inv .at-run) (c .before .loop-test .taken)
+part-break-by-end : tie.Need-part-break-by-end Inv-loop μ-loop
+part-break-by-end c = inside (c .before .before .loop .inv .at-run) (c .before .loop-test .taken)
 
-break-of-requires : tie.Need-break-of-requires Inv-loop μ-loop
-break-of-requires c κs = search needs
+break-by-requires : tie.Need-break-by-requires Inv-loop μ-loop
+break-by-requires c κs = search needs
 
 mul-places : tie.Need-mul-places Inv-loop μ-loop
 mul-places c = search needs
@@ -84,7 +83,7 @@ loop-again c =
     let l = t .before in
     let known = l .before .before .before in
     let room = known .before .before .before .before .pre .1 in
-    turn (l .loop .inv) (t .loop-test .taken) room (takenOf (b .break-of .result)) (b .break-of .ensures) (c .start-or-zero .result) (c .start-or-zero .ensures)
+    turn (l .loop .inv) (t .loop-test .taken) room (takenOf (b .break-by .result)) (b .break-by .ensures) (c .start-or-zero .result) (c .start-or-zero .ensures)
 
 same-length : tie.Need-same-length Inv-loop μ-loop
 same-length c =
@@ -110,11 +109,11 @@ write-breaks-spec =
     loop-holds
     mul-to
     shared-slice-read-to
-    mul-break-of
-    sub-break-of
-    part-break-of-start
-    part-break-of-end
-    break-of-requires
+    mul-break-by
+    sub-break-by
+    part-break-by-start
+    part-break-by-end
+    break-by-requires
     mul-places
     slice-write-places
     start-or-zero-requires

@@ -36,10 +36,11 @@ returns c s H =
     let known = x .before .before .before .before .before in
     let a = known .before .before .before .before .before .args in
     let r = x .split-tw in
-    let lists = r .last .1 .1 .1 .1 .1 .1 .1 .1 in
+    let lists = r .last .1 .1 .1 .1 .1 .1 .1 .1 .1 in
     let old = cutLists (now (a .served)) (now (a .run-ends)) (now (a .dropped)) in
     let new = cutLists (lists .0) (lists .1 .0) (lists .1 .1 .0) in
-    cut-left s (now (a .tour)) (a .head) (a .customers) (now (a .distances)) (now (a .times)) H (r .result) old new (r .ensures .0) (r .ensures .1 .0) (r .ensures .1 .1 .0) (r .ensures .1 .1 .1)
+    cut-left (a .placement) s (now (a .tour)) (a .head) (a .customers) (now (a .distances)) (now (a .times)) H (r .result) old new
+    (r .ensures .0) (r .ensures .1 .0) (r .ensures .1 .1 .0) (r .ensures .1 .1 .1)
 
 pub cut-held-spec : {M : Type 1} → statement M
 cut-held-spec = tie.close (tie.spec split-tw-requires same-length same-length-2 same-length-3 returns)

@@ -3,6 +3,7 @@ use denote.Ref.{now}
 use Rattle.sheet_read.specs.Summary.{heldCounts}
 use Rattle.sheet_loaded.proofs.Reading.{is-accepted}
 use Rattle.sheet_loaded.proofs.Loading.{far-inside, far-counted, long-inside, long-counted, calls-inside, calls-counted, calls-are, held}
+use Rattle.placements.specs.Chosen.{placementOf}
 use Rattle.sheet_plan.specs.Plan.{planLists}
 use Rattle.sheet_plan.proofs.PlanStored.{of-tour}
 use borrow.Author.Needs.{needs}
@@ -95,7 +96,7 @@ returns c s tour e =
     let a = start .args in
     let old = planLists (now (a .served)) (now (a .run-ends)) (now (a .break-places)) (now (a .break-starts)) (now (a .dropped)) in
     let H = l .load .ensures s tour e in
-    of-tour s {old = old} (calls-are H) (y .plan-stored .ensures s (H .in-memory))
+    of-tour (placementOf (a .placement)) s {old = old} (calls-are H) (y .plan-stored .ensures s (H .in-memory))
 
 pub plan-sheet-spec : {M : Type 1} → statement M
 plan-sheet-spec =

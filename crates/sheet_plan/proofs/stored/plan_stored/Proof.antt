@@ -3,6 +3,7 @@ use native.Mathlib.Omega.{arith}
 use mathlib.Core.Path.{refl}
 use denote.Ref.{now}
 use Rattle.bounds.proofs.Inside.{few-tour}
+use Rattle.placements.specs.Chosen.{placementOf}
 use Rattle.sheet_plan.specs.Plan.{planLists}
 use Rattle.sheet_plan.proofs.PlanStored.{left-in-bytes}
 use borrow.Author.Needs.{needs}
@@ -83,7 +84,7 @@ returns c s H =
     let start = entry (plan .before) in
     let a = start .args in
     let old = planLists (now (a .served)) (now (a .run-ends)) (now (a .break-places)) (now (a .break-starts)) (now (a .dropped)) in
-    left-in-bytes s (now (a .tour)) (few-tour s (H .within) (now (a .tour)) (H .calls) (H .once)) (plan .plan-held .ensures s H)
+    left-in-bytes (placementOf (a .placement)) s (now (a .tour)) (few-tour s (H .within) (now (a .tour)) (H .calls) (H .once)) (plan .plan-held .ensures s H)
     old (planLists _ _ _ _ _) (start .pre .1) refl refl (served .narrow .ensures) (ends .narrow2 .ensures) (places .narrow3 .ensures) (dropped .narrow4 .ensures)
 
 pub plan-stored-spec : {M : Type 1} → statement M

@@ -15,7 +15,7 @@ use Rattle.split_tw.proofs.split_tw.settle.Tie as tie
 -- ---- the places of the code that the needs look back to
 
 abbrev termsOf : tie.Start → Terms
-termsOf s = let a = s .args in record { capacity = a .capacity; fixed = a .fixed; limits = a .limits }
+termsOf s = let a = s .args in record { capacity = a .capacity; fixed = a .fixed; limits = a .limits; placement = a .placement }
 
 -- the tour is written at the front of `held`
 module _ (w : tie.After-write-front) where

@@ -26,7 +26,7 @@ module _ (k : tie.After-settle) where
   begun = let known = k .before .before .before .before .before in known .before .before .before .before .before
 
   abbrev lentTo : Instance
-  lentTo = let a = begun .args in lent (a .customers) (now (a .distances)) (now (a .times)) (a .size) (a .capacity) (a .fixed) (a .limits)
+  lentTo = let a = begun .args in lent (a .customers) (now (a .distances)) (now (a .times)) (a .size) (a .capacity) (a .fixed) (a .limits) (a .placement)
 
   abbrev tour : List ℕ
   tour = now (begun .args .tour)

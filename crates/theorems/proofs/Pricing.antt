@@ -1,4 +1,4 @@
--- What is promised of a cutting, for any way to place the break that is sound and complete. Assumes nothing.
+-- What is promised of a cutting, for any way to price runs that is sound and complete. Assumes nothing.
 use Prim.Native.Nat.{ℕ, _+_, _≤_}
 use native.Mathlib.Omega.{arith}
 use native.Mathlib.Nat.{le-refl, zero-add}
@@ -27,15 +27,15 @@ settles-same : (P Q : List ℕ → Type 0) (tour : List ℕ) → ((l : List ℕ)
 settles-same P Q tour f b (stop a) = stop (λ i l. f _ (a i l))
 settles-same P Q tour f b (goes k l x a r) = goes k l (λ q. x (b _ q)) (λ i c. f _ (a i c)) (settles-same P Q tour f b r)
 
--- ---- any way to place the break
+-- ---- any way to price runs
 
 -- an arc is a legal run at its cost, and where some place is legal there is an arc
-pub record Placement (s : Sheet) (price : List ℕ → Option Arc) : Type 0 where
+pub record Pricing (s : Sheet) (price : List ℕ → Option Arc) : Type 0 where
   pub sound : (calls : List ℕ) (a : Arc) → price calls ≡ some a
       → (legal s (record { calls = calls; place = a .place }) ≡ true) × (runCost s (record { calls = calls; place = a .place }) ≡ a .cost)
   pub complete : (r : Run) → legal s r ≡ true → (a : Arc) × (price (r .calls) ≡ some a)
 
-module _ (s : Sheet) (price : List ℕ → Option Arc) (P : Placement s price) where
+module _ (s : Sheet) (price : List ℕ → Option Arc) (P : Pricing s price) where
   -- a cutting has no empty run
   pub no-empty : price [] ≡ none
   unfolding legal

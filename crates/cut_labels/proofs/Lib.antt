@@ -1,0 +1,2 @@
+-- Labels put one behind the other, and carried on.
+pub mod LabelLaws

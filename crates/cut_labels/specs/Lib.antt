@@ -1,0 +1,2 @@
+-- Labels in lists of numbers.
+pub mod Labels

@@ -1,0 +1,2 @@
+// The evaluation of a run by either placement of its break.
+pub mod placed;
