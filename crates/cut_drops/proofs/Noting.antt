@@ -15,7 +15,7 @@ use Rattle.distance.specs.declared.leg.Leg.{Leg}
 use Rattle.evaluation.specs.Records.{Tables}
 use Rattle.evaluation.specs.Tables.{legF}
 use Rattle.cut_table.specs.Table.{Table}
-use Rattle.cut_stops.specs.Stops.{StopsOf, LegLists, LegsAre, LegsWritten}
+use Rattle.cut_stops.specs.Stops.{StopsOf, LegLists, LegsBy, LegsAre, LegsWritten}
 use Rattle.cut_rows.specs.Tariff.{Tariff, TableOf}
 use Rattle.cut_rows.specs.Runs.{Instance, tariff, RowLists, Rowed}
 use Rattle.cut_rows.proofs.Along.{held-row}
@@ -26,7 +26,7 @@ use Rattle.cut_drops.specs.Refill.{Rows, RowsLong, NotedRow, FrontOf, Re
 -- the legs before number q stay, and the others are written
 pub legs-joined : (t : Tables) (held : List ℕ) (q : ℕ) (old new : LegLists) → LegsTo (legF t) held q old → LegsWritten (legF t) held q old new
     → LegsAre t held new
-unfolding LegsAre LegsTo
+unfolding LegsBy LegsTo
 legs-joined t held q old new L W k p h =
     by-test (ltb k q)
     (λ s.
@@ -38,11 +38,11 @@ legs-joined t held q old new L W k p h =
 
 -- where they are all of the calls', those before any number are; and the other way round, where no call has that number
 pub legs-part : (t : Tables) (held : List ℕ) (q : ℕ) (legs : LegLists) → LegsAre t held legs → LegsTo (legF t) held q legs
-unfolding LegsAre LegsTo
+unfolding LegsBy LegsTo
 legs-part t held q legs L k p b h = L k p h
 
 pub legs-whole : (t : Tables) (held : List ℕ) (q : ℕ) (legs : LegLists) → length held ≤ q → LegsTo (legF t) held q legs → LegsAre t held legs
-unfolding LegsAre LegsTo
+unfolding LegsBy LegsTo
 legs-whole t held q legs f L k p h = L k p (omega arith) h
 
 -- all are, as they are written at first

@@ -30,7 +30,7 @@ use Rattle.evaluation.specs.Tables.{legF}
 use Rattle.cut_table.specs.Table.{Calls, DropCall}
 use Rattle.cut_table.proofs.Writing.{front-written}
 use Rattle.cut_table.proofs.Holding.{Holding, all-holding, call-goes}
-use Rattle.cut_stops.specs.Stops.{Below64, LegLists, LegsLong, LegsAre, Numbers, stopIn, stopAt, StopsOf}
+use Rattle.cut_stops.specs.Stops.{Below64, LegLists, LegsLong, LegsBy, LegsAre, Numbers, stopIn, stopAt, StopsOf}
 use Rattle.cut_rows.specs.Tariff.{stretches, runsOf, farsOf, TableOf}
 use Rattle.cut_rows.specs.Runs.{Instance, tariff}
 use Rattle.cut_drops.specs.Drops.{haveF, stuckF, dropFromF, dropsF}
@@ -82,7 +82,7 @@ module _ (n i : ℕ) (held held' : List ℕ) (b : i < n) (long : n ≤ length he
 
   -- the legs before the dropped call are those of the calls that are left
   pub legs-kept : (t : Tables) (legs : LegLists) → LegsAre t (take n held) legs → LegsTo (legF t) (take (n - 1) held') i legs
-  unfolding LegsAre LegsTo
+  unfolding LegsBy LegsTo
   legs-kept t legs L k p g h =
       let a = L k p (omega (arith, length-take-le n held long)) in
       let c = call-alike i (take n held) (take (n - 1) held') same-front k g in

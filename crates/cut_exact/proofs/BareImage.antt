@@ -3,6 +3,7 @@ use Prim.Native.Nat.{ℕ}
 use mathlib.Core.Path.{_≡_, refl, ap, _∙_}
 use mathlib.Core.List.{List, [], _∷_, map}
 use lib.Ieee.{Float}
+use Rattle.basics.proofs.ListLaws.{take-map}
 use Rattle.definitions.specs.Sheet.{Customer, CustomerOf, Sheet}
 use Rattle.definitions.specs.Clauses.{bare, bareCustomer}
 use Rattle.models.specs.declared.customer.Customer as Code
@@ -10,10 +11,8 @@ use Rattle.models.specs.declared.load.Space.{Space}
 use Rattle.models.specs.declared.limits.RouteLimits.{RouteLimits}
 use Rattle.models.specs.Image.{flCustomer}
 use Rattle.models.specs.declared.placement.Placement.{Placement}
-use Rattle.cut_rows.specs.Runs.{lent}
+use Rattle.cut_rows.specs.Runs.{bareF, lent}
 use Rattle.split.specs.Split.{bareLent}
-use Rattle.split.specs.Bare.{bareF}
-use Rattle.split.proofs.Bare.{taken-bare}
 use Rattle.cut_exact.proofs.SplitTwExact.{ImageTw}
 
 held-bare : (l : List Customer) → map bareF (map flCustomer l) ≡ map flCustomer (map bareCustomer l)
@@ -31,7 +30,7 @@ bare-image s customers distances times size capacity fixed limits M =
             size-is = T .size-is;
             distances-are = T .distances-are;
             times-are = T .times-are;
-            records-are = taken-bare (s .head .places) customers ∙ ap (map bareF) (T .records-are) ∙ held-bare (s .customers);
+            records-are = take-map bareF (s .head .places) _ ∙ ap (map bareF) (T .records-are) ∙ held-bare (s .customers);
           };
       limits-hold = refl;
       capacity-holds = M .capacity-holds;

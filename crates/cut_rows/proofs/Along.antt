@@ -191,3 +191,26 @@ unreached T st i old top t e z =
 -- a row along the stretch from i on is the row i of the calls held
 pub held-row : (T : Tariff) (held : List ℕ) (i : ℕ) (old new : Table) → RowOf T (stretches held i) i old new → HeldRow T held i old new
 held-row T held i old new D = record { cost-is = D .cost-is; far-is = D .far-is; pred-is = D .pred-is }
+
+-- ---- a run that costs NaN
+
+add-nan : (x : Float) → add binary64 x nan ≡ nan
+unfolding add
+add-nan nan = refl
+add-nan (inf s) = refl
+add-nan (fin s m k) = refl
+
+-- a run whose way home is listed as NaN is offered in vain
+pub vain : (base gone back late : Float) → back ≡ nan → {j i : ℕ} {far : Float} {old new : Table}
+    → Offered j i (add binary64 (add binary64 base (add binary64 gone back)) late) far old new → new ≡ old
+unfolding add lt
+vain base gone back late e {j} {i} {far} {old} {new} O = same (O .cost-put ∙ rw none-lower) (O .far-put ∙ rw none-lower) (O .pred-put ∙ rw none-lower)
+  where
+    cost : Float
+    cost = add binary64 (add binary64 base (add binary64 gone back)) late
+
+    none-lower : lt cost (getD (old .cost) j nan) ≡ false
+    none-lower = rw (e, add-nan gone, add-nan base) refl
+
+    same : new .cost ≡ old .cost → new .far ≡ old .far → new .pred ≡ old .pred → new ≡ old
+    same c f p = rw (c, f, p) refl

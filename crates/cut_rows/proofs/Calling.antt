@@ -1,7 +1,7 @@
 -- A call that a row goes over: its load fits and the leg to it is open. What every row then keeps, by the end of the run. Assumes nothing.
 use Prim.Native.Nat.{ℕ, suc, _+_, _<_, _≤_}
 use mathlib.Core.Path.{_≡_, sym, ap, _∙_}
-use mathlib.Core.Bool.{Bool, true, false}
+use mathlib.Core.Bool.{Bool, true}
 use mathlib.Core.Option.{none, some}
 use lib.ListN.{length, getD}
 use lib.Dec.{eqb}
@@ -20,7 +20,7 @@ use Rattle.cut_rows.proofs.Along.{Row, Along, OneMore, far-is, over, on
 use Rattle.cut_rows.proofs.Roads.{home-closed}
 use Rattle.cut_rows.proofs.Clocks.{not-ended, allowed-is, pay-is}
 use Rattle.cut_rows.proofs.Placing.{closed-end}
-use Rattle.cut_rows.proofs.Calls.{CallIs, leg-closed, leg-open}
+use Rattle.cut_rows.proofs.Calls.{CallIs, leg-open}
 
 -- call number m of the row, with its stop and the travel time to it: the load and the way with it
 pub record Called (I : Instance) (R : Row) (new : Table) (load : Load) (gone : Float) (m : ℕ) (s : StopF) (travel : Float) (load' : Load) (gone' : Float) : Type 0 where
@@ -68,22 +68,19 @@ module _ {I : Instance} {R : Row} {new : Table} {load : Load} {gone : Float} {m 
   no-end z = over (K .along) one-more (not-ended I (R .st) (suc m) z)
 
   -- the way home is closed
-  pub no-home : roadF (s .back) ≡ none → Next new
+  pub no-home : legF (I .tables) call 0 ≡ none → Next new
   unfolding placeBefore
-  no-home z =
-      no-end (closed-end I (R .st) (suc m) (home-closed (legF (I .tables)) (R .st) (suc m) (leg-closed _ (s .back) (s .timeBack) (K .is-call .home-is) z)))
+  no-home z = no-end (closed-end I (R .st) (suc m) (home-closed (legF (I .tables)) (R .st) (suc m) z))
+
+  -- as it is listed, and the way with it
+  abbrev pub home : Leg
+  home = record { distance = s .back; time = s .timeBack }
+
+  abbrev pub total : Float
+  total = add binary64 gone' (s .back)
 
   -- it is open
-  module _ (back : Float) (eb : roadF (s .back) ≡ some back) where
-    abbrev home : Leg
-    home = record { distance = back; time = s .timeBack }
-
-    home-is : legF (I .tables) call 0 ≡ some home
-    home-is = leg-open _ (s .back) (s .timeBack) (K .is-call .home-is) back eb
-
-    abbrev total : Float
-    total = add binary64 gone' back
-
+  module _ (home-is : legF (I .tables) call 0 ≡ some home) where
     pub way-is : wayOf (legF (I .tables)) (R .st) (suc m) ≡ some total
     way-is = far-is (K .along) one-more home home-is
 
@@ -98,10 +95,6 @@ module _ {I : Instance} {R : Row} {new : Table} {load : Load} {gone : Float} {m 
 
       allows-is : allowedF I (R .st) (suc m) ≡ allows
       allows-is = allowed-is I (R .st) (suc m) x e
-
-      -- over a limit
-      pub not-allowed : allows ≡ false → Next new
-      not-allowed z = over (K .along) one-more (allows-is ∙ z)
 
       -- within the limits
       pub offered : (j : ℕ) (new' : Table) → allows ≡ true → j ≡ R .i + (m + 1)

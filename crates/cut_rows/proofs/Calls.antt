@@ -15,7 +15,7 @@ use Rattle.distance.specs.declared.leg.Leg.{Leg}
 use Rattle.distance.specs.Lookup.{roadF}
 use Rattle.evaluation.specs.Records.{Tables}
 use Rattle.evaluation.specs.Tables.{recordF, demandF, legF, placeBefore}
-use Rattle.cut_stops.specs.Stops.{StopF, listedLeg, legBy, stopIn, stopAt, StopsOf, Below64, LegsAre}
+use Rattle.cut_stops.specs.Stops.{StopF, listedAs, listedLeg, listedHome, legBy, stopIn, stopAt, StopsOf, Below64, LegsBy, LegsAre}
 use Rattle.cut_stops.proofs.ReadBack.{leg-back}
 use Rattle.cut_rows.specs.Stretch.{joinedF, lastOf, legTo, wayTo}
 use Rattle.cut_rows.specs.Runs.{RowLists}
@@ -56,12 +56,13 @@ way-is R way gone leg e = e ∙ ap (joinedF gone leg) (R .is-one)
 
 -- ---- a call of a stretch
 
--- call number m of st, with the numbers that the lists have for the leg to it
+-- call number m of st, with the numbers that the lists have for the leg to it and for the way home
 pub record CallIs (t : Tables) (st : List ℕ) (m : ℕ) (s : StopF) (leg travel : Float) : Type 0 where
   pub demand-is : s .customer .demand ≡ demandF (t .customers) (getD st m 0)
   pub record-is : s .customer ≡ recordF t (getD st m 0)
   pub leg-is : legF t (placeBefore st m) (getD st m 0) ≡ legBy leg travel
-  pub home-is : legF t (getD st m 0) 0 ≡ legBy (s .back) (s .timeBack)
+  pub back-is : s .back ≡ listedHome (legF t (getD st m 0) 0) .distance
+  pub time-back-is : s .timeBack ≡ listedHome (legF t (getD st m 0) 0) .time
 
 -- the call before number i + k
 place-rest : (held : List ℕ) (i k : ℕ) → 0 < k → placeBefore (drop i held) k ≡ placeBefore held (i + k)
@@ -96,7 +97,7 @@ pub call-is : (t : Tables) (x : RowLists) → StopsOf t (x .held) (x .stops) →
     → RunIs (x .held) i m run → i + m < length (x .held) → (s : StopF) (leg travel : Float) → s ≡ stopAt (x .stops) (lastOf run)
     → leg ≡ legTo run (s .out) (getD (x .legs .distances) (i + m) nan) → travel ≡ legTo run (s .timeOut) (getD (x .legs .times) (i + m) nan)
     → CallIs t (drop i (x .held)) m s leg travel
-unfolding stopIn recordF demandF LegsAre
+unfolding stopIn recordF demandF LegsBy
 call-is t x W L B {i} {m} R h s leg travel es el et =
     let call = getD (drop i (x .held)) m 0 in
     let here = getD-drop i (x .held) m 0 in
@@ -116,7 +117,8 @@ call-is t x W L B {i} {m} R h s leg travel es el et =
       demand-is = ap (λ (y : StopF). y .customer .demand) e;
       record-is = ap (λ (y : StopF). y .customer) e;
       leg-is = sym (ap₂ legBy far long ∙ leg-back (t .distances) (t .times) (t .size) _ _);
-      home-is = sym (ap₂ legBy (ap (λ (y : StopF). y .back) e) (ap (λ (y : StopF). y .timeBack) e) ∙ leg-back (t .distances) (t .times) (t .size) _ _);
+      back-is = ap (λ (y : StopF). y .back) e;
+      time-back-is = ap (λ (y : StopF). y .timeBack) e;
     }
 
 -- ---- what the row learns of such a leg
@@ -129,3 +131,19 @@ module _ (o : Option Leg) (distance time : Float) (e : o ≡ legBy distance time
   pub leg-open : (d : Float) → roadF distance ≡ some d → o ≡ some (record { distance = d; time = time })
   unfolding legBy
   leg-open d z = e ∙ rw z
+
+-- ---- and of the way home: it is closed, and listed as no number, or it is the leg that is listed
+
+pub by-home : {A : Type 0} {t : Tables} {st : List ℕ} {m : ℕ} {s : StopF} {leg travel : Float} → CallIs t st m s leg travel
+    → (legF t (getD st m 0) 0 ≡ none → s .back ≡ nan → A)
+    → (legF t (getD st m 0) 0 ≡ some (record { distance = s .back; time = s .timeBack }) → A)
+    → A
+unfolding listedAs
+by-home {A} {t} {st} {m} {s} C shut road = go (legF t (getD st m 0) 0) refl
+  where
+    go : (o : Option Leg) → legF t (getD st m 0) 0 ≡ o → A
+    go none e = shut e (C .back-is ∙ ap (λ (o : Option Leg). listedHome o .distance) e)
+    go (some home) e =
+        let far : s .back ≡ home .distance = C .back-is ∙ ap (λ (o : Option Leg). listedHome o .distance) e in
+        let long : s .timeBack ≡ home .time = C .time-back-is ∙ ap (λ (o : Option Leg). listedHome o .time) e in
+        road (e ∙ rw (far, long) refl)

@@ -6,6 +6,7 @@ use mathlib.Core.Path.{_≡_, refl, sym, ap, subst, _∙_}
 use mathlib.Core.Bool.{true, false, _||_}
 use mathlib.Core.List.{List, [], _++_}
 use mathlib.Core.Option.{Option, none, some}
+use lib.ListN.{getD}
 use lib.Dec.{ltb}
 use lib.Ieee.{Float, binary64, add}
 use borrow.Author.Tests.{ltb-false}
@@ -15,11 +16,11 @@ use Rattle.basics.proofs.OptionLaws.{absent}
 use Rattle.definitions.specs.Sheet.{BreakOf}
 use Rattle.models.specs.declared.placement.Placement.the-variants.{Least}
 use Rattle.models.specs.Limits.{allowF}
-use Rattle.distance.specs.Lookup.{roadF}
 use Rattle.clock.specs.declared.schedule.Label.{Label}
 use Rattle.clock.specs.declared.schedule.Scheduled.{Scheduled}
 use Rattle.clock.specs.Serving.{startLabel, serveF, carryF}
 use Rattle.evaluation.specs.Records.{Tables}
+use Rattle.evaluation.specs.Tables.{legF}
 use Rattle.cut_labels.specs.Labels.{Lists, labelsIn, listed, kept, bestF}
 use Rattle.cut_table.specs.Table.{Table, Offered}
 use Rattle.definitions.specs.Load.{Load}
@@ -27,9 +28,10 @@ use Rattle.cut_stops.specs.Stops.{StopF}
 use Rattle.cut_rows.specs.Tariff.{RowOf, Ended}
 use Rattle.cut_rows.specs.Places.{labelOf, leastOf}
 use Rattle.cut_rows.specs.Runs.{Instance, tariff, End, keptOf, endIn}
-use Rattle.cut_rows.proofs.Along.{Row, Along, stopped}
+use Rattle.cut_rows.proofs.Along.{Row, Along, stopped, vain}
 use Rattle.cut_rows.proofs.Placing.{allTo, label-on, all-more, least-is, Keeps, least-keeps, asEnd, least-end}
-use Rattle.cut_rows.proofs.Calling.{Called, leg-is, no-end, no-home, way-is, back-is, offered}
+use Rattle.cut_rows.proofs.Calls.{by-home}
+use Rattle.cut_rows.proofs.Calling.{Called, leg-is, no-end, no-home, home, total, way-is, back-is, offered}
 use Rattle.cut_rows.proofs.Ends.{unplaced-over}
 
 -- the labels after m calls of a stretch: that before the break, and those of the places 1 to m, where there are any
@@ -88,32 +90,31 @@ module _ (I : Instance) (by : I .placement ≡ Least) (rest : BreakOf Float) (br
         labelled = subst (λ (n : ℕ). Labelled t (R .st) rest n before' ls') (sym (add-one m)) (record { is-before = before-is; are-after = after-are });
       }
 
-  -- the way home is closed
-  pub homeless : roadF (s .back) ≡ none → Next new
-  homeless z = next new (no-home K z)
+  -- this is the best way home, as it is listed
+  module _ (o : Option Scheduled) (eo : o ≡ bestF (keptOf t (R .st) (suc m) (I .limits)) (total K) (s .timeBack) rest before' ls') where
+    -- it is open
+    module _ (road : legF t (getD (R .st) m 0) 0 ≡ some (home K)) where
+      best-is : o ≡ leastOf t (R .st) rest (keptOf t (R .st) (suc m) (I .limits)) (suc m)
+      best-is =
+          eo ∙ rw (before-is, after-are) refl
+          ∙ least-is t (R .st) rest (keptOf t (R .st) (suc m) (I .limits)) (suc m) _ _ (way-is K road) (back-is K road)
 
-  -- it is open, and this is the best way home
-  module _ (back : Float) (eb : roadF (s .back) ≡ some back) (o : Option Scheduled)
-      (eo : o ≡ bestF (keptOf t (R .st) (suc m) (I .limits)) (add binary64 gone' back) (s .timeBack) rest before' ls') where
-    best-is : o ≡ leastOf t (R .st) rest (keptOf t (R .st) (suc m) (I .limits)) (suc m)
-    best-is =
-        eo ∙ rw (before-is, after-are) refl
-        ∙ least-is t (R .st) rest (keptOf t (R .st) (suc m) (I .limits)) (suc m) _ _ (way-is K back eb) (back-is K back eb)
+      end-is : endIn I (R .st) (suc m) ≡ asEnd o
+      end-is = least-end I by rest broken (R .st) (suc m) ∙ ap asEnd (sym best-is)
 
-    end-is : endIn I (R .st) (suc m) ≡ asEnd o
-    end-is = least-end I by rest broken (R .st) (suc m) ∙ ap asEnd (sym best-is)
+      keeps : (x : Scheduled) → o ≡ some x → allowF (I .limits .maxDistance) (I .limits .maxDuration) (x .distance) (x .duration) ≡ true
+      keeps x e =
+          subst (Keeps (keptOf t (R .st) (suc m) (I .limits))) (sym best-is ∙ e) (least-keeps t (R .st) rest (keptOf t (R .st) (suc m) (I .limits)) (suc m) (suc m))
 
     -- there is none
     pub endless : o ≡ none → Next new
-    endless e = next new (no-end K (end-is ∙ ap asEnd e))
+    endless e = next new (by-home (K .is-call) (λ shut _. no-home K shut) (λ road. no-end K (end-is road ∙ ap asEnd e)))
 
     -- there is one
     pub put : (x : Scheduled) → o ≡ some x → (j : ℕ) (new' : Table) → j ≡ R .i + (m + 1)
-        → Offered j (R .i) (add binary64 (add binary64 (R .base) (add binary64 gone' back)) (x .cost)) (add binary64 (R .ahead) (add binary64 gone' back)) new new'
-        → Next new'
+        → Offered j (R .i) (add binary64 (add binary64 (R .base) (total K)) (x .cost)) (add binary64 (R .ahead) (total K)) new new' → Next new'
     put x ex j new' ej O =
+        by-home (K .is-call) (λ shut none-listed. subst Next (sym (vain (R .base) gone' (s .back) (x .cost) none-listed O)) (next new (no-home K shut)))
+        (λ road.
         next new'
-        (offered K back eb (record { distance = x .distance; duration = x .duration; pay = x .cost }) (end-is ∙ ap asEnd ex) j new' (keeps ex) ej O)
-      where
-        keeps : o ≡ some x → allowF (I .limits .maxDistance) (I .limits .maxDuration) (x .distance) (x .duration) ≡ true
-        keeps e = subst (Keeps (keptOf t (R .st) (suc m) (I .limits))) (sym best-is ∙ e) (least-keeps t (R .st) rest (keptOf t (R .st) (suc m) (I .limits)) (suc m) (suc m))
+        (offered K road (record { distance = x .distance; duration = x .duration; pay = x .cost }) (end-is road ∙ ap asEnd ex) j new' (keeps road x ex) ej O))

@@ -12,9 +12,10 @@ pub mod Placing
 pub mod Ends
 -- A call in the lists of numbers.
 pub mod Calls
--- What a row keeps: over number lists, at a call, without a break, with one by the clock, and with one at its best place.
+-- What a row keeps: over number lists, at a call, without a break, by loads alone, with a break by the clock, and with one at its best place.
 pub mod Going
 pub mod Calling
 pub mod PlainAlong
+pub mod LoadAlong
 pub mod RestAlong
 pub mod LeastAlong

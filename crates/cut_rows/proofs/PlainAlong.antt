@@ -1,7 +1,7 @@
 -- Row i without a break, call by call: beside what every row keeps, the time and the lateness cost after m calls. Assumes nothing.
 use Prim.Native.Nat.{ℕ, suc, _+_, _<_, _≤_}
 use native.Mathlib.Numerals.{add-one}
-use mathlib.Core.Path.{_≡_, refl, sym, ap, _∙_}
+use mathlib.Core.Path.{_≡_, refl, sym, ap, subst, _∙_}
 use mathlib.Core.Bool.{Bool, true, false}
 use mathlib.Core.Option.{none, some}
 use lib.ListN.{length, getD}
@@ -20,12 +20,12 @@ use Rattle.cut_rows.specs.declared.rows.Elapsed.{Elapsed}
 use Rattle.cut_rows.specs.Stretch.{joinedF}
 use Rattle.cut_rows.specs.Tariff.{RowOf, Ended}
 use Rattle.cut_rows.specs.Runs.{Instance, tariff, visitF, timedOf, End, endIn, allowedF}
-use Rattle.cut_rows.proofs.Along.{Row, Along, OneMore, stopped, far-is, over, onward}
+use Rattle.cut_rows.proofs.Along.{Row, Along, OneMore, stopped, far-is, over, onward, vain}
 use Rattle.cut_rows.proofs.Roads.{home-closed}
 use Rattle.cut_rows.proofs.Clocks.{plain-end, not-ended, allowed-is, pay-is, timed-more, end-timed}
 use Rattle.cut_rows.proofs.Placing.{closed-end}
 use Rattle.cut_rows.proofs.Ends.{shut-over}
-use Rattle.cut_rows.proofs.Calls.{CallIs, leg-closed, leg-open}
+use Rattle.cut_rows.proofs.Calls.{CallIs, leg-open, by-home}
 
 pub record PlainAlong (I : Instance) (R : Row) (new : Table) (load : Load) (gone time late : Float) (m : ℕ) : Type 0 where
   pub along : Along (tariff I) R new load gone m
@@ -87,25 +87,24 @@ module _ (I : Instance) (unbroken : I .limits .rest ≡ none) {R : Row} {new : T
     next new' N = record { along = N; timed = ap (timedOf (I .tables) (R .st)) (add-one m) ∙ timed-is ∙ ev }
 
     -- the way home is closed
-    pub homeless : roadF (s .back) ≡ none → Next new
+    homeless : legF (I .tables) call 0 ≡ none → Next new
     unfolding placeBefore
     homeless z =
         next new
         (over (A .along) one-more
-        (not-ended I (R .st) (suc m)
-        (closed-end I (R .st) (suc m) (home-closed (legF (I .tables)) (R .st) (suc m) (leg-closed _ (s .back) (s .timeBack) (C .home-is) z)))))
+        (not-ended I (R .st) (suc m) (closed-end I (R .st) (suc m) (home-closed (legF (I .tables)) (R .st) (suc m) z))))
+
+    abbrev home : Leg
+    home = record { distance = s .back; time = s .timeBack }
+
+    abbrev total : Float
+    total = add binary64 gone' (s .back)
+
+    abbrev allows : Bool
+    allows = allowF (I .limits .maxDistance) (I .limits .maxDuration) total (add binary64 (v .time) (s .timeBack))
 
     -- it is open
-    module _ (back : Float) (eb : roadF (s .back) ≡ some back) where
-      abbrev home : Leg
-      home = record { distance = back; time = s .timeBack }
-
-      home-is : legF (I .tables) call 0 ≡ some home
-      home-is = leg-open _ (s .back) (s .timeBack) (C .home-is) back eb
-
-      abbrev total : Float
-      total = add binary64 gone' back
-
+    module _ (home-is : legF (I .tables) call 0 ≡ some home) where
       abbrev ending : End
       ending = record { distance = total; duration = add binary64 (v .time) (s .timeBack); pay = v .«late_cost» }
 
@@ -115,20 +114,19 @@ module _ (I : Instance) (unbroken : I .limits .rest ≡ none) {R : Row} {new : T
           plain-end I unbroken (R .st) (suc m)
           ∙ end-timed (I .tables) (R .st) (suc m) total home (far-is (A .along) one-more home home-is) home-is v (timed-is ∙ ev)
 
-      abbrev allows : Bool
-      allows = allowF (I .limits .maxDistance) (I .limits .maxDuration) total (add binary64 (v .time) (s .timeBack))
-
       allows-is : allowedF I (R .st) (suc m) ≡ allows
       allows-is = allowed-is I (R .st) (suc m) ending end-is
 
-      -- over a limit
-      pub skip : allows ≡ false → Next new
-      skip z = next new (over (A .along) one-more (allows-is ∙ z))
+    -- over a limit
+    pub skip : allows ≡ false → Next new
+    skip z = by-home C (λ shut _. homeless shut) (λ road. next new (over (A .along) one-more (allows-is road ∙ z)))
 
-      -- within the limits
-      pub put : (j : ℕ) (new' : Table) → allows ≡ true → j ≡ R .i + (m + 1)
-          → Offered j (R .i) (add binary64 (add binary64 (R .base) total) (v .«late_cost»)) (add binary64 (R .ahead) total) new new' → Next new'
-      put j new' z ej O =
-          next new'
-          (onward (A .along) one-more home _ j new' home-is (allows-is ∙ z)
-          (ap (add binary64 (add binary64 (R .base) total)) (sym (pay-is I (R .st) (suc m) ending end-is))) ej O)
+    -- within the limits
+    pub put : (j : ℕ) (new' : Table) → allows ≡ true → j ≡ R .i + (m + 1)
+        → Offered j (R .i) (add binary64 (add binary64 (R .base) total) (v .«late_cost»)) (add binary64 (R .ahead) total) new new' → Next new'
+    put j new' z ej O =
+        by-home C (λ shut none-listed. subst Next (sym (vain (R .base) gone' (s .back) (v .«late_cost») none-listed O)) (homeless shut))
+        (λ road.
+        next new'
+        (onward (A .along) one-more home _ j new' road (allows-is road ∙ z)
+        (ap (add binary64 (add binary64 (R .base) total)) (sym (pay-is I (R .st) (suc m) (ending road) (end-is road)))) ej O))

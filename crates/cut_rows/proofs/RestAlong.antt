@@ -1,7 +1,7 @@
 -- Row i with a break where the clock puts it, call by call: beside what every row keeps, the clock after m calls. Assumes nothing.
 use Prim.Native.Nat.{ℕ, suc, _+_, _<_, _≤_}
 use native.Mathlib.Numerals.{add-one}
-use mathlib.Core.Path.{_≡_, sym, ap, _∙_}
+use mathlib.Core.Path.{_≡_, sym, ap, subst, _∙_}
 use mathlib.Core.Bool.{Bool, true, false}
 use mathlib.Core.Option.{Option, none, some}
 use lib.ListN.{length, getD}
@@ -23,12 +23,12 @@ use Rattle.cut_stops.specs.Stops.{StopF}
 use Rattle.cut_rows.specs.Stretch.{joinedF}
 use Rattle.cut_rows.specs.Tariff.{RowOf, Ended}
 use Rattle.cut_rows.specs.Runs.{Instance, tariff, clockOf, End, endIn, allowedF}
-use Rattle.cut_rows.proofs.Along.{Row, Along, OneMore, stopped, far-is, over, onward}
+use Rattle.cut_rows.proofs.Along.{Row, Along, OneMore, stopped, far-is, over, onward, vain}
 use Rattle.cut_rows.proofs.Roads.{home-closed}
 use Rattle.cut_rows.proofs.Clocks.{clock-end, not-ended, allowed-is, pay-is, clock-more, ended, end-finished}
 use Rattle.cut_rows.proofs.Placing.{closed-end}
 use Rattle.cut_rows.proofs.Ends.{dead-over}
-use Rattle.cut_rows.proofs.Calls.{CallIs, leg-closed, leg-open}
+use Rattle.cut_rows.proofs.Calls.{CallIs, leg-open, by-home}
 
 pub record RestAlong (I : Instance) (rest : BreakOf Float) (R : Row) (new : Table) (load : Load) (gone : Float) (clock : ClockF) (m : ℕ) : Type 0 where
   pub along : Along (tariff I) R new load gone m
@@ -103,55 +103,53 @@ module _ (I : Instance) (by : I .placement ≡ Clock) (rest : BreakOf Float) (br
   no-end z = next new (over (A .along) one-more (not-ended I (R .st) (suc m) z))
 
   -- the way home is closed
-  pub homeless : roadF (s .back) ≡ none → Next new
+  homeless : legF (I .tables) call 0 ≡ none → Next new
   unfolding placeBefore
-  homeless z =
-      no-end
-      (closed-end I (R .st) (suc m) (home-closed (legF (I .tables)) (R .st) (suc m) (leg-closed _ (s .back) (s .timeBack) (C .home-is) z)))
+  homeless z = no-end (closed-end I (R .st) (suc m) (home-closed (legF (I .tables)) (R .st) (suc m) z))
 
-  -- it is open, and this is what the clock reports of the run that ends here
-  module _ (back : Float) (eb : roadF (s .back) ≡ some back) (o : Option Scheduled) (eo : o ≡ finishF (add binary64 gone' back) (s .timeBack) clock') where
-    abbrev home : Leg
-    home = record { distance = back; time = s .timeBack }
+  abbrev home : Leg
+  home = record { distance = s .back; time = s .timeBack }
 
-    home-is : legF (I .tables) call 0 ≡ some home
-    home-is = leg-open _ (s .back) (s .timeBack) (C .home-is) back eb
+  abbrev total : Float
+  total = add binary64 gone' (s .back)
 
-    abbrev total : Float
-    total = add binary64 gone' back
-
-    end-is : endIn I (R .st) (suc m) ≡ ended total o
+  -- what the clock reports of the run that ends here
+  module _ (o : Option Scheduled) (eo : o ≡ finishF total (s .timeBack) clock') where
+    end-is : legF (I .tables) call 0 ≡ some home → endIn I (R .st) (suc m) ≡ ended total o
     unfolding placeBefore
-    end-is =
+    end-is home-is =
         clock-end I by rest broken (R .st) (suc m)
         ∙ end-finished (I .tables) (R .st) (suc m) total home (far-is (A .along) one-more home home-is) home-is rest clock' o clock-is (sym eo)
 
     -- the clock has no end
     pub endless : o ≡ none → Next new
-    endless e = no-end (end-is ∙ ap (ended total) e)
+    endless e = by-home C (λ shut _. homeless shut) (λ road. no-end (end-is road ∙ ap (ended total) e))
 
     -- it has one
     module _ (x : Scheduled) (ex : o ≡ some x) where
       abbrev ending : End
       ending = record { distance = total; duration = x .duration; pay = x .cost }
 
-      some-end : endIn I (R .st) (suc m) ≡ some ending
-      some-end = end-is ∙ ap (ended total) ex
-
       abbrev allows : Bool
       allows = allowF (I .limits .maxDistance) (I .limits .maxDuration) total (x .duration)
 
-      allows-is : allowedF I (R .st) (suc m) ≡ allows
-      allows-is = allowed-is I (R .st) (suc m) ending some-end
+      module _ (road : legF (I .tables) call 0 ≡ some home) where
+        some-end : endIn I (R .st) (suc m) ≡ some ending
+        some-end = end-is road ∙ ap (ended total) ex
+
+        allows-is : allowedF I (R .st) (suc m) ≡ allows
+        allows-is = allowed-is I (R .st) (suc m) ending some-end
 
       -- over a limit
       pub skip : allows ≡ false → Next new
-      skip z = next new (over (A .along) one-more (allows-is ∙ z))
+      skip z = by-home C (λ shut _. homeless shut) (λ road. next new (over (A .along) one-more (allows-is road ∙ z)))
 
       -- within the limits
       pub put : (j : ℕ) (new' : Table) → allows ≡ true → j ≡ R .i + (m + 1)
           → Offered j (R .i) (add binary64 (add binary64 (R .base) total) (x .cost)) (add binary64 (R .ahead) total) new new' → Next new'
       put j new' z ej O =
+          by-home C (λ shut none-listed. subst Next (sym (vain (R .base) gone' (s .back) (x .cost) none-listed O)) (homeless shut))
+          (λ road.
           next new'
-          (onward (A .along) one-more home _ j new' home-is (allows-is ∙ z)
-          (ap (add binary64 (add binary64 (R .base) total)) (sym (pay-is I (R .st) (suc m) ending some-end))) ej O)
+          (onward (A .along) one-more home _ j new' road (allows-is road ∙ z)
+          (ap (add binary64 (add binary64 (R .base) total)) (sym (pay-is I (R .st) (suc m) ending (some-end road)))) ej O))

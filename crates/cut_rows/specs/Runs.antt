@@ -1,8 +1,8 @@
 -- The runs along a stretch by windows, limits and break on floats, as the code has them: the clocks of a stretch, the price of a run for
 -- either placement of its break, and what a row does. Definitions only.
 use Prim.Native.Nat.{ℕ, zero, suc, _≤_}
-use mathlib.Core.Bool.{Bool, cond}
-use mathlib.Core.List.{List, [], _∷_}
+use mathlib.Core.Bool.{Bool, true, false, cond}
+use mathlib.Core.List.{List, [], _∷_, map}
 use mathlib.Core.Option.{Option, none, some}
 use lib.ListN.{length, getD, drop}
 use lib.Dec.{eqb}
@@ -67,13 +67,41 @@ overBy t terms placement rest =
       placement = placement;
     }
 
+-- a record without its window and its penalty
+abbrev pub bareF : CustomerOf Float → CustomerOf Float
+bareF c = record { demand = c .demand; service = c .service; window = none; penalty = none }
+
+-- by loads and closed legs alone, with such records and neither limits nor a break; or by all that the terms have
+abbrev pub overAs : Bool → Tables → Terms → Instance
+overAs alone t terms =
+    let all = overBy t terms (terms .placement) (restOf (terms .limits .rest)) in
+    record {
+      tables =
+          record {
+            customers = cond alone (map bareF (t .customers)) (t .customers);
+            distances = t .distances;
+            times = t .times;
+            size = t .size;
+          };
+      capacity = all .capacity;
+      fixed = all .fixed;
+      limits = cond alone (record { maxDistance = none; maxDuration = none; rest = none }) (all .limits);
+      placement = all .placement;
+    }
+
+abbrev pub byLoads : Tables → Terms → Instance
+byLoads = overAs true
+
 abbrev pub over : Tables → Terms → Instance
-over t terms = overBy t terms (terms .placement) (restOf (terms .limits .rest))
+over t terms = overAs (terms .«loads_alone») t terms
+
+abbrev pub lentOn : List Customer → List Float → List Float → ℕ → Terms → Instance
+lentOn customers distances times size terms = over (Evaluation.lent customers distances times size) terms
 
 abbrev pub lent : List Customer → List Float → List Float → ℕ → Space → Float → RouteLimits → Placement → Instance
 lent customers distances times size capacity fixed limits placement =
-    over (Evaluation.lent customers distances times size)
-    (record { capacity = capacity; fixed = fixed; limits = limits; placement = placement })
+    lentOn customers distances times size
+    (record { capacity = capacity; fixed = fixed; limits = limits; placement = placement; «loads_alone» = false })
 
 -- ---- a call without a break, reached at this time with so much lateness cost
 

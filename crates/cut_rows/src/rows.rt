@@ -10,7 +10,7 @@ ghost use Rattle.clock.specs.Records.{clockOf};
 ghost use Rattle.clock.specs.Clock.{pushF};
 ghost use Rattle.cut_table.specs.Table.{table};
 ghost use Rattle.cut_rows.specs.Stretch.{lastOf};
-ghost use Rattle.cut_rows.specs.Runs.{visitedOf, enterF, visitF, overBy, over, rowLists, RowReady, Rowed};
+ghost use Rattle.cut_rows.specs.Runs.{visitedOf, enterF, visitF, overBy, byLoads, over, rowLists, RowReady, Rowed};
 use crate::terms::Terms;
 use crate::way::last_call;
 use crate::way::leg_to;
@@ -89,7 +89,8 @@ pub fn visit(customer: Customer, time: f64, late_cost: f64) -> Visited
 
 // Row i without a break: each run that starts at call i, after the best of the calls before it. Gives
 // how many calls the row goes over; no run that goes on from there is legal. A closed leg to a call ends
-// the row, since every longer run would drive it; a closed way home bars that run alone.
+// the row, since every longer run would drive it. A closed way home is not tested for: cut_stops lists it as
+// NaN, and the run that ends with it is offered in vain.
 pub fn plain_row(
     cost: &mut [f64; CELLS],
     dist: &mut [f64; CELLS],
@@ -140,14 +141,63 @@ pub fn plain_row(
         time = v.time;
         late_cost = v.late_cost;
         m += 1;
-        let Road::Length(back) = road_of(stop.back) else {
-            continue;
-        };
-        let total = gone + back;
+        let total = gone + stop.back;
         if !terms.limits.allow(total, time + stop.time_back) {
             continue;
         }
         let new = base + total + late_cost;
+        let far = before + total;
+        offer(&mut *cost, &mut *dist, &mut *pred, j, i, new, far);
+    }
+    m
+}
+
+// The same by loads and closed legs alone: no time is kept, and nothing is late.
+pub fn load_row(
+    cost: &mut [f64; CELLS],
+    dist: &mut [f64; CELLS],
+    pred: &mut [usize; CELLS],
+    held: &[usize],
+    legs: &[f64],
+    time_legs: &[f64],
+    codes: &[u32],
+    figures: &[f64],
+    terms: Terms,
+    i: usize,
+) -> usize
+    requires { let x = rowLists (now held) (now legs) (now «time_legs») (now codes) (now figures) in
+        ⌜ RowReady x i (table (now cost) (now dist) (now pred)) ⌝ }
+    ensures { λ r.
+        let x = rowLists (now (held .entry)) (now (legs .entry)) (now («time_legs» .entry))
+        (now (codes .entry)) (now (figures .entry)) in
+        let old = table (now (cost .entry)) (now (dist .entry)) (now (pred .entry)) in
+        let new = table (now (cost .exit)) (now (dist .exit)) (now (pred .exit)) in
+        ⌜ Rowed (λ t. byLoads t terms) x i old new r ⌝ }
+    ensures { λ r. ⌜ i + r ≤ length (now (held .entry)) ⌝ }
+{
+    let base = cost[i] + terms.fixed;
+    let before = dist[i];
+    let mut load = Load::none();
+    let mut gone = 0.0;
+    let left = held.len() - i;
+    let mut m = 0;
+    while m < left {
+        let last = i + m;
+        let j = last + 1;
+        let run = &held[i..j];
+        let stop = stop_at(codes, figures, last_call(run));
+        load = load.plus(stop.customer.demand);
+        if !load.fits(terms.capacity) {
+            return m;
+        }
+        let Road::Length(leg) = road_of(leg_to(run, stop.out, legs[last])) else {
+            return m;
+        };
+        gone = way_to(run, gone, leg);
+        m += 1;
+        let total = gone + stop.back;
+        // nothing is paid for lateness; it is added, since the other rows add it
+        let new = base + total + 0.0;
         let far = before + total;
         offer(&mut *cost, &mut *dist, &mut *pred, j, i, new, far);
     }
@@ -171,8 +221,8 @@ fn pushed(clock: BreakClock, run: &[usize], customer: Customer, travel: f64) -> 
     }
 }
 
-// Row i with a break where the clock puts it: the clock is handed each run, which is a call longer than the one
-// before it.
+// Row i with a break where the clock puts it: the clock is handed each run, which is a call longer than the
+// one before it.
 pub fn rest_row(
     cost: &mut [f64; CELLS],
     dist: &mut [f64; CELLS],
@@ -222,10 +272,7 @@ pub fn rest_row(
             return m;
         }
         m += 1;
-        let Road::Length(back) = road_of(stop.back) else {
-            continue;
-        };
-        let total = gone + back;
+        let total = gone + stop.back;
         let Finished::Home(done) = clock.finish(total, stop.time_back) else {
             continue;
         };
@@ -307,10 +354,7 @@ pub fn least_row(
             return m;
         }
         m = number;
-        let Road::Length(back) = road_of(stop.back) else {
-            continue;
-        };
-        let total = gone + back;
+        let total = gone + stop.back;
         let Finished::Home(done) = best_home(
             &times,
             &lates,
@@ -387,7 +431,7 @@ pub fn broken_row(
     }
 }
 
-// Row i, without a break or with that of the limits.
+// Row i: by loads and closed legs alone, without a break, or with that of the limits.
 pub fn row(
     cost: &mut [f64; CELLS],
     dist: &mut [f64; CELLS],
@@ -410,6 +454,20 @@ pub fn row(
         ⌜ Rowed (λ t. over t terms) x i old new r ⌝ }
     ensures { λ r. ⌜ i + r ≤ length (now (held .entry)) ⌝ }
 {
+    if terms.loads_alone {
+        return load_row(
+            &mut *cost,
+            &mut *dist,
+            &mut *pred,
+            held,
+            legs,
+            time_legs,
+            codes,
+            figures,
+            terms,
+            i,
+        );
+    }
     let limits = terms.limits;
     let rest = limits.rest;
     match rest {

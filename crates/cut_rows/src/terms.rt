@@ -11,4 +11,6 @@ pub struct Terms {
     pub limits: RouteLimits,
     // where a run's break goes
     pub placement: Placement,
+    // whether loads and closed legs alone bar a run: then no window and penalty, no limit and no break counts
+    pub loads_alone: bool,
 }

@@ -3,24 +3,25 @@ use Prim.Native.Nat.{ℕ, zero, suc, _+_, _*_, _<_, _≤_}
 use native.Mathlib.Numerals.{add-one}
 use native.Mathlib.Nat.{add-zero}
 use native.Mathlib.Omega.{arith}
-use mathlib.Core.Path.{_≡_, refl, ap, ap₂, _∙_}
+use mathlib.Core.Path.{_≡_, refl, sym, ap, ap₂, _∙_}
 use mathlib.Core.List.{List, [], _∷_}
 use mathlib.Core.Option.{Option, none, some}
 use mathlib.Core.Logic.{_≢_}
 use lib.ListN.{length, getD, set, length-set}
-use lib.Seq.{sets, length-sets, getD-set-same, getD-set-other}
+use lib.Seq.{sets, length-sets, getD-set-same, getD-set-other, set-getD}
 use lib.Dec.{eqb}
 use lib.Ieee.{Float, nan}
 use borrow.Author.Tests.{eqb-true, eqb-false, lt-ltb}
 use Rattle.basics.proofs.TestLaws.{by-test}
 use Rattle.definitions.specs.Sheet.{WindowOf, CustomerOf}
+use Rattle.distance.specs.declared.leg.Leg.{Leg}
 use Rattle.distance.specs.Lookup.{driveF}
 use Rattle.models.specs.declared.customer.Customer.{Customer}
 use Rattle.models.specs.Records.{customerOf}
 use Rattle.evaluation.specs.Records.{Tables, lent}
 use Rattle.evaluation.specs.Tables.{recordIndex}
 use Rattle.evaluation.proofs.Reading.{read-record}
-use Rattle.cut_stops.specs.Stops.{StopF, openingAt, penaltyAt, code, timesIn, priceIn, codesOf, recordFigures, figuresOf, codesEach, figuresEach, Numbers, numbers, Long, placeBy, stopIn, stopAt, Put, HoldsTo, WorkedOut, StopsTo, StopsOf}
+use Rattle.cut_stops.specs.Stops.{StopF, openingAt, penaltyAt, code, timesIn, priceIn, codesOf, recordFigures, legFigures, figuresOf, codesEach, figuresEach, Numbers, numbers, Long, placeBy, stopIn, stopAt, Put, StopsTo, StopsOf}
 
 -- ---- a run of stores
 
@@ -68,15 +69,18 @@ module _ (x : CustomerOf Float) (i : ℕ) where
       rw (ew, ep, e5, e6, e7) refl
 
 -- the four figures before them
-pub legs-stored : (s : StopF) (i : ℕ) (l : List Float)
-    → sets (set (set (set (set l i (s .out)) (i + 1) (s .back)) (i + 2) (s .timeOut)) (i + 3) (s .timeBack)) (i + 4) (recordFigures (s .customer))
-    ≡ sets l i (figuresOf s)
-unfolding figuresOf
-legs-stored s i l =
+pub legs-stored : (out back : Leg) (i : ℕ) (l : List Float)
+    → set (set (set (set l i (out .distance)) (i + 1) (back .distance)) (i + 2) (out .time)) (i + 3) (back .time)
+    ≡ sets l i (out .distance ∷ back .distance ∷ out .time ∷ back .time ∷ [])
+legs-stored out back i l =
     let e2 : i + 2 ≡ suc (suc i) = omega arith in
     let e3 : i + 3 ≡ suc (suc (suc i)) = omega arith in
-    let e4 : i + 4 ≡ suc (suc (suc (suc i))) = omega arith in
-    rw (add-one, e2, e3, e4) refl
+    rw (add-one, e2, e3) refl
+
+figures-joined : (s : StopF) (i : ℕ) (l : List Float)
+    → sets (sets l i (s .out ∷ s .back ∷ s .timeOut ∷ s .timeBack ∷ [])) (i + 4) (recordFigures (s .customer)) ≡ sets l i (figuresOf s)
+unfolding figuresOf
+figures-joined s i l = let e4 : i + 4 ≡ suc (suc (suc (suc i))) = omega arith in rw e4 refl
 
 module _ (x : Numbers) (c : ℕ) where
   -- number j of its codes, and of its figures
@@ -166,19 +170,37 @@ module _ (x : Numbers) (c : ℕ) (s : StopF) where
       numbered : (new : Numbers) → new .codes ≡ with x c s .codes → new .figures ≡ with x c s .figures → new ≡ with x c s
       numbered new e f = ap₂ numbers e f
 
--- ---- every place
+-- its legs first, and then its record
+pub place-put : (x new : Numbers) (c : ℕ) (r : CustomerOf Float) (leg : ℕ → ℕ → Option Leg) (middle : List Float) → Long x → c < 64
+    → new .codes ≡ sets (x .codes) (codesEach * c) (codesOf r) → middle ≡ sets (x .figures) (figuresEach * c) (legFigures leg c)
+    → new .figures ≡ sets middle (figuresEach * c + 4) (recordFigures r) → Put x c (placeBy r leg c) new
+place-put x new c r leg middle l h ec em ef =
+    stop-placed x c (placeBy r leg c) new l h ec
+    (ef
+    ∙ ap (λ (m : List Float). sets m (figuresEach * c + 4) (recordFigures r)) em
+    ∙ figures-joined (placeBy r leg c) (figuresEach * c) (x .figures))
+
+-- its record alone
+abbrev pub recorded : Numbers → ℕ → CustomerOf Float → StopF
+recorded x c r = record { customer = r; out = figureAt x c 0; back = figureAt x c 1; timeOut = figureAt x c 2; timeBack = figureAt x c 3 }
+
+pub record-put : (x new : Numbers) (c : ℕ) (r : CustomerOf Float) → Long x → c < 64 → new .codes ≡ sets (x .codes) (codesEach * c) (codesOf r)
+    → new .figures ≡ sets (x .figures) (figuresEach * c + 4) (recordFigures r) → Put x c (recorded x c r) new
+record-put x new c r l h ec ef =
+    stop-placed x c (recorded x c r) new l h ec
+    (ef
+    ∙ ap (λ (m : List Float). sets m (figuresEach * c + 4) (recordFigures r)) (sym (legs-same (x .figures) (figuresEach * c)))
+    ∙ figures-joined (recorded x c r) (figuresEach * c) (x .figures))
+  where
+    legs-same : (m : List Float) (i : ℕ) → sets m i (getD m (i + 0) nan ∷ getD m (i + 1) nan ∷ getD m (i + 2) nan ∷ getD m (i + 3) nan ∷ []) ≡ m
+    legs-same m i =
+        let e2 : i + 2 ≡ suc (suc i) = omega arith in
+        let e3 : i + 3 ≡ suc (suc (suc i)) = omega arith in
+        rw (add-zero, add-one, e2, e3, set-getD m i nan, set-getD m (suc i) nan, set-getD m (suc (suc i)) nan, set-getD m (suc (suc (suc i))) nan) refl
+
+-- ---- the places of calls
 
 module _ (t : Tables) (x new : Numbers) (n : ℕ) (s : StopF) where
-  -- one more is put
-  pub worked-more : HoldsTo t x n → Put x n s new → s ≡ stopIn t n → HoldsTo t new (n + 1)
-  worked-more W P es =
-      record {
-        long = P .long;
-        stops-are =
-            λ k b.
-            by-test (eqb k n) (λ e. rw (eqb-true k n e) (P .here ∙ es)) (λ e. P .others k (eqb-false k n e) ∙ W .stops-are k (omega (arith, eqb-false k n e)));
-      }
-
   -- the place of one call more
   pub stops-more : (calls : List ℕ) → StopsTo t calls x n → Put x (getD calls n 0) s new → s ≡ stopIn t (getD calls n 0) → StopsTo t calls new (n + 1)
   stops-more calls W P es =
@@ -196,9 +218,6 @@ module _ (t : Tables) (x new : Numbers) (n : ℕ) (s : StopF) where
 
 pub stops-all : (t : Tables) (calls : List ℕ) (x : Numbers) (n : ℕ) → StopsTo t calls x n → length calls ≤ n → StopsOf t calls x
 stops-all t calls x n W h = record { long = W .long; stops-are = λ k b. W .stops-are k (omega arith) }
-
-pub worked-out : (t : Tables) (x : Numbers) (n : ℕ) → HoldsTo t x n → 64 ≤ n → WorkedOut t x
-worked-out t x n W h = record { long = W .long; stops-are = λ k b. W .stops-are k (omega arith) }
 
 -- what is looked up of a place
 pub looked-up : (customers : List Customer) (distances times : List Float) (size c : ℕ) (d : Customer) → length customers ≡ 64 → c < 64

@@ -1,10 +1,13 @@
 -- A leg that is put into the lists is read back from them, open or closed. Assumes nothing.
-use Prim.Native.Nat.{ℕ}
+use Prim.Native.Nat.{ℕ, _+_, _*_, _<_}
 use native.Mathlib.Omega.{arith}
 use mathlib.Core.Path.{_≡_, refl, sym, ap, _∙_}
+use mathlib.Core.Bool.{false}
 use mathlib.Core.List.{List}
 use mathlib.Core.Option.{Option, none, some}
-use lib.Ieee.{Float}
+use lib.Ieee.{Float, inf}
+use lib.ListN.{getD}
+use borrow.Author.Tests.{lt-ltb}
 use lib.Ieee as Ieee
 use Rattle.basics.proofs.TestLaws.{by-test}
 use Rattle.basics.proofs.OptionLaws.{same, clash, bound}
@@ -12,9 +15,9 @@ use Rattle.definitions.specs.Domain.{noRoad}
 use Rattle.definitions.specs.Sheet.{timeTable}
 use Rattle.whole.specs.Whole.{fl}
 use Rattle.distance.specs.declared.leg.Leg.{Leg}
-use Rattle.distance.specs.Lookup.{isClosedF, roadF, lookupF, driveF}
+use Rattle.distance.specs.Lookup.{isClosedF, numberF, roadF, lookupF, driveF}
 use Rattle.distance.proofs.Exact.{road-exact}
-use Rattle.cut_stops.specs.Stops.{listedLeg, legBy}
+use Rattle.cut_stops.specs.Stops.{listedAs, listedLeg, pairF, legBy}
 
 -- a length is not the number of no road
 length-open : (x d : Float) → roadF x ≡ some d → roadF d ≡ some d
@@ -33,9 +36,24 @@ open-length distances times size a b leg e =
 pub leg-back : (distances times : List Float) (size a b : ℕ) →
     let leg = driveF distances times size a b in
     legBy (listedLeg leg .distance) (listedLeg leg .time) ≡ leg
-unfolding legBy listedLeg
+unfolding legBy listedAs
 leg-back distances times size a b = go (driveF distances times size a b) refl
   where
     go : (o : Option Leg) → driveF distances times size a b ≡ o → legBy (listedLeg o .distance) (listedLeg o .time) ≡ o
     go none e = rw (road-exact noRoad (omega arith)) refl
     go (some leg) e = rw (open-length distances times size a b leg e) refl
+
+-- ---- the numbers of both tables
+
+module _ (distances times : List Float) (size from to : ℕ) where
+  -- inside them
+  pub pair-inside : from < size → to < size →
+      let i = from * size + to in
+      pairF (getD distances i (inf false)) (getD (timeTable distances times) i (inf false)) ≡ driveF distances times size from to
+  unfolding pairF driveF numberF
+  pair-inside p q = rw (lt-ltb from size p, lt-ltb to size q) refl
+
+  -- and where they have none
+  pub pair-outside : ((table : List Float) → inf false ≡ numberF table size from to) → pairF (inf false) (inf false) ≡ driveF distances times size from to
+  unfolding pairF driveF
+  pair-outside o = rw (← o distances, ← o (timeTable distances times)) refl

@@ -32,12 +32,27 @@ pub record StopF : Type 0 where
 abbrev pub stopOf : Stop → StopF
 stopOf s = record { customer = customerOf (s .customer); out = s .out; back = s .back; timeOut = s .«time_out»; timeBack = s .«time_back» }
 
--- a leg as the lists have it: its two numbers, and for a closed one the number of no road in both
-unfoldable pub listedLeg : Option Leg → Leg
-listedLeg none = record { distance = fl noRoad; time = fl noRoad }
-listedLeg (some leg) = leg
+-- a leg as the lists have it: its two numbers, and for a closed one in both what stands for it
+unfoldable pub listedAs : Float → Option Leg → Leg
+listedAs shut none = record { distance = shut; time = shut }
+listedAs shut (some leg) = leg
 
--- and what two such numbers say: the distance alone tells whether the leg is closed
+-- to a call, where that is the tables' number of no road; and home, where it is NaN, and so is the cost of the run that ends with it, which
+-- is then below no other cost and never taken
+abbrev pub listedLeg : Option Leg → Leg
+listedLeg = listedAs (fl noRoad)
+
+abbrev pub listedHome : Option Leg → Leg
+listedHome = listedAs nan
+
+-- the leg that two numbers of the tables are
+unfoldable pub pairF : Float → Float → Option Leg
+pairF distance time = do
+  d ← roadF distance
+  t ← roadF time
+  some (record { distance = d; time = t })
+
+-- what the numbers listed of a leg to a call say: the distance alone tells whether the leg is closed
 unfoldable pub legBy : Float → Float → Option Leg
 legBy distance time = roadF distance >>= λ d. some (record { distance = d; time = time })
 
@@ -45,7 +60,7 @@ legBy distance time = roadF distance >>= λ d. some (record { distance = d; time
 abbrev pub placeBy : CustomerOf Float → (ℕ → ℕ → Option Leg) → ℕ → StopF
 placeBy customer leg c =
     let out = listedLeg (leg 0 c) in
-    let back = listedLeg (leg c 0) in
+    let back = listedHome (leg c 0) in
     record { customer = customer; out = out .distance; back = back .distance; timeOut = out .time; timeBack = back .time }
 
 -- what the tables say of place c
@@ -80,6 +95,12 @@ codesOf x = x .demand .seats ∷ x .demand .wheelchairs ∷ code (x .window) ∷
 
 abbrev pub recordFigures : CustomerOf Float → List Float
 recordFigures x = x .service ∷ timesIn (x .window) .ready ∷ timesIn (x .window) .due ∷ priceIn (x .penalty) ∷ []
+
+abbrev pub legFigures : (ℕ → ℕ → Option Leg) → ℕ → List Float
+legFigures leg c =
+    let out = listedLeg (leg 0 c) in
+    let back = listedHome (leg c 0) in
+    out .distance ∷ back .distance ∷ out .time ∷ back .time ∷ []
 
 unfoldable pub figuresOf : StopF → List Float
 figuresOf s = s .out ∷ s .back ∷ s .timeOut ∷ s .timeBack ∷ recordFigures (s .customer)
@@ -136,14 +157,6 @@ pub record Put (old : Numbers) (c : ℕ) (s : StopF) (new : Numbers) : Type 0 wh
   pub here : stopAt new c ≡ s
   pub others : (k : ℕ) → k ≢ c → stopAt new k ≡ stopAt old k
 
--- the lists hold the places below n as the tables have them
-pub record HoldsTo (t : Tables) (x : Numbers) (n : ℕ) : Type 0 where
-  pub long : Long x
-  pub stops-are : (c : ℕ) → c < n → stopAt x c ≡ stopIn t c
-
-abbrev pub WorkedOut : Tables → Numbers → Type 0
-WorkedOut t x = HoldsTo t x 64
-
 -- the lists hold the places of the first n of these calls as the tables have them
 pub record StopsTo (t : Tables) (calls : List ℕ) (x : Numbers) (n : ℕ) : Type 0 where
   pub long : Long x
@@ -183,9 +196,12 @@ pub record LegIs (by : ℕ → ℕ → Option Leg) (held : List ℕ) (legs : Leg
   pub distance-is : getD (legs .distances) k nan ≡ listedLeg (by (placeBefore held k) (getD held k 0)) .distance
   pub time-is : getD (legs .times) k nan ≡ listedLeg (by (placeBefore held k) (getD held k 0)) .time
 
--- each leg but the first
-unfoldable pub LegsAre : Tables → List ℕ → LegLists → Type 0
-LegsAre t held legs = (k : ℕ) → 0 < k → k < length held → LegIs (legF t) held legs k
+-- each leg but the first, by these legs, and by those of the tables
+unfoldable pub LegsBy : (ℕ → ℕ → Option Leg) → List ℕ → LegLists → Type 0
+LegsBy by held legs = (k : ℕ) → 0 < k → k < length held → LegIs by held legs k
+
+abbrev pub LegsAre : Tables → List ℕ → LegLists → Type 0
+LegsAre t held legs = LegsBy (legF t) held legs
 
 -- the legs are written from number `from` on, and what stands before stays
 pub record LegsWritten (by : ℕ → ℕ → Option Leg) (held : List ℕ) (from : ℕ) (old new : LegLists) : Type 0 where

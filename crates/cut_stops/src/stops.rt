@@ -1,20 +1,21 @@
 // What the cut reads of each place and leg (ga/split_tw.rs looks it up anew for every run), worked out
 // once as lists of numbers: these can be lent to every row, where a table of records would be copied. A
-// closed leg stands there as the number that the tables have for it, in distance and in time alike, so one
-// look at the distance says whether a leg is open.
+// closed leg to a call stands there as the number that the tables have for it, in distance and in time alike,
+// so one look at the distance says whether it is open; where it is not, the row ends. A closed way home stands
+// there as NaN: the cost of a run that ends with it is NaN too, and that is below no other cost, so no cell of
+// the table ever takes it, and no row looks whether the way home is open.
 ghost use mathlib.Core.Path.{_≡_};
 ghost use Prim.Native.Nat.{_+_, _*_, _<_, _≤_};
 ghost use lib.ListN.{length};
 ghost use lib.Seq.{sets};
+ghost use lib.Ieee.{nan};
 ghost use Rattle.cut_theory.specs.Tab.{mostCut};
-ghost use Rattle.distance.specs.Lookup.{driveF, driveOf};
+ghost use Rattle.distance.specs.Lookup.{driveF};
 ghost use Rattle.models.specs.Records.{windowOf, openingOf, penaltyOf, customerOf};
 ghost use Rattle.evaluation.specs.Records.{lent};
-ghost use Rattle.cut_stops.specs.Stops.{openingAt, penaltyAt, code, timesIn, priceIn, stopOf, codesOf, recordFigures, figuresOf, codesEach, figuresEach, numbers, Long, stopAt, placeBy, Put, listedLeg, WorkedOut, StopsOf, Below64, legLists, LegsLong, LegsWritten};
+ghost use Rattle.cut_stops.specs.Stops.{openingAt, penaltyAt, code, timesIn, priceIn, stopOf, codesOf, recordFigures, legFigures, codesEach, figuresEach, numbers, Long, stopAt, StopsOf, Below64, legLists, LegsLong, LegsWritten};
+use crate::between::listed_between;
 use cut_table::cells::MOST_CUT;
-use distance::leg::Drive;
-use distance::leg::Leg;
-use distance::leg::leg_between;
 use distance::matrix::no_road;
 use evaluation::route::place_before;
 use models::customer::Customer;
@@ -141,7 +142,7 @@ fn penalty_price(penalty: Penalty) -> f64
 }
 
 // Puts the record of place c into the lists.
-fn put_customer(
+pub fn put_customer(
     customer: Customer,
     c: usize,
     codes: &mut [u32; ALL_CODES],
@@ -168,65 +169,33 @@ fn put_customer(
     figures[f + 7] = penalty_price(penalty);
 }
 
-// Puts place c into the lists.
-pub fn put_stop(
-    stop: Stop,
-    c: usize,
-    codes: &mut [u32; ALL_CODES],
-    figures: &mut [f64; ALL_FIGURES],
-)
-    requires { ⌜ c < 64 ⌝ }
-    ensures { λ _. ⌜ now (codes .exit) ≡ sets (now (codes .entry)) (codesEach * c) (codesOf (stopOf stop .customer)) ⌝ }
-    ensures { λ _. ⌜ now (figures .exit) ≡ sets (now (figures .entry)) (figuresEach * c) (figuresOf (stopOf stop)) ⌝ }
+// What stands for a closed way home.
+fn no_number() -> f64
+    ensures { λ r. ⌜ r ≡ nan ⌝ }
 {
-    let f = FIGURES * c;
-    figures[f] = stop.out;
-    figures[f + 1] = stop.back;
-    figures[f + 2] = stop.time_out;
-    figures[f + 3] = stop.time_back;
-    put_customer(stop.customer, c, &mut *codes, &mut *figures);
+    0.0 / 0.0
 }
 
-// A leg as the lists have it: its two numbers, and for a closed one the number of no road in both.
-fn listed_leg(drive: Drive) -> Leg
-    ensures { λ r. ⌜ r ≡ listedLeg (driveOf drive) ⌝ }
-{
-    match drive {
-        Drive::Open(leg) => leg,
-        Drive::Closed => Leg {
-            distance: no_road(),
-            time: no_road(),
-        },
-    }
-}
-
-// Works out place c, whose record this is, and puts it into the lists.
-fn put_place(
-    customer: Customer,
+// Puts the legs of place c into the lists.
+pub fn put_legs(
     distances: &[f64],
     times: &[f64],
     size: usize,
     c: usize,
-    codes: &mut [u32; ALL_CODES],
     figures: &mut [f64; ALL_FIGURES],
 )
-    requires { ⌜ Long (numbers (now codes) (now figures)) × (c < 64) ⌝ }
+    requires { ⌜ c < 64 ⌝ }
     ensures { λ _.
         let leg = driveF (now (distances .entry)) (now (times .entry)) size in
-        let old = numbers (now (codes .entry)) (now (figures .entry)) in
-        let new = numbers (now (codes .exit)) (now (figures .exit)) in
-        ⌜ Put old c (placeBy (customerOf customer) leg c) new ⌝ }
+        ⌜ now (figures .exit) ≡ sets (now (figures .entry)) (figuresEach * c) (legFigures leg c) ⌝ }
 {
-    let out = listed_leg(leg_between(distances, times, size, 0, c));
-    let back = listed_leg(leg_between(distances, times, size, c, 0));
-    let stop = Stop {
-        customer,
-        out: out.distance,
-        back: back.distance,
-        time_out: out.time,
-        time_back: back.time,
-    };
-    put_stop(stop, c, &mut *codes, &mut *figures);
+    let out = listed_between(distances, times, size, 0, c, no_road());
+    let back = listed_between(distances, times, size, c, 0, no_number());
+    let f = FIGURES * c;
+    figures[f] = out.distance;
+    figures[f + 1] = back.distance;
+    figures[f + 2] = out.time;
+    figures[f + 3] = back.time;
 }
 
 // Works out the places of these calls.
@@ -247,45 +216,9 @@ pub fn work_out_calls(
     let mut k: usize = 0;
     while k < calls.len() {
         let c = calls[k];
-        put_place(
-            customers[c],
-            distances,
-            times,
-            size,
-            c,
-            &mut *codes,
-            &mut *figures,
-        );
+        put_legs(distances, times, size, c, &mut *figures);
+        put_customer(customers[c], c, &mut *codes, &mut *figures);
         k += 1;
-    }
-}
-
-// Works out every place.
-pub fn work_out(
-    customers: [Customer; 64],
-    distances: &[f64],
-    times: &[f64],
-    size: usize,
-    codes: &mut [u32; ALL_CODES],
-    figures: &mut [f64; ALL_FIGURES],
-)
-    requires { ⌜ Long (numbers (now codes) (now figures)) ⌝ }
-    ensures { λ _.
-        let t = lent customers (now (distances .entry)) (now (times .entry)) size in
-        ⌜ WorkedOut t (numbers (now (codes .exit)) (now (figures .exit))) ⌝ }
-{
-    let mut c: usize = 0;
-    while c < 64 {
-        put_place(
-            customers[c],
-            distances,
-            times,
-            size,
-            c,
-            &mut *codes,
-            &mut *figures,
-        );
-        c += 1;
     }
 }
 
@@ -310,7 +243,7 @@ pub fn write_legs(
     while k < held.len() {
         let prev = place_before(held, k);
         let cid = held[k];
-        let leg = listed_leg(leg_between(distances, times, size, prev, cid));
+        let leg = listed_between(distances, times, size, prev, cid, no_road());
         legs[k] = leg.distance;
         time_legs[k] = leg.time;
         k += 1;

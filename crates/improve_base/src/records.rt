@@ -5,10 +5,10 @@ ghost use Rattle.models.specs.Records.{customerOf};
 ghost use Rattle.cut_stops.specs.Stops.{numbers, Long, recordsIn};
 use cut_stops::stops::ALL_CODES;
 use cut_stops::stops::ALL_FIGURES;
-use cut_stops::stops::work_out;
+use cut_stops::stops::put_customer;
 use models::customer::Customer;
 
-// Writes them as the cuts do. The improvers read no leg there, so a table with no rows is given, and none is looked up.
+// Writes them as the cuts do, but for the legs, which the improvers do not read there.
 pub fn list_records(
     customers: [Customer; 64],
     codes: &mut [u32; ALL_CODES],
@@ -19,6 +19,9 @@ pub fn list_records(
         let lists = numbers (now (codes .exit)) (now (figures .exit)) in
         ⌜ Long lists × (recordsIn lists ≡ map customerOf customers) ⌝ }
 {
-    let none = [0.0; 1];
-    work_out(customers, &none, &none, 0, &mut *codes, &mut *figures);
+    let mut c: usize = 0;
+    while c < 64 {
+        put_customer(customers[c], c, &mut *codes, &mut *figures);
+        c += 1;
+    }
 }

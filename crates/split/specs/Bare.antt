@@ -1,16 +1,10 @@
 -- What `split` lends, by what it is lent itself. Definitions only.
 use mathlib.Core.List.{map}
 use mathlib.Core.Option.{none}
-use lib.Ieee.{Float}
-use Rattle.definitions.specs.Sheet.{CustomerOf}
 use Rattle.models.specs.declared.placement.Placement.the-variants.{Clock}
-use Rattle.cut_rows.specs.Runs.{Instance}
+use Rattle.cut_rows.specs.Runs.{Instance, bareF}
 
--- a record on floats without its window and its penalty
-abbrev pub bareF : CustomerOf Float → CustomerOf Float
-bareF c = record { demand = c .demand; service = c .service; window = none; penalty = none }
-
--- the same tables with such records, without limits and break
+-- the same tables with records without windows and penalties, and neither limits nor a break
 abbrev pub bareOf : Instance → Instance
 bareOf I =
     let t = I .tables in

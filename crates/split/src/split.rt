@@ -1,7 +1,5 @@
-// The cut of a tour by loads and closed legs alone (ga/split.rs): that by all that a run may be held to, of the
-// same records without windows and penalties, and with neither limits nor a break.
+// The cut of a tour by loads and closed legs alone (ga/split.rs).
 ghost use mathlib.Core.Path.{_≡_};
-ghost use mathlib.Core.List.{map};
 ghost use Prim.Native.Nat.{_≤_};
 ghost use lib.ListN.{length};
 ghost use Rattle.cut_theory.specs.Tab.{mostCut};
@@ -9,43 +7,16 @@ ghost use Rattle.definitions.specs.Room.{written};
 ghost use Rattle.cut_stops.specs.Stops.{Below64};
 ghost use Rattle.split_tw.specs.Answer.{Counted};
 ghost use Rattle.split_tw.specs.SplitTw.{splitTwF};
-ghost use Rattle.split.specs.Split.{bareRecord, bareLent};
+ghost use Rattle.split.specs.Split.{bareLent};
+use cut_rows::terms::Terms;
 use models::customer::Customer;
-use models::customer::Opening;
-use models::customer::Penalty;
 use models::limits::Limit;
 use models::limits::RouteLimits;
 use models::load::Space;
 use models::placement::Placement;
 use models::vehicle::Rest;
 use split_tw::answer::SplitResult;
-use split_tw::split_tw::split_tw;
-
-// A record without its window and its penalty.
-fn bare(customer: Customer) -> Customer
-    ensures { λ r. ⌜ r ≡ bareRecord customer ⌝ }
-{
-    let demand = customer.demand;
-    Customer {
-        demand,
-        service_duration: customer.service_duration,
-        time_window: Opening::Always,
-        lateness_penalty: Penalty::Hard,
-    }
-}
-
-// All records without them.
-fn bare_records(customers: [Customer; 64]) -> [Customer; 64]
-    ensures { λ r. ⌜ r ≡ map bareRecord customers ⌝ }
-{
-    let mut all = customers;
-    let mut k: usize = 0;
-    while k < 64 {
-        all[k] = bare(customers[k]);
-        k += 1;
-    }
-    all
-}
+use split_tw::split_tw::cut;
 
 // Calls are dropped until every beginning of those held can be cut, and these are cut at least cost: no window,
 // limit or break bars a run. The served customers, the run ends and the dropped positions are written at the
@@ -88,16 +59,20 @@ pub fn split(
         max_duration: Limit::Unlimited,
         rest: Rest::Unbroken,
     };
-    split_tw(
-        tour,
-        bare_records(customers),
-        distances,
-        times,
-        size,
+    let terms = Terms {
         capacity,
         fixed,
         limits,
-        Placement::Clock,
+        placement: Placement::Clock,
+        loads_alone: true,
+    };
+    cut(
+        tour,
+        customers,
+        distances,
+        times,
+        size,
+        terms,
         &mut *served,
         &mut *run_ends,
         &mut *dropped,

@@ -35,7 +35,7 @@ use Rattle.cut_rows.proofs.Ends.{run-out, overloaded, cut-off}
 use Rattle.cut_rows.proofs.Calls.{RunIs, run-is, call-below, way-is, CallIs, call-is, leg-closed}
 use Rattle.cut_rows.proofs.Going.{Going}
 use Rattle.cut_rows.proofs.Calling.{Called}
-use Rattle.cut_rows.proofs.LeastAlong.{LeastAlong, least-setout, none-left, unplaced, homeless, endless, put}
+use Rattle.cut_rows.proofs.LeastAlong.{LeastAlong, least-setout, none-left, unplaced, endless, put}
 use Rattle.cut_rows.proofs.rows.least_row.Statement.{statement}
 use Rattle.cut_rows.proofs.rows.least_row.Tie as tie
 
@@ -180,20 +180,9 @@ module _ (k : tie.After-carry Inv-loop μ-loop) where
         is-gone = far-way;
       }
 
--- the way home is read
-abbrev served-at : tie.After-road-of2 Inv-loop μ-loop → tie.After-carry Inv-loop μ-loop
-served-at h = h .before .before .before
-
 -- the best way home
-module _ (f : tie.After-best-home Inv-loop μ-loop) where
-  abbrev back-at : tie.After-back Inv-loop μ-loop
-  back-at = let told = f .before .before .before .before .before in told .before
-
-  abbrev home : tie.After-road-of2 Inv-loop μ-loop
-  home = back-at .before .before
-
-  home-open : roadF (stopOf (called-at (served-at home) .stop-at .result) .back) ≡ some (back-at .back .given .0 .0)
-  home-open = let e : home .road-of2 .result ≡ Length (back-at .back .given .0 .0) = search (needs, back-at .back) in sym (home .road-of2 .ensures) ∙ ap roadOf e
+abbrev served-at : tie.After-best-home Inv-loop μ-loop → tie.After-carry Inv-loop μ-loop
+served-at f = let going-on = f .before .before .before .before in going-on .before .before .before .before
 
 -- the run is offered
 module _ (o : tie.After-offer-arg3 Inv-loop μ-loop) where
@@ -366,11 +355,15 @@ returns-3 c =
       l .loop .inv .0 .within,
     )
 
-road-of-requires-2 : tie.Need-road-of-requires-2 Inv-loop μ-loop
-road-of-requires-2 c κs = search needs
+best-home-requires : tie.Need-best-home-requires Inv-loop μ-loop
+best-home-requires c κs =
+    let going-on = c .before .before .before .before .before in
+    let k = going-on .before .before in
+    let p = called-at k in
+    omega (arith, k .before .call-served .ensures .most, top p .loop .inv .2, ahead p, few p .0)
 
-enum-known-back : tie.Need-enum-known-back Inv-loop μ-loop
-enum-known-back c = search needs
+enum-known-done : tie.Need-enum-known-done Inv-loop μ-loop
+enum-known-done c = search needs
 
 enum-told-2 : tie.Need-enum-told-2 Inv-loop μ-loop
 enum-told-2 c = search needs
@@ -380,46 +373,8 @@ loop-less c = let p = called-at (served-at (c .before .before)) in omega (arith,
 
 loop-again : tie.Need-loop-again Inv-loop μ-loop
 loop-again c =
-    let h = c .before .before in
-    let k = served-at h in
-    let p = called-at k in
-    let l = top p in
-    let b = branch k in
-    let served = k .before .call-served .ensures in
-    let e : h .road-of2 .result ≡ Closed = search needs in (
-      record {
-        within = omega (arith, ahead p);
-        light = b .before .fits2 .ensures .1 (not-false _ (b .if1 .left));
-        keeps =
-            λ t W L.
-            let A = l .loop .inv .0 .keeps t W L in
-            homeless (over (l .before) t) refl (pause (l .before)) refl (going k t W L (A .along)) (A .labelled) _ (add-one (m p)) (k .carry .ensures)
-            (served .are) (sym (h .road-of2 .ensures) ∙ ap roadOf e);
-      },
-      served .full,
-      omega (arith, served .most, l .loop .inv .2),
-    )
-
-best-home-requires : tie.Need-best-home-requires Inv-loop μ-loop
-best-home-requires c κs =
-    let back = c .before .before .before .before .before in
-    let k = served-at (back .before .before) in
-    let p = called-at k in
-    omega (arith, k .before .call-served .ensures .most, top p .loop .inv .2, ahead p, few p .0)
-
-enum-known-done : tie.Need-enum-known-done Inv-loop μ-loop
-enum-known-done c = search needs
-
-enum-told-3 : tie.Need-enum-told-3 Inv-loop μ-loop
-enum-told-3 c = search needs
-
-loop-less-2 : tie.Need-loop-less-2 Inv-loop μ-loop
-loop-less-2 c = let p = called-at (served-at (home (c .before .before))) in omega (arith, ahead p)
-
-loop-again-2 : tie.Need-loop-again-2 Inv-loop μ-loop
-loop-again-2 c =
     let f = c .before .before in
-    let k = served-at (home f) in
+    let k = served-at f in
     let p = called-at k in
     let l = top p in
     let b = branch k in
@@ -432,23 +387,23 @@ loop-again-2 c =
             λ t W L.
             let A = l .loop .inv .0 .keeps t W L in
             endless (over (l .before) t) refl (pause (l .before)) refl (going k t W L (A .along)) (A .labelled) _ (add-one (m p)) (k .carry .ensures)
-            (served .are) _ (home-open f) _ (f .best-home .ensures) (ap finishedOf e);
+            (served .are) _ (f .best-home .ensures) (ap finishedOf e);
       },
       served .full,
       omega (arith, served .most, l .loop .inv .2),
     )
 
 offer-requires : tie.Need-offer-requires Inv-loop μ-loop
-offer-requires c κs = let p = called-at (served-at (home (finished c))) in omega (arith, ahead p, few p .0)
+offer-requires c κs = let p = called-at (served-at (finished c)) in omega (arith, ahead p, few p .0)
 
-loop-less-3 : tie.Need-loop-less-3 Inv-loop μ-loop
-loop-less-3 c = let p = called-at (served-at (home (finished (c .before)))) in omega (arith, ahead p)
+loop-less-2 : tie.Need-loop-less-2 Inv-loop μ-loop
+loop-less-2 c = let p = called-at (served-at (finished (c .before))) in omega (arith, ahead p)
 
-loop-again-3 : tie.Need-loop-again-3 Inv-loop μ-loop
-loop-again-3 c =
+loop-again-2 : tie.Need-loop-again-2 Inv-loop μ-loop
+loop-again-2 c =
     let o = c .before in
     let f = finished o in
-    let k = served-at (home f) in
+    let k = served-at f in
     let p = called-at k in
     let l = top p in
     let b = branch k in
@@ -460,7 +415,7 @@ loop-again-3 c =
             λ t W L.
             let A = l .loop .inv .0 .keeps t W L in
             put (over (l .before) t) refl (pause (l .before)) refl (going k t W L (A .along)) (A .labelled) _ (add-one (m p)) (k .carry .ensures)
-            (served .are) _ (home-open f) _ (f .best-home .ensures) _ (at-home o) _ _ (next-cell p) (c .offer .ensures);
+            (served .are) _ (f .best-home .ensures) _ (at-home o) _ _ (next-cell p) (c .offer .ensures);
       },
       served .full,
       omega (arith, served .most, l .loop .inv .2),
@@ -513,17 +468,12 @@ least-row-spec =
     carry-requires
     some-left-requires
     returns-3
-    road-of-requires-2
-    enum-known-back
+    best-home-requires
+    enum-known-done
     enum-told-2
     loop-less
     loop-again
-    best-home-requires
-    enum-known-done
-    enum-told-3
+    offer-requires
     loop-less-2
     loop-again-2
-    offer-requires
-    loop-less-3
-    loop-again-3
     returns-4)

@@ -28,7 +28,7 @@ use Rattle.cut_rows.proofs.Along.{Row, rowFrom, setout}
 use Rattle.cut_rows.proofs.Ends.{run-out, overloaded, cut-off}
 use Rattle.cut_rows.proofs.Calls.{RunIs, run-is, call-below, way-is, CallIs, call-is, leg-closed}
 use Rattle.cut_rows.proofs.Going.{Going}
-use Rattle.cut_rows.proofs.PlainAlong.{PlainAlong, plain-setout, shut, homeless, skip, put}
+use Rattle.cut_rows.proofs.PlainAlong.{PlainAlong, plain-setout, shut, skip, put}
 use Rattle.cut_rows.proofs.rows.plain_row.Statement.{statement}
 use Rattle.cut_rows.proofs.rows.plain_row.Tie as tie
 
@@ -142,27 +142,16 @@ module _ (v : tie.After-visit Inv-loop μ-loop) where
   time-way : v .before .way-to2 .result ≡ joinedF (top (stop branch) .loop .time) (v .before .before .leg-to2 .result) (eqb (m (stop branch)) 0)
   time-way = way-is (is-run (stop branch .before .before)) _ _ _ (v .before .way-to2 .ensures)
 
--- the way home is read
-module _ (h : tie.After-road-of2 Inv-loop μ-loop) where
+-- the limits are asked
+module _ (g : tie.After-allow Inv-loop μ-loop) where
   abbrev served-at : tie.After-v Inv-loop μ-loop
-  served-at = h .before .before
+  served-at = g .before .before .before .before
 
   abbrev visited : tie.After-visit Inv-loop μ-loop
   visited = served-at .before .before
 
   served : visitedOf (visited .visit .result) ≡ some (served-at .v .given .0 .0)
   served = let e : visited .visit .result ≡ Open (served-at .v .given .0 .0) = search (needs, served-at .v) in ap visitedOf e
-
--- the limits are asked
-module _ (g : tie.After-allow Inv-loop μ-loop) where
-  abbrev back-at : tie.After-back Inv-loop μ-loop
-  back-at = g .before .before .before
-
-  abbrev home : tie.After-road-of2 Inv-loop μ-loop
-  home = back-at .before .before
-
-  home-open : roadF (stopOf (stop (branch (visited home)) .stop-at .result) .back) ≡ some (back-at .back .given .0 .0)
-  home-open = let e : home .road-of2 .result ≡ Length (back-at .back .given .0 .0) = search (needs, back-at .back) in sym (home .road-of2 .ensures) ∙ ap roadOf e
 
 -- the run is offered
 abbrev allowed : tie.After-offer-arg3 Inv-loop μ-loop → tie.After-allow Inv-loop μ-loop
@@ -319,46 +308,16 @@ returns-3 c =
 add-m : tie.Need-add-m Inv-loop μ-loop
 add-m c = let p = stop (branch (c .before .before .before)) in omega (arith, ahead p, few p .0)
 
-road-of-requires-2 : tie.Need-road-of-requires-2 Inv-loop μ-loop
-road-of-requires-2 c κs = search needs
-
-enum-known-back : tie.Need-enum-known-back Inv-loop μ-loop
-enum-known-back c = search needs
-
-enum-told-3 : tie.Need-enum-told-3 Inv-loop μ-loop
-enum-told-3 c = search needs
-
-loop-less : tie.Need-loop-less Inv-loop μ-loop
-loop-less c = let p = stop (branch (visited (c .before .before))) in omega (arith, ahead p)
-
-loop-again : tie.Need-loop-again Inv-loop μ-loop
-loop-again c =
-    let h = c .before .before in
-    let v = visited h in
-    let b = branch v in
-    let p = stop b in
-    let l = top p in
-    let e : h .road-of2 .result ≡ Closed = search needs in
-    record {
-      within = omega (arith, ahead p);
-      light = b .before .fits2 .ensures .1 (not-false _ (b .if1 .left));
-      keeps =
-          λ t W L.
-          homeless (over (l .before) t) refl _ _ _ _ _ (l .loop .inv .keeps t W L) (called p t W L _ _ (road v .before .leg-to .ensures) (v .before .before .leg-to2 .ensures)) (inside p) (short p)
-          (b .before .before .plus .ensures .0) (holds _ _ (b .before .fits2 .ensures .0) (b .if1 .left)) (leg-open v) (far-way v) (time-way v)
-          _ (sym (v .visit .ensures) ∙ served h) (sym (h .road-of2 .ensures) ∙ ap roadOf e);
-    }
-
 allow-requires : tie.Need-allow-requires Inv-loop μ-loop
 allow-requires c κs = search needs
 
-loop-less-2 : tie.Need-loop-less-2 Inv-loop μ-loop
-loop-less-2 c = let p = stop (branch (visited (home (c .before)))) in omega (arith, ahead p)
+loop-less : tie.Need-loop-less Inv-loop μ-loop
+loop-less c = let p = stop (branch (visited (c .before))) in omega (arith, ahead p)
 
-loop-again-2 : tie.Need-loop-again-2 Inv-loop μ-loop
-loop-again-2 c =
-    let h = home (c .before) in
-    let v = visited h in
+loop-again : tie.Need-loop-again Inv-loop μ-loop
+loop-again c =
+    let g = c .before in
+    let v = visited g in
     let b = branch v in
     let p = stop b in
     let l = top p in
@@ -369,20 +328,19 @@ loop-again-2 c =
           λ t W L.
           skip (over (l .before) t) refl _ _ _ _ _ (l .loop .inv .keeps t W L) (called p t W L _ _ (road v .before .leg-to .ensures) (v .before .before .leg-to2 .ensures)) (inside p) (short p)
           (b .before .before .plus .ensures .0) (holds _ _ (b .before .fits2 .ensures .0) (b .if1 .left)) (leg-open v) (far-way v) (time-way v)
-          _ (sym (v .visit .ensures) ∙ served h) _ (home-open (c .before)) (fails _ _ (c .before .allow .ensures) (c .if2 .taken));
+          _ (sym (v .visit .ensures) ∙ served g) (fails _ _ (g .allow .ensures) (c .if2 .taken));
     }
 
 offer-requires : tie.Need-offer-requires Inv-loop μ-loop
-offer-requires c κs = let p = stop (branch (visited (home (allowed c)))) in omega (arith, ahead p, few p .0)
+offer-requires c κs = let p = stop (branch (visited (allowed c))) in omega (arith, ahead p, few p .0)
 
-loop-less-3 : tie.Need-loop-less-3 Inv-loop μ-loop
-loop-less-3 c = let p = stop (branch (visited (home (allowed (c .before))))) in omega (arith, ahead p)
+loop-less-2 : tie.Need-loop-less-2 Inv-loop μ-loop
+loop-less-2 c = let p = stop (branch (visited (allowed (c .before)))) in omega (arith, ahead p)
 
-loop-again-3 : tie.Need-loop-again-3 Inv-loop μ-loop
-loop-again-3 c =
+loop-again-2 : tie.Need-loop-again-2 Inv-loop μ-loop
+loop-again-2 c =
     let g = allowed (c .before) in
-    let h = home g in
-    let v = visited h in
+    let v = visited g in
     let b = branch v in
     let p = stop b in
     let l = top p in
@@ -393,7 +351,7 @@ loop-again-3 c =
           λ t W L.
           put (over (l .before) t) refl _ _ _ _ _ (l .loop .inv .keeps t W L) (called p t W L _ _ (road v .before .leg-to .ensures) (v .before .before .leg-to2 .ensures)) (inside p) (short p)
           (b .before .before .plus .ensures .0) (holds _ _ (b .before .fits2 .ensures .0) (b .if1 .left)) (leg-open v) (far-way v) (time-way v)
-          _ (sym (v .visit .ensures) ∙ served h) _ (home-open g) _ _
+          _ (sym (v .visit .ensures) ∙ served g) _ _
           (holds _ _ (g .allow .ensures) (c .before .before .before .before .if2 .left)) (next-cell p) (c .offer .ensures);
     }
 
@@ -446,15 +404,10 @@ plain-row-spec =
     enum-told-2
     returns-3
     add-m
-    road-of-requires-2
-    enum-known-back
-    enum-told-3
+    allow-requires
     loop-less
     loop-again
-    allow-requires
+    offer-requires
     loop-less-2
     loop-again-2
-    offer-requires
-    loop-less-3
-    loop-again-3
     returns-4)

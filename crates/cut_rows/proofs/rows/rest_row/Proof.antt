@@ -33,7 +33,7 @@ use Rattle.cut_rows.proofs.Along.{Row, rowFrom, setout}
 use Rattle.cut_rows.proofs.Ends.{run-out, overloaded, cut-off}
 use Rattle.cut_rows.proofs.Calls.{RunIs, run-is, call-below, way-is, CallIs, call-is, leg-closed}
 use Rattle.cut_rows.proofs.Going.{Going, same-terms}
-use Rattle.cut_rows.proofs.RestAlong.{RestAlong, rest-setout, first-index, next-index, dead, homeless, endless, skip, put}
+use Rattle.cut_rows.proofs.RestAlong.{RestAlong, rest-setout, first-index, next-index, dead, endless, skip, put}
 use Rattle.cut_rows.proofs.rows.rest_row.Statement.{statement}
 use Rattle.cut_rows.proofs.rows.rest_row.Tie as tie
 
@@ -165,20 +165,9 @@ module _ (k : tie.After-pushed Inv-loop μ-loop) where
       ∙ ap (λ (n : ℕ). pushF (clockOf (top (stop branch) .loop .clock)) n (stopOf (stop branch .stop-at .result) .customer) (k .before .leg-to2 .result))
       (is-run (stop branch .before .before) .is-last)
 
--- the way home is read
-abbrev pushed-at : tie.After-road-of2 Inv-loop μ-loop → tie.After-pushed Inv-loop μ-loop
-pushed-at h = h .before .before .before
-
 -- the clock's answer for the run
-module _ (f : tie.After-finish Inv-loop μ-loop) where
-  abbrev back-at : tie.After-back Inv-loop μ-loop
-  back-at = f .before .before
-
-  abbrev home : tie.After-road-of2 Inv-loop μ-loop
-  home = back-at .before .before
-
-  home-open : roadF (stopOf (stop (branch (pushed-at home)) .stop-at .result) .back) ≡ some (back-at .back .given .0 .0)
-  home-open = let e : home .road-of2 .result ≡ Length (back-at .back .given .0 .0) = search (needs, back-at .back) in sym (home .road-of2 .ensures) ∙ ap roadOf e
+abbrev pushed-at : tie.After-finish Inv-loop μ-loop → tie.After-pushed Inv-loop μ-loop
+pushed-at f = f .before .before .before .before
 
 -- the limits are asked
 module _ (g : tie.After-allow Inv-loop μ-loop) where
@@ -351,11 +340,11 @@ returns-3 c =
 add-m : tie.Need-add-m Inv-loop μ-loop
 add-m c = let p = stop (branch (c .before .before)) in omega (arith, ahead p, few p .0)
 
-road-of-requires-2 : tie.Need-road-of-requires-2 Inv-loop μ-loop
-road-of-requires-2 c κs = search needs
+finish-requires : tie.Need-finish-requires Inv-loop μ-loop
+finish-requires c κs = search needs
 
-enum-known-back : tie.Need-enum-known-back Inv-loop μ-loop
-enum-known-back c = search needs
+enum-known-done : tie.Need-enum-known-done Inv-loop μ-loop
+enum-known-done c = search needs
 
 enum-told-2 : tie.Need-enum-told-2 Inv-loop μ-loop
 enum-told-2 c = search needs
@@ -365,40 +354,8 @@ loop-less c = let p = stop (branch (pushed-at (c .before .before))) in omega (ar
 
 loop-again : tie.Need-loop-again Inv-loop μ-loop
 loop-again c =
-    let h = c .before .before in
-    let k = pushed-at h in
-    let b = branch k in
-    let p = stop b in
-    let l = top p in
-    let e : h .road-of2 .result ≡ Closed = search needs in (
-      record {
-        within = omega (arith, ahead p);
-        light = b .before .fits2 .ensures .1 (not-false _ (b .if1 .left));
-        keeps =
-            λ t W L.
-            homeless (over (l .before) t) refl (pause (l .before)) refl _ _ _ _ (l .loop .inv .0 .keeps t W L) (called p t W L _ _ (road k .before .leg-to .ensures) (k .before .leg-to2 .ensures))
-            (inside p) (short p) (b .before .before .plus .ensures .0) (holds _ _ (b .before .fits2 .ensures .0) (b .if1 .left)) (leg-open k) (far-way k) (served k)
-            (sym (h .road-of2 .ensures) ∙ ap roadOf e);
-      },
-      next-index _ _ _ _ _ _ (served k) (l .loop .inv .1),
-    )
-
-finish-requires : tie.Need-finish-requires Inv-loop μ-loop
-finish-requires c κs = search needs
-
-enum-known-done : tie.Need-enum-known-done Inv-loop μ-loop
-enum-known-done c = search needs
-
-enum-told-3 : tie.Need-enum-told-3 Inv-loop μ-loop
-enum-told-3 c = search needs
-
-loop-less-2 : tie.Need-loop-less-2 Inv-loop μ-loop
-loop-less-2 c = let p = stop (branch (pushed-at (home (c .before .before)))) in omega (arith, ahead p)
-
-loop-again-2 : tie.Need-loop-again-2 Inv-loop μ-loop
-loop-again-2 c =
     let f = c .before .before in
-    let k = pushed-at (home f) in
+    let k = pushed-at f in
     let b = branch k in
     let p = stop b in
     let l = top p in
@@ -410,7 +367,7 @@ loop-again-2 c =
             λ t W L.
             endless (over (l .before) t) refl (pause (l .before)) refl _ _ _ _ (l .loop .inv .0 .keeps t W L) (called p t W L _ _ (road k .before .leg-to .ensures) (k .before .leg-to2 .ensures))
             (inside p) (short p) (b .before .before .plus .ensures .0) (holds _ _ (b .before .fits2 .ensures .0) (b .if1 .left)) (leg-open k) (far-way k) (served k)
-            _ (home-open f) _ (f .finish .ensures) (ap finishedOf e);
+            _ (f .finish .ensures) (ap finishedOf e);
       },
       next-index _ _ _ _ _ _ (served k) (l .loop .inv .1),
     )
@@ -418,14 +375,14 @@ loop-again-2 c =
 allow-requires : tie.Need-allow-requires Inv-loop μ-loop
 allow-requires c κs = search needs
 
-loop-less-3 : tie.Need-loop-less-3 Inv-loop μ-loop
-loop-less-3 c = let p = stop (branch (pushed-at (home (finished (c .before))))) in omega (arith, ahead p)
+loop-less-2 : tie.Need-loop-less-2 Inv-loop μ-loop
+loop-less-2 c = let p = stop (branch (pushed-at (finished (c .before)))) in omega (arith, ahead p)
 
-loop-again-3 : tie.Need-loop-again-3 Inv-loop μ-loop
-loop-again-3 c =
+loop-again-2 : tie.Need-loop-again-2 Inv-loop μ-loop
+loop-again-2 c =
     let g = c .before in
     let f = finished g in
-    let k = pushed-at (home f) in
+    let k = pushed-at f in
     let b = branch k in
     let p = stop b in
     let l = top p in (
@@ -436,22 +393,22 @@ loop-again-3 c =
             λ t W L.
             skip (over (l .before) t) refl (pause (l .before)) refl _ _ _ _ (l .loop .inv .0 .keeps t W L) (called p t W L _ _ (road k .before .leg-to .ensures) (k .before .leg-to2 .ensures))
             (inside p) (short p) (b .before .before .plus .ensures .0) (holds _ _ (b .before .fits2 .ensures .0) (b .if1 .left)) (leg-open k) (far-way k) (served k)
-            _ (home-open f) _ (f .finish .ensures) _ (at-home g) (fails _ _ (g .allow .ensures) (c .if3 .taken));
+            _ (f .finish .ensures) _ (at-home g) (fails _ _ (g .allow .ensures) (c .if3 .taken));
       },
       next-index _ _ _ _ _ _ (served k) (l .loop .inv .1),
     )
 
 offer-requires : tie.Need-offer-requires Inv-loop μ-loop
-offer-requires c κs = let p = stop (branch (pushed-at (home (finished (allowed c))))) in omega (arith, ahead p, few p .0)
+offer-requires c κs = let p = stop (branch (pushed-at (finished (allowed c)))) in omega (arith, ahead p, few p .0)
 
-loop-less-4 : tie.Need-loop-less-4 Inv-loop μ-loop
-loop-less-4 c = let p = stop (branch (pushed-at (home (finished (allowed (c .before)))))) in omega (arith, ahead p)
+loop-less-3 : tie.Need-loop-less-3 Inv-loop μ-loop
+loop-less-3 c = let p = stop (branch (pushed-at (finished (allowed (c .before))))) in omega (arith, ahead p)
 
-loop-again-4 : tie.Need-loop-again-4 Inv-loop μ-loop
-loop-again-4 c =
+loop-again-3 : tie.Need-loop-again-3 Inv-loop μ-loop
+loop-again-3 c =
     let g = allowed (c .before) in
     let f = finished g in
-    let k = pushed-at (home f) in
+    let k = pushed-at f in
     let b = branch k in
     let p = stop b in
     let l = top p in (
@@ -462,7 +419,7 @@ loop-again-4 c =
             λ t W L.
             put (over (l .before) t) refl (pause (l .before)) refl _ _ _ _ (l .loop .inv .0 .keeps t W L) (called p t W L _ _ (road k .before .leg-to .ensures) (k .before .leg-to2 .ensures))
             (inside p) (short p) (b .before .before .plus .ensures .0) (holds _ _ (b .before .fits2 .ensures .0) (b .if1 .left)) (leg-open k) (far-way k) (served k)
-            _ (home-open f) _ (f .finish .ensures) _ (at-home g) _ _ (holds _ _ (g .allow .ensures) (c .before .before .before .before .before .if3 .left)) (next-cell p)
+            _ (f .finish .ensures) _ (at-home g) _ _ (holds _ _ (g .allow .ensures) (c .before .before .before .before .before .if3 .left)) (next-cell p)
             (c .offer .ensures);
       },
       next-index _ _ _ _ _ _ (served k) (l .loop .inv .1),
@@ -516,20 +473,15 @@ rest-row-spec =
     alive-requires
     returns-3
     add-m
-    road-of-requires-2
-    enum-known-back
+    finish-requires
+    enum-known-done
     enum-told-2
     loop-less
     loop-again
-    finish-requires
-    enum-known-done
-    enum-told-3
+    allow-requires
     loop-less-2
     loop-again-2
-    allow-requires
+    offer-requires
     loop-less-3
     loop-again-3
-    offer-requires
-    loop-less-4
-    loop-again-4
     returns-4)

@@ -5,9 +5,10 @@ use native.Mathlib.Omega.{arith}
 use lib.ListN.{length, getD}
 use denote.Ref.{now}
 use borrow.Author.Needs.{needs}
+use Rattle.distance.specs.Lookup.{driveF}
 use Rattle.evaluation.specs.Records.{lent}
 use Rattle.cut_stops.specs.Stops.{numbers, StopsTo, Below64}
-use Rattle.cut_stops.proofs.Places.{stops-more, stops-all, looked-up}
+use Rattle.cut_stops.proofs.Places.{place-put, stops-more, stops-all, looked-up}
 use Rattle.cut_stops.proofs.stops.work_out_calls.Statement.{statement}
 use Rattle.cut_stops.proofs.stops.work_out_calls.Tie as tie
 
@@ -38,14 +39,17 @@ mul-c c = search needs
 shared-slice-read-c : tie.Need-shared-slice-read-c Inv-loop μ-loop
 shared-slice-read-c c = search needs
 
-mul-put-place : tie.Need-mul-put-place Inv-loop μ-loop
-mul-put-place c = record { fits = omega (arith, below c) }
+put-legs-requires : tie.Need-put-legs-requires Inv-loop μ-loop
+put-legs-requires c κs = below (c .before)
 
-array-copy-out-put-place : tie.Need-array-copy-out-put-place Inv-loop μ-loop
-array-copy-out-put-place c = below c
+mul-put-customer : tie.Need-mul-put-customer Inv-loop μ-loop
+mul-put-customer c = record { fits = omega (arith, below (c .before .before)) }
 
-put-place-requires : tie.Need-put-place-requires Inv-loop μ-loop
-put-place-requires c κs = (loop (c .before .before .before) .loop .inv .long, below (c .before .before .before))
+array-copy-out-put-customer : tie.Need-array-copy-out-put-customer Inv-loop μ-loop
+array-copy-out-put-customer c = below (c .before .before)
+
+put-customer-requires : tie.Need-put-customer-requires Inv-loop μ-loop
+put-customer-requires c κs = below (c .before .before .before .before .before)
 
 add-k : tie.Need-add-k Inv-loop μ-loop
 add-k c = search needs
@@ -55,13 +59,16 @@ loop-less c = search needs
 
 loop-again : tie.Need-loop-again Inv-loop μ-loop
 loop-again c =
-    let slice = c .before .before .before .before in
+    let put = c .before .before .before .before in
+    let slice = put .before .before in
     let at = loop slice in
     let l = at .loop in
     let s = start at in
     let a = s .args in
     let calls = now (a .calls) in
-    stops-more (lent (a .t2) (now (a .distances)) (now (a .times)) (a .size)) (numbers (l .codes) (l .figures)) _ (l .k) _ calls (l .inv) (c .put-place .ensures)
+    stops-more (lent (a .t2) (now (a .distances)) (now (a .times)) (a .size)) (numbers (l .codes) (l .figures)) _ (l .k) _ calls (l .inv)
+    (place-put (numbers (l .codes) (l .figures)) _ (getD calls (l .k) 0) _ (driveF (now (a .distances)) (now (a .times)) (a .size)) _
+    (l .inv .long) (below slice) (c .put-customer .ensures .0) (put .put-legs .ensures) (c .put-customer .ensures .1))
     (looked-up (a .t2) (now (a .distances)) (now (a .times)) (a .size) (getD calls (l .k) 0) _ (s .good .1 .0 .1 .0 .1) (below slice))
 
 returns : tie.Need-returns Inv-loop μ-loop
@@ -79,9 +86,10 @@ work-out-calls-spec =
     loop-holds
     mul-c
     shared-slice-read-c
-    mul-put-place
-    array-copy-out-put-place
-    put-place-requires
+    put-legs-requires
+    mul-put-customer
+    array-copy-out-put-customer
+    put-customer-requires
     add-k
     loop-less
     loop-again

@@ -2,11 +2,12 @@
 use Prim.Native.Nat.{_-_}
 use native.Mathlib.Omega.{arith}
 use mathlib.Core.Path.{refl, ap, _∙_}
-use lib.ListN.{length}
+use lib.ListN.{length, getD}
+use lib.Ieee.{Float}
 use denote.Ref.{now}
 use borrow.Author.Needs.{needs}
 use Rattle.distance.specs.Lookup.{driveF}
-use Rattle.cut_stops.specs.Stops.{listedLeg, legLists}
+use Rattle.cut_stops.specs.Stops.{listedAs, legLists}
 use Rattle.cut_stops.proofs.Legs.{Written, written-none, written-more, written-all}
 use Rattle.cut_stops.proofs.stops.write_legs.Statement.{statement}
 use Rattle.cut_stops.proofs.stops.write_legs.Tie as tie
@@ -33,11 +34,11 @@ mul-cid c = search needs
 shared-slice-read-cid : tie.Need-shared-slice-read-cid Inv-loop μ-loop
 shared-slice-read-cid c = search needs
 
-leg-between-requires : tie.Need-leg-between-requires Inv-loop μ-loop
-leg-between-requires c κs = search needs
+no-road-requires : tie.Need-no-road-requires Inv-loop μ-loop
+no-road-requires c κs = search needs
 
-listed-leg-requires : tie.Need-listed-leg-requires Inv-loop μ-loop
-listed-leg-requires c κs = search needs
+listed-between-requires : tie.Need-listed-between-requires Inv-loop μ-loop
+listed-between-requires c κs = search needs
 
 mul-legs : tie.Need-mul-legs Inv-loop μ-loop
 mul-legs c = search needs
@@ -64,9 +65,10 @@ loop-again c =
     let s = l .before .before .before .before in
     let a = s .args in
     let h = p .before .loop-test .taken in
+    let leg = driveF (now (a .distances)) (now (a .times)) (a .size) (p .place-before .result) (getD (now (a .held)) (l .loop .k) 0) in
     written-more (driveF (now (a .distances)) (now (a .times)) (a .size)) (now (a .held)) (a .from) (legLists (now (a .legs)) (now (a .time-legs)))
     (legLists (l .loop .legs) (l .loop .time-legs)) (l .loop .k) (l .loop .inv) _ _ _
-    (omega (arith, s .pre .0)) (p .place-before .ensures) refl (c .listed-leg .ensures ∙ ap listedLeg (c .before .leg-between .ensures))
+    (omega (arith, s .pre .0)) (p .place-before .ensures) refl (c .listed-between .ensures ∙ ap (λ (x : Float). listedAs x leg) (c .before .no-road .ensures))
 
 returns : tie.Need-returns Inv-loop μ-loop
 returns c =
@@ -85,8 +87,8 @@ write-legs-spec =
     place-before-requires
     mul-cid
     shared-slice-read-cid
-    leg-between-requires
-    listed-leg-requires
+    no-road-requires
+    listed-between-requires
     mul-legs
     element-write-legs
     mul-time-legs

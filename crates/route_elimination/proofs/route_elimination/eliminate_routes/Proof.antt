@@ -7,7 +7,7 @@ use lib.ListN.{length}
 use lib.Seq.{length-take-le}
 use lib.Ieee.{Float}
 use denote.Ref.{now}
-use Rattle.cut_stops.specs.Stops.{Numbers, numbers, recordsIn, listed, WorkedOut}
+use Rattle.cut_stops.specs.Stops.{Numbers, numbers, recordsIn, listed}
 use Rattle.improve_base.proofs.ListedRecords.{listed-records}
 use Rattle.definitions.specs.Room.{written}
 use Rattle.definitions.specs.RunList.{runsOf}

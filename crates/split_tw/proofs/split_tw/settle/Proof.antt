@@ -5,7 +5,6 @@ use denote.Ref.{now}
 use Rattle.whole.proofs.Bits.{fl-zero}
 use Rattle.cut_stops.specs.Stops.{Below64}
 use Rattle.cut_table.specs.Table.{table}
-use Rattle.cut_rows.specs.declared.terms.Terms.{Terms}
 use Rattle.cut_drops.specs.Refill.{given}
 use Rattle.split_tw.proofs.Stayed.{tour-front, worked, stayed-of, stayed-falls, stayed-settled, unfilled}
 use borrow.Author.Needs.{needs}
@@ -13,9 +12,6 @@ use Rattle.split_tw.proofs.split_tw.settle.Statement.{statement}
 use Rattle.split_tw.proofs.split_tw.settle.Tie as tie
 
 -- ---- the places of the code that the needs look back to
-
-abbrev termsOf : tie.Start → Terms
-termsOf s = let a = s .args in record { capacity = a .capacity; fixed = a .fixed; limits = a .limits; placement = a .placement }
 
 -- the tour is written at the front of `held`
 module _ (w : tie.After-write-front) where
@@ -65,7 +61,7 @@ hold-requires c κs =
       },
       (
         unfilled _ _ _ (top w .infinity .ensures) (sym fl-zero) (sym fl-zero),
-        worked (given (now (a .distances)) (now (a .times)) (a .size) _ _ (termsOf s)) (a .customers) _ (now (a .tour)) e (top w .before .work-out-calls .ensures),
+        worked (given (now (a .distances)) (now (a .times)) (a .size) _ _ (a .terms)) (a .customers) _ (now (a .tour)) e (top w .before .work-out-calls .ensures),
       ),
     )
 
@@ -77,7 +73,7 @@ read-back-requires c κs =
     let a = s .args in
     let e = tour-front (now (a .tour)) (now (a .held)) _ (w .write-front .ensures) in
     let S =
-    stayed-of (given (now (a .distances)) (now (a .times)) (a .size) _ _ (termsOf s)) (a .customers) _ (now (a .tour)) e (top w .before .work-out-calls .ensures) _ (h .hold .result) _ _ (table _ _ _)
+    stayed-of (given (now (a .distances)) (now (a .times)) (a .size) _ _ (a .terms)) (a .customers) _ (now (a .tour)) e (top w .before .work-out-calls .ensures) _ (h .hold .result) _ _ (table _ _ _)
     (h .hold .ensures .0) in
     ((omega (arith, S .few, s .pre .0 .0), s .pre .0 .2), stayed-falls S (omega (arith, S .few, s .pre .0 .0)) (omega (arith, S .few, s .pre .1 .0, w .write-front .kept, h .hold .kept)))
 
@@ -107,7 +103,7 @@ returns c =
     let a = s .args in
     let e = tour-front (now (a .tour)) (now (a .held)) _ (w .write-front .ensures) in
     let S =
-    stayed-of (given (now (a .distances)) (now (a .times)) (a .size) _ _ (termsOf s)) (a .customers) _ (now (a .tour)) e (top w .before .work-out-calls .ensures) _ (h .hold .result) _ _ (table _ _ _)
+    stayed-of (given (now (a .distances)) (now (a .times)) (a .size) _ _ (a .terms)) (a .customers) _ (now (a .tour)) e (top w .before .work-out-calls .ensures) _ (h .hold .result) _ _ (table _ _ _)
     (h .hold .ensures .0) in
     let r = c .read-back .ensures in (
       stayed-settled S (omega (arith, S .few, s .pre .0 .0)) (omega (arith, S .few, s .pre .1 .0, w .write-front .kept, h .hold .kept)) _ _ (r .0) (r .1),
