@@ -76,8 +76,8 @@
  *
  * ---- Refusals
  *
- * Each function returns 0, or the number of a refusal. What is said here of lizsomdur_plan and lizsomdur_mark is true of lizsomdur_plan_least and
- * lizsomdur_mark_least too. These are faults of the sheet:
+ * Each function returns 0, or the number of a refusal, which has a name (LIZSOMDUR_REFUSED_..) below. What is said here of lizsomdur_plan and
+ * lizsomdur_mark is true of lizsomdur_plan_least and lizsomdur_mark_least too. These are faults of the sheet:
  *
  *   11 a kind of word that may not stand here
  *    1 a number out of its range
@@ -105,8 +105,18 @@
  * ---- Memory
  *
  * No pointer may be NULL, not even with a length of 0. Whatever a function writes, lists and single numbers, may overlap neither what it reads nor
- * anything else that it writes. All doubles hold whole numbers, exactly. The functions keep no state and may be called from any number of threads;
- * they take no memory but the stack, of which 512 kB is enough.
+ * anything else that it writes. All doubles hold whole numbers, exactly. The functions keep no state: they have no memory of their own that is
+ * written, take none but the stack, and call nothing but memcpy, memset and the like.
+ *
+ *   threads   Any number of threads may call them at once, on the same sheet and lists too, as long as none writes what another reads or writes.
+ *   signals   A signal handler may call them, also where the signal came in the middle of a call, with memory of its own for what is written. A call
+ *             that is left for good (longjmp) may have written some of its answer.
+ *   stack     512 kB is enough for each function, in a thread and on a signal handler's own stack, there beside what the system puts on it. Measured
+ *             on the largest sheets, each takes less than half of that.
+ *   rounding  The answers are proved for rounding to nearest, with which a program starts. With each other rounding mode they are the same, and so
+ *             they are where the processor takes tiny numbers for zero: every sum is a whole number below 2^53, which needs no rounding, and all that
+ *             is rounded is a threshold far below 1 that whole numbers are held to. No function changes a mode. One may raise floating-point flags
+ *             (inexact, invalid) and clears none, so exceptions have to stay masked, as they are where no one has called feenableexcept or the like.
  *
  * ---- Version
  *
@@ -125,10 +135,10 @@ extern "C" {
 #endif
 
 /* The version of this header: its numbers, and the same as text. */
-#define LIZSOMDUR_VERSION_MAJOR 1
-#define LIZSOMDUR_VERSION_MINOR 1
+#define LIZSOMDUR_VERSION_MAJOR 2
+#define LIZSOMDUR_VERSION_MINOR 0
 #define LIZSOMDUR_VERSION_PATCH 0
-#define LIZSOMDUR_VERSION "1.1.0"
+#define LIZSOMDUR_VERSION "2.0.0"
 
 /* The most calls that a sheet has, and so the most runs of its plan: the room that each list of lizsomdur_plan needs. */
 #define LIZSOMDUR_TOUR 63
@@ -138,6 +148,21 @@ extern "C" {
 
 /* The value of the C and D words of a leg that can't be driven. */
 #define LIZSOMDUR_NO_ROAD 0x0FFFFFFF
+
+/* What a function returns in place of 0: the refusals by number, as told above. */
+enum {
+    LIZSOMDUR_REFUSED_OUT_OF_RANGE = 1,       /* a number out of range, more than 128 calls, or a call that is no customer */
+    LIZSOMDUR_REFUSED_OUT_OF_ORDER = 2,       /* ready above due, or earliest above latest */
+    LIZSOMDUR_REFUSED_WRONG_END = 3,          /* F counts wrongly, or something stands behind it */
+    LIZSOMDUR_REFUSED_LATENESS_PAY = 4,       /* lateness pay, on a sheet for an improver */
+    LIZSOMDUR_REFUSED_WRONG_RUNS = 5,         /* run ends that fall or miss the number of calls, or in a mark an empty run or a wrong break place */
+    LIZSOMDUR_REFUSED_WRONG_KIND = 11,        /* a kind that may not stand here */
+    LIZSOMDUR_REFUSED_NO_END = 12,            /* the words end before F */
+    LIZSOMDUR_REFUSED_LIST_TOO_SHORT = 13,    /* a lent list too short */
+    LIZSOMDUR_REFUSED_REPEATED_CUSTOMER = 21, /* a repeated customer, whom an earlier E word has called */
+    LIZSOMDUR_REFUSED_CLOSURES_DIFFER = 22,   /* distance and time disagree on closure */
+    LIZSOMDUR_REFUSED_CLOSED_LEG = 23         /* a closed leg, on a sheet for an improver */
+};
 
 /* Cuts the sheet's calls into legal runs, in their order, at least cost, with breaks by the clock.
  *

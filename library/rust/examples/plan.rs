@@ -1,5 +1,6 @@
-//! Prints the plan of the sheet on standard input: `cargo run --example plan < SHEET`.
-use lizsomdur::{plan, Plan};
+//! Prints the plan of the sheet on standard input, and the mark of the served calls driven as one run: `cargo run --example plan < SHEET`.
+use lizsomdur::{mark, plan, GivenRun, Plan};
+use std::error::Error;
 use std::io::{stdin, Read};
 use std::process::exit;
 
@@ -15,17 +16,26 @@ fn print(plan: &Plan) {
     println!("cost {} distance {}", plan.cost, plan.distance);
 }
 
-fn main() {
+fn plan_and_mark() -> Result<(), Box<dyn Error>> {
     let mut sheet = Vec::new();
-    if let Err(error) = stdin().read_to_end(&mut sheet) {
-        eprintln!("standard input: {error}");
-        exit(2);
+    stdin().read_to_end(&mut sheet)?;
+    let plan = plan(&sheet)?;
+    print(&plan);
+    let served: Vec<u8> = plan.runs.into_iter().flat_map(|run| run.calls).collect();
+    if !served.is_empty() {
+        let whole = GivenRun {
+            calls: &served,
+            break_place: None,
+        };
+        let verdict = mark(&sheet, &[whole])?;
+        println!("all in one run without a break: {verdict}");
     }
-    match plan(&sheet) {
-        Ok(plan) => print(&plan),
-        Err(refusal) => {
-            eprintln!("refused, {refusal:?}");
-            exit(1);
-        }
+    Ok(())
+}
+
+fn main() {
+    if let Err(error) = plan_and_mark() {
+        eprintln!("{error}");
+        exit(1);
     }
 }

@@ -1,11 +1,38 @@
 //! Safe calls of the proved route planner: a sheet's bytes go in, and a plan, a mark or better runs come out, or a refusal.
 //!
-//! What the functions mean, and how a sheet is written, is told in `lizsomdur.h` beside this package. As there, a customer, a break place and a position
-//! are a byte each.
+//! ```
+//! use lizsomdur::{mark, plan, Customer, GivenRun, Sheet, Verdict};
+//!
+//! // Two customers with two seats each, a bus with four, and a break that begins between 20 and 30.
+//! let sheet = Sheet::new()
+//!     .capacity(4)
+//!     .rest(20, 30, 4)
+//!     .customer(Customer::new(2))
+//!     .customer(Customer::new(2))
+//!     .distances([0, 10, 12, 10, 0, 5, 12, 5, 0])
+//!     .tour([1, 2])
+//!     .bytes();
+//! let best = plan(&sheet)?;
+//! assert_eq!((best.cost, &best.runs[0].calls[..]), (27, &[1, 2][..]));
+//!
+//! // Somebody's own runs: one call each, with the break at it.
+//! let own = [&[1], &[2]].map(|calls| GivenRun { calls, break_place: Some(1) });
+//! let verdict = mark(&sheet, &own)?;
+//! assert_eq!(verdict, Verdict::Dearer { by: 17 });
+//! assert_eq!(verdict.to_string(), "dearer by 17");
+//! # Ok::<(), lizsomdur::Refusal>(())
+//! ```
+//!
+//! What the functions mean, and what a sheet says, is told in `lizsomdur.h` beside this package. As there, a customer, a break place and a position
+//! are a byte each. [`Sheet`] writes the bytes of a sheet.
 mod raw;
+mod refusal;
+mod sheet;
 mod slices;
 mod verdict;
 
+pub use refusal::Refusal;
+pub use sheet::{Customer, Sheet};
 pub use verdict::Verdict;
 
 /// The package's version, which is that of `lizsomdur.h`.
@@ -29,15 +56,7 @@ pub enum Placement {
     Least,
 }
 
-/// Why nothing was answered, by the number that `lizsomdur.h` lists.
-#[derive(Clone, Copy, Debug, PartialEq, Eq)]
-pub struct Refusal {
-    pub number: u32,
-    /// The index of the bad word, from 0, where the sheet itself is at fault.
-    pub word: Option<usize>,
-}
-
-/// A run: its calls and, where it has one, its break.
+/// A run of a plan: its calls and, where it has one, its break.
 #[derive(Clone, Debug, PartialEq, Eq)]
 pub struct Run {
     pub calls: Vec<u8>,
@@ -50,6 +69,29 @@ pub struct Rest {
     /// The number of the call, from 1, before whose service it is taken.
     pub place: u8,
     pub start: u64,
+}
+
+/// A run to be marked, by all that a mark asks of it. A plan's [`Run`] can be given as it is: when its break starts follows from the rest.
+#[derive(Clone, Copy, Debug, PartialEq, Eq)]
+pub struct GivenRun<'a> {
+    pub calls: &'a [u8],
+    /// The number of the call, from 1, before whose service the break is taken; none, or 0, for no break.
+    pub break_place: Option<u8>,
+}
+
+impl<'a> From<&'a Run> for GivenRun<'a> {
+    fn from(run: &'a Run) -> GivenRun<'a> {
+        GivenRun {
+            calls: &run.calls,
+            break_place: run.rest.map(|rest| rest.place),
+        }
+    }
+}
+
+impl<'a> From<&'a GivenRun<'a>> for GivenRun<'a> {
+    fn from(run: &'a GivenRun<'a>) -> GivenRun<'a> {
+        *run
+    }
 }
 
 /// A sheet's calls, cut at least cost.
@@ -148,17 +190,28 @@ pub fn plan_by(placement: Placement, sheet: &[u8]) -> Result<Plan, Refusal> {
     })
 }
 
-/// Marks runs against those of `plan`; of a run's break only its place is read.
-pub fn mark(sheet: &[u8], runs: &[Run]) -> Result<Verdict, Refusal> {
+/// Marks runs, [`GivenRun`]s or those of a plan, against the runs of [`plan`].
+pub fn mark<'a, Given>(sheet: &[u8], runs: &'a [Given]) -> Result<Verdict, Refusal>
+where
+    &'a Given: Into<GivenRun<'a>>,
+{
     mark_by(Placement::Clock, sheet, runs)
 }
 
-/// The same against the runs of `plan_by` with this placement. With `Placement::Least` the verdict is never `Cheaper`.
-pub fn mark_by(placement: Placement, sheet: &[u8], runs: &[Run]) -> Result<Verdict, Refusal> {
-    let (calls, ends) = joined(runs.iter().map(|run| &run.calls[..]));
+/// The same against the runs of [`plan_by`] with this placement. With [`Placement::Least`] the verdict is never [`Verdict::Cheaper`].
+pub fn mark_by<'a, Given>(
+    placement: Placement,
+    sheet: &[u8],
+    runs: &'a [Given],
+) -> Result<Verdict, Refusal>
+where
+    &'a Given: Into<GivenRun<'a>>,
+{
+    let runs: Vec<GivenRun> = runs.iter().map(Into::into).collect();
+    let (calls, ends) = joined(runs.iter().map(|run| run.calls));
     let places: Vec<u8> = runs
         .iter()
-        .map(|run| run.rest.map_or(0, |rest| rest.place))
+        .map(|run| run.break_place.unwrap_or(0))
         .collect();
     let (mut word, mut verdict, mut values) = (NO_WORD, 0, [0.0; 5]);
     let number = slices::mark(

@@ -1,6 +1,14 @@
 //! What the marker says of a cutting.
+use std::error::Error;
+use std::fmt;
 
-/// Runs, places and positions are numbered from 1.
+/// What is said of a cutting: the first rule that it breaks or, where it breaks none, what it is worth. Runs, places and positions are numbered from 1.
+///
+/// ```
+/// let verdict = lizsomdur::Verdict::Overload { run: 2, load: 5, capacity: 4 };
+/// assert_eq!(verdict.number(), lizsomdur::Verdict::OVERLOAD);
+/// assert_eq!(verdict.to_string(), "overload in run 2: 5 over 4");
+/// ```
 #[derive(Clone, Copy, Debug, PartialEq, Eq)]
 pub enum Verdict {
     /// The calls differ from the planner's served customers, first at this position.
@@ -64,56 +72,152 @@ pub enum Verdict {
     },
 }
 
+/// The numbers of the verdicts, as in `lizsomdur.h`.
 impl Verdict {
+    pub const OTHER_CALLS: u32 = 1;
+    pub const OVERLOAD: u32 = 2;
+    pub const BREAK_TOO_LATE: u32 = 3;
+    pub const WINDOW_MISSED: u32 = 4;
+    pub const BREAK_MISSING: u32 = 5;
+    pub const TOO_FAR: u32 = 6;
+    pub const TOO_LONG: u32 = 7;
+    pub const BEST: u32 = 8;
+    pub const DEARER: u32 = 9;
+    pub const CHEAPER: u32 = 10;
+    pub const WHEELCHAIR_OVERLOAD: u32 = 11;
+    pub const ROAD_CLOSED: u32 = 12;
+
+    /// Its number.
+    pub fn number(&self) -> u32 {
+        match self {
+            Verdict::OtherCalls { .. } => Self::OTHER_CALLS,
+            Verdict::Overload { .. } => Self::OVERLOAD,
+            Verdict::BreakTooLate { .. } => Self::BREAK_TOO_LATE,
+            Verdict::WindowMissed { .. } => Self::WINDOW_MISSED,
+            Verdict::BreakMissing { .. } => Self::BREAK_MISSING,
+            Verdict::TooFar { .. } => Self::TOO_FAR,
+            Verdict::TooLong { .. } => Self::TOO_LONG,
+            Verdict::Best => Self::BEST,
+            Verdict::Dearer { .. } => Self::DEARER,
+            Verdict::Cheaper { .. } => Self::CHEAPER,
+            Verdict::WheelchairOverload { .. } => Self::WHEELCHAIR_OVERLOAD,
+            Verdict::RoadClosed { .. } => Self::ROAD_CLOSED,
+        }
+    }
+
     /// The verdict of that number in `lizsomdur.h`, with its values.
     pub(crate) fn from_number(number: u32, values: [u64; 5]) -> Verdict {
         let [a, b, c, d, e] = values;
         match number {
-            1 => Verdict::OtherCalls { position: a },
-            2 => Verdict::Overload {
+            Self::OTHER_CALLS => Verdict::OtherCalls { position: a },
+            Self::OVERLOAD => Verdict::Overload {
                 run: a,
                 load: b,
                 capacity: c,
             },
-            3 => Verdict::BreakTooLate {
+            Self::BREAK_TOO_LATE => Verdict::BreakTooLate {
                 run: a,
                 place: b,
                 customer: c,
                 start: d,
                 latest: e,
             },
-            4 => Verdict::WindowMissed {
+            Self::WINDOW_MISSED => Verdict::WindowMissed {
                 run: a,
                 place: b,
                 customer: c,
                 readiness: d,
                 due: e,
             },
-            5 => Verdict::BreakMissing {
+            Self::BREAK_MISSING => Verdict::BreakMissing {
                 run: a,
                 duration: b,
                 earliest: c,
             },
-            6 => Verdict::TooFar {
+            Self::TOO_FAR => Verdict::TooFar {
                 run: a,
                 distance: b,
                 limit: c,
             },
-            7 => Verdict::TooLong {
+            Self::TOO_LONG => Verdict::TooLong {
                 run: a,
                 duration: b,
                 limit: c,
             },
-            8 => Verdict::Best,
-            9 => Verdict::Dearer { by: a },
-            10 => Verdict::Cheaper { by: a },
-            11 => Verdict::WheelchairOverload {
+            Self::BEST => Verdict::Best,
+            Self::DEARER => Verdict::Dearer { by: a },
+            Self::CHEAPER => Verdict::Cheaper { by: a },
+            Self::WHEELCHAIR_OVERLOAD => Verdict::WheelchairOverload {
                 run: a,
                 load: b,
                 capacity: c,
             },
-            12 => Verdict::RoadClosed { run: a, leg: b },
+            Self::ROAD_CLOSED => Verdict::RoadClosed { run: a, leg: b },
             _ => unreachable!("the library has twelve verdicts"),
         }
     }
 }
+
+impl fmt::Display for Verdict {
+    fn fmt(&self, f: &mut fmt::Formatter) -> fmt::Result {
+        use Verdict::*;
+        match *self {
+            OtherCalls { position } => write!(f, "other calls at position {position}"),
+            Overload {
+                run,
+                load,
+                capacity,
+            } => write!(f, "overload in run {run}: {load} over {capacity}"),
+            BreakTooLate {
+                run,
+                place,
+                customer,
+                start,
+                latest,
+            } => write!(
+                f,
+                "break too late in run {run} at call {place}, customer {customer}: {start} after {latest}"
+            ),
+            WindowMissed {
+                run,
+                place,
+                customer,
+                readiness,
+                due,
+            } => write!(
+                f,
+                "window missed in run {run} at call {place}, customer {customer}: {readiness} after {due}"
+            ),
+            BreakMissing {
+                run,
+                duration,
+                earliest,
+            } => write!(
+                f,
+                "break missing in run {run}: {duration} not before {earliest}"
+            ),
+            TooFar {
+                run,
+                distance,
+                limit,
+            } => write!(f, "too far in run {run}: {distance} over {limit}"),
+            TooLong {
+                run,
+                duration,
+                limit,
+            } => write!(f, "too long in run {run}: {duration} over {limit}"),
+            Best => write!(f, "best"),
+            Dearer { by } => write!(f, "dearer by {by}"),
+            Cheaper { by } => write!(f, "cheaper by {by}"),
+            WheelchairOverload {
+                run,
+                load,
+                capacity,
+            } => write!(f, "wheelchair overload in run {run}: {load} over {capacity}"),
+            RoadClosed { run, leg } => write!(f, "road closed in run {run}, leg {leg}"),
+        }
+    }
+}
+
+/// So that a program can hand on a fault as its own error.
+impl Error for Verdict {}

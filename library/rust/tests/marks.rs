@@ -2,97 +2,17 @@
 mod common;
 use common::recorded_marks::{recorded_marks, wrong_marks, Recorded};
 use common::worked::{marked, of_closed};
-use common::{kept, runs, PLACEMENTS};
-use lizsomdur::{mark, mark_by, Placement, Refusal, Run, Verdict};
-
-/// A fault with what clashes, as that program says it.
-fn fault(
-    what: &str,
-    run: u64,
-    call: Option<[u64; 2]>,
-    value: u64,
-    clash: &str,
-    limit: u64,
-) -> String {
-    let call = call.map_or(String::new(), |[place, customer]| {
-        format!(" at call {place}, customer {customer}")
-    });
-    format!("{what} in run {run}{call}: {value} {clash} {limit}")
-}
-
-/// A verdict as that program says it.
-fn said(verdict: Verdict) -> String {
-    use Verdict::*;
-    match verdict {
-        OtherCalls { position } => format!("other calls at position {position}"),
-        Overload {
-            run,
-            load,
-            capacity,
-        } => fault("overload", run, None, load, "over", capacity),
-        WheelchairOverload {
-            run,
-            load,
-            capacity,
-        } => fault("wheelchair overload", run, None, load, "over", capacity),
-        RoadClosed { run, leg } => format!("road closed in run {run}, leg {leg}"),
-        BreakTooLate {
-            run,
-            place,
-            customer,
-            start,
-            latest,
-        } => fault(
-            "break too late",
-            run,
-            Some([place, customer]),
-            start,
-            "after",
-            latest,
-        ),
-        WindowMissed {
-            run,
-            place,
-            customer,
-            readiness,
-            due,
-        } => fault(
-            "window missed",
-            run,
-            Some([place, customer]),
-            readiness,
-            "after",
-            due,
-        ),
-        BreakMissing {
-            run,
-            duration,
-            earliest,
-        } => fault("break missing", run, None, duration, "not before", earliest),
-        TooFar {
-            run,
-            distance,
-            limit,
-        } => fault("too far", run, None, distance, "over", limit),
-        TooLong {
-            run,
-            duration,
-            limit,
-        } => fault("too long", run, None, duration, "over", limit),
-        Best => "best".to_string(),
-        Dearer { by } => format!("dearer by {by}"),
-        Cheaper { by } => format!("cheaper by {by}"),
-    }
-}
+use common::{given, runs, text, PLACEMENTS};
+use lizsomdur::{mark, mark_by, GivenRun, Placement, Refusal, Verdict};
 
 #[test]
 fn marks_are_those_of_the_proved_program() {
-    let proved = std::fs::read_to_string(kept("crates/test_marks/stdout")).expect("the marks");
+    let proved = text("crates/test_marks/stdout");
     let said: String = marked()
         .iter()
         .map(|cut| {
             let verdict = mark(&cut.sheet, &runs(&cut.runs)).expect("accepted runs");
-            format!("{}: {}\n", cut.name, said(verdict))
+            format!("{}: {verdict}\n", cut.name)
         })
         .collect();
     assert_eq!(said, proved);
@@ -102,38 +22,19 @@ fn marks_are_those_of_the_proved_program() {
 fn a_closed_leg_is_the_only_fault_of_its_run() {
     for (cut, expected) in of_closed() {
         let verdict = mark(&cut.sheet, &runs(&cut.runs)).expect("accepted runs");
-        assert_eq!(said(verdict), expected, "{}", cut.name);
+        assert_eq!(verdict.to_string(), expected, "{}", cut.name);
     }
 }
 
-/// In the order of their numbers.
-const NAMES: [&str; 12] = [
-    "OtherCalls",
-    "Overload",
-    "BreakTooLate",
-    "WindowMissed",
-    "BreakMissing",
-    "TooFar",
-    "TooLong",
-    "Best",
-    "Dearer",
-    "Cheaper",
-    "WheelchairOverload",
-    "RoadClosed",
-];
-
-/// The number and the values of a verdict, by its name and the numbers that are shown with it.
+/// The number and the values of a verdict: the numbers that are shown with it.
 fn numbered(verdict: Verdict) -> (u32, Vec<u64>) {
     let shown = format!("{verdict:?}");
-    let mut words = shown.split([' ', ',']);
-    let name = words.next().expect("a name");
-    let number = NAMES.iter().position(|&known| known == name);
-    let values = words.filter_map(|word| word.parse().ok());
-    (number.expect("a verdict") as u32 + 1, values.collect())
+    let values = shown.split([' ', ',']).filter_map(|word| word.parse().ok());
+    (verdict.number(), values.collect())
 }
 
 /// The runs of a question whose lists are those of runs, perhaps empty ones.
-fn given(question: &Recorded) -> Option<Vec<Run>> {
+fn cut(question: &Recorded) -> Option<Vec<GivenRun<'_>>> {
     let Recorded {
         calls,
         ends,
@@ -145,13 +46,13 @@ fn given(question: &Recorded) -> Option<Vec<Run>> {
     let parts = starts.iter().zip(&ends).map(|(&a, &b)| calls.get(a..b));
     let parts: Vec<&[u8]> = parts.collect::<Option<_>>()?;
     let whole = starts.last() == Some(&calls.len()) && places.len() >= ends.len();
-    let cut: Vec<_> = parts.into_iter().zip(places.iter().copied()).collect();
-    whole.then(|| runs(&cut))
+    let runs = parts.into_iter().zip(places);
+    whole.then(|| runs.map(|(calls, &place)| given(calls, place)).collect())
 }
 
 /// What the library says of a question that can be asked by runs.
 fn asked(placement: Placement, question: &Recorded) -> Option<Result<(u32, Vec<u64>), Refusal>> {
-    let runs = given(question)?;
+    let runs = cut(question)?;
     Some(mark_by(placement, &question.sheet, &runs).map(numbered))
 }
 

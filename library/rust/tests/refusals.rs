@@ -4,7 +4,7 @@ use common::faulty::faulty;
 use common::sheets::Sheet;
 use common::worked::{base, with_break, with_closed, with_window};
 use common::{runs, sample, PLACEMENTS};
-use lizsomdur::{eliminate, mark_by, plan_by, reverse, Refusal};
+use lizsomdur::{eliminate, mark_by, plan_by, reverse, GivenRun, Refusal};
 
 fn refused<T>(number: u32, word: impl Into<Option<usize>>) -> Result<T, Refusal> {
     Err(Refusal {
@@ -18,7 +18,8 @@ fn bad_words_are_named() {
     for (sheet, number, word) in faulty() {
         for placement in PLACEMENTS {
             assert_eq!(plan_by(placement, &sheet), refused(number, word));
-            assert_eq!(mark_by(placement, &sheet, &[]), refused(number, word));
+            let none: [GivenRun; 0] = [];
+            assert_eq!(mark_by(placement, &sheet, &none), refused(number, word));
         }
         assert_eq!(reverse(&sheet, &[]), refused(number, word));
         assert_eq!(eliminate(&sheet, &[]), refused(number, word));

@@ -1,11 +1,7 @@
 //! The package's version, beside that of the header and the newest in the change log.
 mod common;
-use common::kept;
+use common::text;
 use lizsomdur::VERSION;
-
-fn text(path: &str) -> String {
-    std::fs::read_to_string(kept(path)).expect("a text of the repository")
-}
 
 /// What stands behind the first of these words that begins a line.
 fn behind(text: &str, words: &str) -> String {

@@ -6,7 +6,7 @@ pub mod recorded_marks;
 pub mod sheets;
 pub mod worked;
 
-use lizsomdur::{Placement, Rest, Run};
+use lizsomdur::{GivenRun, Placement};
 use std::path::{Path, PathBuf};
 
 pub const PLACEMENTS: [Placement; 2] = [Placement::Clock, Placement::Least];
@@ -16,6 +16,11 @@ pub fn kept(path: &str) -> PathBuf {
     Path::new(env!("CARGO_MANIFEST_DIR"))
         .join("../..")
         .join(path)
+}
+
+/// A text of the repository.
+pub fn text(path: &str) -> String {
+    std::fs::read_to_string(kept(path)).expect("a text of the repository")
 }
 
 /// A sample sheet.
@@ -101,14 +106,16 @@ pub fn with_tour(sheet: &[u8], calls: &[u8]) -> Vec<u8> {
 }
 
 /// Runs to be marked, by their calls and break places.
-pub fn runs<Calls: AsRef<[u8]>>(runs: &[(Calls, u8)]) -> Vec<Run> {
+pub fn runs<Calls: AsRef<[u8]>>(runs: &[(Calls, u8)]) -> Vec<GivenRun<'_>> {
     runs.iter()
-        .map(|(calls, place)| Run {
-            calls: calls.as_ref().to_vec(),
-            rest: (*place > 0).then_some(Rest {
-                place: *place,
-                start: 0,
-            }),
-        })
+        .map(|(calls, place)| given(calls.as_ref(), *place))
         .collect()
+}
+
+/// A run to be marked, by its calls and its break place.
+pub fn given(calls: &[u8], place: u8) -> GivenRun<'_> {
+    GivenRun {
+        calls,
+        break_place: (place > 0).then_some(place),
+    }
 }

@@ -279,10 +279,13 @@ fn the_largest_run_end_is_written_at_the_front() {
     }
 }
 
+/// A sheet, calls and run ends, the room of the two result lists, and the number of the refusal.
+type Eliminating<'a> = (&'a [u8], List<'a>, List<'a>, [usize; 2], u32);
+
 /// Rows with several faults show which is told: 13 before 1 before 5 before 4 before 23.
 #[test]
 fn refused_runs_of_an_elimination_leave_everything() {
-    let table: [(&[u8], List, List, [usize; 2], u32); 18] = [
+    let table: [Eliminating; 18] = [
         (&paying(), &[9, 2], &[2, 1], [1, 2], 13),
         (&paying(), &[9, 2], &[2, 1], [2, 1], 13),
         (&paying(), &[9, 2], &[2, 1], [2, 2], 1),
