@@ -15,7 +15,7 @@ use Rattle.models.specs.Records.{customerOf}
 use Rattle.evaluation.specs.Records as Evaluation
 use Rattle.evaluation.specs.Records.{limitsOf}
 use Rattle.models.specs.declared.placement.Placement.the-variants.{Clock}
-use Rattle.cut_rows.specs.Runs.{Instance, lent}
+use Rattle.cut_runs.specs.Runs.{Instance, lent}
 use Rattle.improve_base.specs.declared.search.Search.{Search}
 use Rattle.improve_base.specs.Search.{SearchF, searchOf, searchF}
 use Rattle.place_choice.specs.Insertion.{GivenF, lentGiven}

@@ -14,7 +14,7 @@ use Rattle.definitions.specs.Reader.{sheet, refusedAt, read}
 use Rattle.bounds.proofs.Inside.{few-tour}
 use Rattle.evaluation.specs.Records.{LimitsF}
 use Rattle.models.specs.declared.placement.Placement.the-variants.{Clock}
-use Rattle.cut_rows.specs.Runs.{Instance}
+use Rattle.cut_runs.specs.Runs.{Instance}
 use Rattle.cut_exact.proofs.Exact.{below-64}
 use Rattle.sheet_loaded.specs.declared.load.Loaded.{Loaded}
 use Rattle.sheet_loaded.specs.Loaded.{Arrays, Holds}

@@ -16,7 +16,7 @@ use Rattle.sheet_read.specs.Parts.{depots}
 use Rattle.cut_stops.specs.Stops.{Below64}
 use Rattle.models.specs.declared.placement.Placement.{Placement}
 use Rattle.models.specs.declared.placement.Placement.the-variants.{Clock}
-use Rattle.cut_rows.specs.Runs.{Instance, lent}
+use Rattle.cut_runs.specs.Runs.{Instance, lent}
 use Rattle.split_tw.specs.SplitTw.{splitTwF}
 use Rattle.split.specs.Bare.{bareOf}
 use Rattle.improve_base.specs.Leg.{shut}

@@ -13,7 +13,7 @@ use Rattle.whole.specs.Value.{value}
 use Rattle.models.specs.declared.customer.Customer.{Customer}
 use Rattle.refuse_order.specs.Lent.{sheetOf, lentOf, Gathered}
 use Rattle.placements.specs.Chosen.{placementOf}
-use Rattle.cut_rows.specs.Runs.{Instance}
+use Rattle.cut_runs.specs.Runs.{Instance}
 use Rattle.split_tw.specs.SplitTw.{splitTwF}
 use Rattle.cut_exact.proofs.Image.{flResult}
 use Rattle.cut_exact.proofs.SplitTwExact.{ImageTw}

@@ -8,7 +8,7 @@ use Rattle.definitions.specs.Bytes.{stored}
 use Rattle.models.specs.declared.customer.Customer.{Customer}
 use Rattle.models.specs.declared.head.Head.{Head}
 use Rattle.models.specs.declared.placement.Placement.{Placement}
-use Rattle.cut_rows.specs.Runs.{Instance, lent}
+use Rattle.cut_runs.specs.Runs.{Instance, lent}
 use Rattle.split.specs.Split.{bareLent}
 use Rattle.split_tw.specs.Answer.{ResultF, Counted}
 use Rattle.split_tw.specs.declared.answer.SplitResult.{SplitResult}

@@ -13,8 +13,8 @@ use Rattle.cut_theory.specs.Tab.{mostCut, cells}
 use Rattle.cut_table.specs.Table.{Table}
 use Rattle.evaluation.specs.Records.{Tables}
 use Rattle.cut_stops.specs.Stops.{StopsOf, LegsAre}
-use Rattle.cut_rows.specs.Tariff.{Tariff, stretches, legalOf, runsOf, farsOf, Ended}
-use Rattle.cut_rows.specs.Runs.{Instance, tariff, RowLists}
+use Rattle.cut_runs.specs.Tariff.{Tariff, stretches, legalOf, runsOf, farsOf, Ended}
+use Rattle.cut_runs.specs.Runs.{Instance, tariff, RowLists}
 use Rattle.cut_drops.specs.Refill.{Rows, TableCleared, Reached, NotedRow, ReachedBelow, EarlyBelow, Noted, Refilled}
 use Rattle.cut_drops.proofs.Refilling.{Refilling, refill-begins, refill-ends, refill-row, refill-passed}
 

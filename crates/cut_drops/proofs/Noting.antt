@@ -16,9 +16,9 @@ use Rattle.evaluation.specs.Records.{Tables}
 use Rattle.evaluation.specs.Tables.{legF}
 use Rattle.cut_table.specs.Table.{Table}
 use Rattle.cut_stops.specs.Stops.{StopsOf, LegLists, LegsBy, LegsAre, LegsWritten}
-use Rattle.cut_rows.specs.Tariff.{Tariff, TableOf}
-use Rattle.cut_rows.specs.Runs.{Instance, tariff, RowLists, Rowed}
-use Rattle.cut_rows.proofs.Along.{held-row}
+use Rattle.cut_runs.specs.Tariff.{Tariff, TableOf}
+use Rattle.cut_runs.specs.Runs.{Instance, tariff, RowLists, Rowed}
+use Rattle.cut_runs.proofs.Along.{held-row}
 use Rattle.cut_drops.specs.Refill.{Rows, RowsLong, NotedRow, FrontOf, ReachedBelow, EarlyBelow, LegsTo, Listed, Noted, Refilled}
 
 -- ---- the legs of the calls held

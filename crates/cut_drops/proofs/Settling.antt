@@ -31,12 +31,12 @@ use Rattle.cut_table.specs.Table.{Calls, DropCall}
 use Rattle.cut_table.proofs.Writing.{front-written}
 use Rattle.cut_table.proofs.Holding.{Holding, all-holding, call-goes}
 use Rattle.cut_stops.specs.Stops.{Below64, LegLists, LegsLong, LegsBy, LegsAre, Numbers, stopIn, stopAt, StopsOf}
-use Rattle.cut_rows.specs.Tariff.{stretches, runsOf, farsOf, TableOf}
-use Rattle.cut_rows.specs.Runs.{Instance, tariff}
+use Rattle.cut_runs.specs.Tariff.{stretches, runsOf, farsOf, TableOf}
+use Rattle.cut_runs.specs.Runs.{Instance, tariff}
 use Rattle.cut_drops.specs.Drops.{haveF, stuckF, dropFromF, dropsF}
 use Rattle.cut_drops.specs.Refill.{Rows, RowsLong, LegsTo, NotedRow, FrontOf, EarlyBelow, Work, work, Filled, Stayed}
-use Rattle.cut_rows.proofs.Alike.{call-alike, place-alike}
-use Rattle.cut_rows.proofs.Local.{tariff-local, steps-alike, fars-alike, ended-alike}
+use Rattle.cut_runs.proofs.Alike.{call-alike, place-alike}
+use Rattle.cut_runs.proofs.Local.{tariff-local, steps-alike, fars-alike, ended-alike}
 use Rattle.cut_drops.proofs.Noting.{legs-whole, noted-long}
 use Rattle.cut_drops.proofs.Refilling.{cost-same, front-same}
 use Rattle.cut_drops.proofs.Again.{reached-more}
@@ -180,12 +180,12 @@ pub record Roomy (tour held₀ dropped₀ : List ℕ) (n i : ℕ) (x : Calls) : 
 
 module _ (I : Instance) (tour : List ℕ) where
   -- one turn, by the place that is stuck
-  drop-none : (n : ℕ) (h : Held) → stuckF I (callsAt tour (h .held)) ≡ none → dropFromF I tour n h ≡ h
+  pub drop-none : (n : ℕ) (h : Held) → stuckF I (callsAt tour (h .held)) ≡ none → dropFromF I tour n h ≡ h
   unfolding dropFromF
   drop-none zero h e = refl
   drop-none (suc n) h e = rw (e, dropFromF)
 
-  drop-some : (n k : ℕ) (h : Held) → 0 < n → stuckF I (callsAt tour (h .held)) ≡ some k
+  pub drop-some : (n k : ℕ) (h : Held) → 0 < n → stuckF I (callsAt tour (h .held)) ≡ some k
       → dropFromF I tour n h ≡ dropFromF I tour (n - 1) (dropAt k h)
   unfolding dropFromF
   drop-some zero k h b e = absurd (clash b)

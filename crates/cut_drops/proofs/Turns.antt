@@ -16,8 +16,8 @@ use Rattle.evaluation.specs.Records.{Tables}
 use Rattle.models.specs.declared.customer.Customer.{Customer}
 use Rattle.cut_stops.specs.Stops.{LegLists, LegsAre, LegsWritten}
 use Rattle.cut_table.specs.Table.{Calls, DropCall}
-use Rattle.cut_rows.specs.Tariff.{stretches, runsOf, farsOf}
-use Rattle.cut_rows.specs.Runs.{Instance, over, tariff, RowLists}
+use Rattle.cut_runs.specs.Tariff.{stretches, runsOf, farsOf}
+use Rattle.cut_runs.specs.Runs.{Instance, over, tariff, RowLists}
 use Rattle.cut_drops.specs.Drops.{haveF}
 use Rattle.cut_drops.specs.Refill.{Rows, RowsLong, NotedRow, Noted, Refilled, Given, legsGiven, tablesWith, instanceWith, ListsOf, SomeLists, Work, work, Filled, Turned, RowOrDrop, Unfilled, StuckReady, Holds}
 use Rattle.cut_drops.proofs.Noting.{noted-long, legs-joined, noted-at, refilled-at}

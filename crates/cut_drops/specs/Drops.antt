@@ -9,8 +9,8 @@ use Rattle.cut_theory.specs.Cut.{best}
 use Rattle.cut_theory.specs.Rows.{rule64}
 use Rattle.cut_theory.specs.Drop as Dropping
 use Rattle.definitions.specs.Drop.{callsAt, Held, dropAt, allHeld}
-use Rattle.cut_rows.specs.Tariff.{runsOf, stretches}
-use Rattle.cut_rows.specs.Runs.{Instance, tariff}
+use Rattle.cut_runs.specs.Tariff.{runsOf, stretches}
+use Rattle.cut_runs.specs.Runs.{Instance, tariff}
 
 module _ (I : Instance) where
   -- whether the first j of the calls held have a cutting

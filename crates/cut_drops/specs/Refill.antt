@@ -23,9 +23,9 @@ use Rattle.models.specs.declared.customer.Customer.{Customer}
 use Rattle.evaluation.specs.Records as Records
 use Rattle.evaluation.specs.Records.{Tables}
 use Rattle.cut_stops.specs.Stops.{Numbers, numbers, StopsOf, Below64, LegLists, LegsLong, LegIs, LegsAre}
-use Rattle.cut_rows.specs.Tariff.{Tariff, stretches, runsOf, farsOf, TableOf, HeldRow, Ended}
-use Rattle.cut_rows.specs.declared.terms.Terms.{Terms}
-use Rattle.cut_rows.specs.Runs.{Instance, over, tariff, RowLists, RowReady}
+use Rattle.cut_runs.specs.Tariff.{Tariff, stretches, runsOf, farsOf, TableOf, HeldRow, Ended}
+use Rattle.cut_runs.specs.declared.terms.Terms.{Terms}
+use Rattle.cut_runs.specs.Runs.{Instance, over, tariff, RowLists, RowReady}
 use Rattle.cut_drops.specs.Drops.{haveF, dropsF}
 
 -- ---- the rows of the calls held

@@ -1,9 +1,9 @@
 // The rows of the calls held, each noted where it ended, and filled again after a call was dropped.
 ghost use Rattle.cut_table.specs.Table.{table, Sized};
-ghost use Rattle.cut_rows.specs.Runs.{over, rowLists};
+ghost use Rattle.cut_runs.specs.Runs.{over, rowLists};
 ghost use Rattle.cut_drops.specs.Refill.{rows, NoteReady, TableCleared, Listed, Noted, Refilled};
 use cut_rows::rows::row;
-use cut_rows::terms::Terms;
+use cut_runs::terms::Terms;
 use cut_table::cells::CELLS;
 use whole::infinity;
 

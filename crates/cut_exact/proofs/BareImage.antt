@@ -11,7 +11,7 @@ use Rattle.models.specs.declared.load.Space.{Space}
 use Rattle.models.specs.declared.limits.RouteLimits.{RouteLimits}
 use Rattle.models.specs.Image.{flCustomer}
 use Rattle.models.specs.declared.placement.Placement.{Placement}
-use Rattle.cut_rows.specs.Runs.{bareF, lent}
+use Rattle.cut_runs.specs.Runs.{bareF, lent}
 use Rattle.split.specs.Split.{bareLent}
 use Rattle.cut_exact.proofs.SplitTwExact.{ImageTw}
 

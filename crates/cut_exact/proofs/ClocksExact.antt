@@ -44,10 +44,10 @@ use Rattle.evaluation.specs.Tables.{recordF, legF, placeBefore}
 use Rattle.evaluation.specs.Image.{Image}
 use Rattle.evaluation.proofs.ClockExact.{record-exact, leg-exact, tick-exact}
 use Rattle.evaluation.proofs.RouteExact.{plain-clock}
-use Rattle.cut_rows.specs.declared.rows.Elapsed.{Elapsed}
-use Rattle.cut_rows.specs.Stretch.{joinedF, wayOf}
-use Rattle.cut_rows.specs.Runs.{chargeF, enterF, visitF, timedOf, clockOf, End, endOf, backOf}
-use Rattle.cut_rows.proofs.Clocks.{ended, end-closed, end-finished}
+use Rattle.cut_runs.specs.declared.visit.Elapsed.{Elapsed}
+use Rattle.cut_runs.specs.Stretch.{joinedF, wayOf}
+use Rattle.cut_runs.specs.Runs.{chargeF, enterF, visitF, timedOf, clockOf, End, endOf, backOf}
+use Rattle.cut_runs.proofs.Clocks.{ended, end-closed, end-finished}
 use Rattle.cut_exact.proofs.StretchExact.{gone, place-last, has-gone, place-inside, way-exact}
 
 -- before the first call

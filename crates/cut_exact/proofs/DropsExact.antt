@@ -24,7 +24,7 @@ use Rattle.theorems.proofs.Least.{best-of, best-reach}
 use Rattle.theorems.proofs.Shortest.{Cuttable, Stuck, never, at-call, stuck-is}
 use Rattle.evaluation.specs.Tables.{demandF}
 use Rattle.placements.specs.Chosen.{placementOf}
-use Rattle.cut_rows.specs.Runs.{Instance}
+use Rattle.cut_runs.specs.Runs.{Instance}
 use Rattle.cut_drops.specs.Drops.{haveF, stuckF, dropFromF, dropsF}
 use Rattle.cut_exact.proofs.TableExact.{has-exact}
 use Rattle.cut_exact.proofs.SplitTwExact.{ImageTw, X, run-is}

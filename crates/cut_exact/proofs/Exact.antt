@@ -29,8 +29,8 @@ use Rattle.whole.specs.Whole.{fl}
 use Rattle.evaluation.proofs.ClockExact.{demand-exact}
 use Rattle.placements.specs.Chosen.{placementOf}
 use Rattle.cut_stops.specs.Stops.{Below64}
-use Rattle.cut_rows.specs.Tariff.{endsF, costF, distanceF}
-use Rattle.cut_rows.specs.Runs.{Instance, tariff}
+use Rattle.cut_runs.specs.Tariff.{endsF, costF, distanceF}
+use Rattle.cut_runs.specs.Runs.{Instance, tariff}
 use Rattle.split_tw.specs.Answer.{ResultF, planF}
 use Rattle.split_tw.specs.SplitTw.{splitTwF}
 use Rattle.cut_exact.proofs.Image.{flResult}

@@ -42,9 +42,9 @@ use Rattle.evaluation.specs.Image.{flLimits, Image}
 use Rattle.evaluation.proofs.ClockExact.{leg-exact, carry-exact}
 use Rattle.evaluation.proofs.RouteExact.{joined}
 use Rattle.placements.proofs.PickExact.{kept-exact, ridden-fits, least-exact}
-use Rattle.cut_rows.specs.Places as Places
-use Rattle.cut_rows.specs.Stretch.{wayOf}
-use Rattle.cut_rows.specs.Places.{hereF, homeOf, leastTo, leastOf}
+use Rattle.cut_runs.specs.Places as Places
+use Rattle.cut_runs.specs.Stretch.{wayOf}
+use Rattle.cut_runs.specs.Places.{hereF, homeOf, leastTo, leastOf}
 use Rattle.cut_exact.proofs.StretchExact.{place-inside}
 use Rattle.cut_exact.proofs.ClocksExact.{after, after-early, after-more, home-through}
 

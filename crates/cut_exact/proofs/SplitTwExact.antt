@@ -36,10 +36,10 @@ use Rattle.evaluation.proofs.ClockExact.{leg-exact}
 use Rattle.evaluation.proofs.RouteExact.{small-limit}
 use Rattle.evaluation.specs.Tables.{demandF}
 use Rattle.placements.specs.Chosen.{placementOf}
-use Rattle.cut_rows.specs.Stretch.{fitsOf}
-use Rattle.cut_rows.specs.Tariff.{legalOf, runsOf, stretches}
-use Rattle.cut_rows.specs.Runs.{Instance, End, endOf, leastEnd, endBy, endIn, allowedF, payF, tariff}
-use Rattle.cut_rows.proofs.Placing.{asEnd, least-end}
+use Rattle.cut_runs.specs.Stretch.{fitsOf}
+use Rattle.cut_runs.specs.Tariff.{legalOf, runsOf, stretches}
+use Rattle.cut_runs.specs.Runs.{Instance, End, endOf, leastEnd, endBy, endIn, allowedF, payF, tariff}
+use Rattle.cut_runs.proofs.Placing.{asEnd, least-end}
 use Rattle.cut_exact.proofs.StretchExact.{fits-exact}
 use Rattle.cut_exact.proofs.ClocksExact.{flEnd, end-exact}
 use Rattle.cut_exact.proofs.PlacesExact.{least-of-exact}

@@ -26,7 +26,7 @@ use Rattle.whole.proofs.WholeLaws.{fl-sum}
 use Rattle.distance.specs.declared.leg.Leg as Float
 use Rattle.distance.proofs.Exact.{flLeg}
 use Rattle.evaluation.specs.Tables.{placeBefore}
-use Rattle.cut_rows.specs.Stretch.{joinedF, loadTo, fitsOf, goneOf, wayOf}
+use Rattle.cut_runs.specs.Stretch.{joinedF, loadTo, fitsOf, goneOf, wayOf}
 
 -- one call more at the end of a run
 last-snoc : (a : ℕ) (l : List ℕ) (c : ℕ) → lastOf a (l ++ (c ∷ [])) ≡ c

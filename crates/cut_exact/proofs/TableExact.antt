@@ -37,7 +37,7 @@ use Rattle.whole.proofs.WholeLaws.{fl-is, fl-sum, fl-lt}
 use Rattle.whole.proofs.Bits.{fl-zero}
 use Rattle.whole.proofs.InfinityLaws.{is-lt-inf}
 use Rattle.distance.proofs.Exact.{flLeg}
-use Rattle.cut_rows.specs.Tariff.{Tariff, farOf, priceOf, runsOf, farsOf, stretches, endsF, costF, distanceF}
+use Rattle.cut_runs.specs.Tariff.{Tariff, farOf, priceOf, runsOf, farsOf, stretches, endsF, costF, distanceF}
 use Rattle.cut_exact.proofs.StretchExact.{way-exact}
 use Rattle.cut_exact.proofs.SameTable.{Same, SameCarry, best-same, carried-to-same}
 

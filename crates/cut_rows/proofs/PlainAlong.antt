@@ -16,16 +16,16 @@ use Rattle.distance.specs.Lookup.{roadF}
 use Rattle.evaluation.specs.Tables.{legF, placeBefore}
 use Rattle.definitions.specs.Load.{Load, plus, carried}
 use Rattle.cut_stops.specs.Stops.{StopF}
-use Rattle.cut_rows.specs.declared.rows.Elapsed.{Elapsed}
-use Rattle.cut_rows.specs.Stretch.{joinedF}
-use Rattle.cut_rows.specs.Tariff.{RowOf, Ended}
-use Rattle.cut_rows.specs.Runs.{Instance, tariff, visitF, timedOf, End, endIn, allowedF}
-use Rattle.cut_rows.proofs.Along.{Row, Along, OneMore, stopped, far-is, over, onward, vain}
-use Rattle.cut_rows.proofs.Roads.{home-closed}
-use Rattle.cut_rows.proofs.Clocks.{plain-end, not-ended, allowed-is, pay-is, timed-more, end-timed}
-use Rattle.cut_rows.proofs.Placing.{closed-end}
-use Rattle.cut_rows.proofs.Ends.{shut-over}
-use Rattle.cut_rows.proofs.Calls.{CallIs, leg-open, by-home}
+use Rattle.cut_runs.specs.declared.visit.Elapsed.{Elapsed}
+use Rattle.cut_runs.specs.Stretch.{joinedF}
+use Rattle.cut_runs.specs.Tariff.{RowOf, Ended}
+use Rattle.cut_runs.specs.Runs.{Instance, tariff, visitF, timedOf, End, endIn, allowedF}
+use Rattle.cut_runs.proofs.Along.{Row, Along, OneMore, stopped, far-is, over, onward, vain}
+use Rattle.cut_runs.proofs.Roads.{home-closed}
+use Rattle.cut_runs.proofs.Clocks.{plain-end, not-ended, allowed-is, pay-is, timed-more, end-timed}
+use Rattle.cut_runs.proofs.Placing.{closed-end}
+use Rattle.cut_runs.proofs.Ends.{shut-over}
+use Rattle.cut_runs.proofs.Calls.{CallIs, leg-open, by-home}
 
 pub record PlainAlong (I : Instance) (R : Row) (new : Table) (load : Load) (gone time late : Float) (m : ℕ) : Type 0 where
   pub along : Along (tariff I) R new load gone m

@@ -1,4 +1,2 @@
-// The runs along a stretch of calls: what every run is held to, the way leg by leg, and the rows of the table.
+// The rows of the table: without a break, and by what the terms hold a run to.
 pub mod rows;
-pub mod terms;
-pub mod way;

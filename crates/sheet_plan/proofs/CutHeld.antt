@@ -13,7 +13,7 @@ use Rattle.models.specs.declared.placement.Placement.{Placement}
 use Rattle.placements.specs.Chosen.{placementOf}
 use Rattle.split_tw.specs.declared.answer.SplitResult.{SplitResult}
 use Rattle.split_tw.specs.Answer.{ResultF, Counted}
-use Rattle.cut_rows.specs.Runs.{Instance, lent}
+use Rattle.cut_runs.specs.Runs.{Instance, lent}
 use Rattle.split_tw.specs.SplitTw.{splitTwF}
 use Rattle.cut_exact.proofs.Image.{flResult}
 use Rattle.cut_exact.proofs.Exact.{split-tw-exact}

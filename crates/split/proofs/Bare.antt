@@ -7,7 +7,7 @@ use Rattle.models.specs.declared.customer.Customer.{Customer}
 use Rattle.models.specs.declared.limits.RouteLimits.{RouteLimits}
 use Rattle.models.specs.declared.load.Space.{Space}
 use Rattle.models.specs.declared.placement.Placement.the-variants.{Clock}
-use Rattle.cut_rows.specs.Runs.{lent}
+use Rattle.cut_runs.specs.Runs.{lent}
 use Rattle.split.specs.Split.{bareLent}
 use Rattle.split.specs.Bare.{bareOf}
 

@@ -2,7 +2,7 @@
 use mathlib.Core.List.{map}
 use mathlib.Core.Option.{none}
 use Rattle.models.specs.declared.placement.Placement.the-variants.{Clock}
-use Rattle.cut_rows.specs.Runs.{Instance, bareF}
+use Rattle.cut_runs.specs.Runs.{Instance, bareF}
 
 -- the same tables with records without windows and penalties, and neither limits nor a break
 abbrev pub bareOf : Instance → Instance

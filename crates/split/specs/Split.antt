@@ -9,7 +9,7 @@ use Rattle.models.specs.declared.limits.Limit.the-variants.{Unlimited}
 use Rattle.models.specs.declared.load.Space.{Space}
 use Rattle.models.specs.declared.vehicle.Rest.the-variants.{Unbroken}
 use Rattle.models.specs.declared.placement.Placement.the-variants.{Clock}
-use Rattle.cut_rows.specs.Runs.{Instance, lentOn}
+use Rattle.cut_runs.specs.Runs.{Instance, lentOn}
 
 abbrev pub noLimits : RouteLimits
 noLimits = record { «max_distance» = Unlimited; «max_duration» = Unlimited; rest = Unbroken }

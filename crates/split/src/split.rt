@@ -8,7 +8,7 @@ ghost use Rattle.cut_stops.specs.Stops.{Below64};
 ghost use Rattle.split_tw.specs.Answer.{Counted};
 ghost use Rattle.split_tw.specs.SplitTw.{splitTwF};
 ghost use Rattle.split.specs.Split.{bareLent};
-use cut_rows::terms::Terms;
+use cut_runs::terms::Terms;
 use models::customer::Customer;
 use models::limits::Limit;
 use models::limits::RouteLimits;

@@ -9,7 +9,7 @@ use Rattle.cut_theory.specs.Tab.{cells}
 use Rattle.definitions.specs.Drop.{callAt, callsAt, Held}
 use Rattle.definitions.specs.Room.{written}
 use Rattle.cut_table.proofs.Writing.{front-written}
-use Rattle.cut_rows.specs.Tariff.{Tariff, CutDone}
+use Rattle.cut_runs.specs.Tariff.{Tariff, CutDone}
 use Rattle.split_tw.specs.Answer.{planF, Counted}
 use Rattle.split_tw.proofs.Cutting.{part-is, few-runs, runs-are}
 

@@ -14,7 +14,7 @@ use Rattle.cut_theory.specs.Rows.{Legs, rule64}
 use Rattle.cut_theory.proofs.RowLaws.{last-cost, last-falls, last-ends}
 use Rattle.cut_theory.proofs.CarriedLaws.{last-far}
 use Rattle.cut_table.specs.Table.{Table}
-use Rattle.cut_rows.specs.Tariff.{Tariff, stretches, runsOf, farsOf, TableOf, endsF, CutDone}
+use Rattle.cut_runs.specs.Tariff.{Tariff, stretches, runsOf, farsOf, TableOf, endsF, CutDone}
 
 -- ---- what is read from the table
 

@@ -13,8 +13,8 @@ use Rattle.definitions.specs.Room.{written}
 use Rattle.whole.specs.Whole.{fl}
 use Rattle.models.specs.declared.customer.Customer.{Customer}
 use Rattle.cut_table.specs.Table.{Table, table}
-use Rattle.cut_rows.specs.Tariff.{TableOf, CutDone}
-use Rattle.cut_rows.specs.Runs.{Instance, tariff}
+use Rattle.cut_runs.specs.Tariff.{TableOf, CutDone}
+use Rattle.cut_runs.specs.Runs.{Instance, tariff}
 use Rattle.split_tw.specs.SplitTw.{Settled}
 use Rattle.cut_drops.specs.Drops.{dropsF}
 use Rattle.cut_drops.specs.Refill.{Given, instanceWith, ListsOf, SomeLists, Stayed, Unfilled, Holds}

@@ -5,7 +5,7 @@ use mathlib.Core.List.{List}
 use lib.ListN.{length}
 use lib.Ieee.{Float}
 use Rattle.definitions.specs.Drop.{callsAt, Held}
-use Rattle.cut_rows.specs.Tariff.{Tariff, endsF, costF, distanceF}
+use Rattle.cut_runs.specs.Tariff.{Tariff, endsF, costF, distanceF}
 
 pub record ResultF : Type 0 where
   pub served : List ℕ

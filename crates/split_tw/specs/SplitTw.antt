@@ -6,8 +6,8 @@ use mathlib.Core.List.{List}
 use lib.ListN.{length, take}
 use lib.Ieee.{Float}
 use Rattle.definitions.specs.Drop.{callsAt}
-use Rattle.cut_rows.specs.Tariff.{CutDone}
-use Rattle.cut_rows.specs.Runs.{Instance, tariff}
+use Rattle.cut_runs.specs.Tariff.{CutDone}
+use Rattle.cut_runs.specs.Runs.{Instance, tariff}
 use Rattle.cut_drops.specs.Drops.{dropsF}
 use Rattle.split_tw.specs.Answer.{ResultF, planF}
 

@@ -18,7 +18,7 @@ use Rattle.evaluation.specs.Image.{flLimits}
 use Rattle.sheet_read.specs.Parts.{depots}
 use Rattle.improve_base.specs.Search.{searchF}
 use Rattle.models.specs.declared.placement.Placement.the-variants.{Clock}
-use Rattle.cut_rows.specs.Runs.{Instance}
+use Rattle.cut_runs.specs.Runs.{Instance}
 use Rattle.place_choice.specs.Insertion.{GivenF}
 use Rattle.split_tw.specs.Answer.{ResultF}
 use Rattle.split_tw.specs.SplitTw.{splitTwF}

@@ -1,7 +1,7 @@
 -- `work::split_cost` meets its contract. Assumes nothing.
 use mathlib.Core.Path.{ap, _∙_}
 use denote.Ref.{now}
-use Rattle.cut_rows.specs.Runs.{Instance}
+use Rattle.cut_runs.specs.Runs.{Instance}
 use Rattle.split_tw.specs.SplitTw.{splitTwF}
 use Rattle.split.proofs.Bare.{lent-bare}
 use Rattle.bench_timing.specs.Work.{splitCost}

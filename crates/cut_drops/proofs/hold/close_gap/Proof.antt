@@ -1,7 +1,7 @@
 -- `hold::close_gap` meets its contract. Assumes nothing.
 use denote.Ref.{now}
 use Rattle.cut_stops.specs.Stops.{legLists}
-use Rattle.cut_rows.specs.Runs.{over}
+use Rattle.cut_runs.specs.Runs.{over}
 use Rattle.cut_drops.specs.Refill.{Given, given, tablesWith}
 use Rattle.cut_drops.proofs.Noting.{legs-joined, listed}
 use Rattle.cut_drops.proofs.Turns.{some-of, some-lists, rowsOf}

@@ -1,7 +1,7 @@
 -- `refill::noted_row` meets its contract. Assumes nothing.
 use native.Mathlib.Omega.{arith}
 use denote.Ref.{now}
-use Rattle.cut_rows.specs.Runs.{over, rowLists}
+use Rattle.cut_runs.specs.Runs.{over, rowLists}
 use Rattle.cut_drops.specs.Refill.{rows}
 use Rattle.cut_drops.proofs.Noting.{noted}
 use borrow.Author.Needs.{needs}

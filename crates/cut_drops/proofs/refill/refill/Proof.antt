@@ -5,7 +5,7 @@ use mathlib.Core.List.{List}
 use denote.Ref.{now}
 use Rattle.evaluation.specs.Records.{Tables}
 use Rattle.cut_table.specs.Table.{table}
-use Rattle.cut_rows.specs.Runs.{Instance, over, RowLists, rowLists}
+use Rattle.cut_runs.specs.Runs.{Instance, over, RowLists, rowLists}
 use Rattle.cut_drops.specs.Refill.{rows, RowsLong}
 use Rattle.cut_drops.proofs.Noting.{listed-long}
 use Rattle.cut_drops.proofs.Again.{Again, none-again, row-again, row-passed, all-again}

@@ -3,8 +3,8 @@ use mathlib.Core.Path.{_≡_, refl, sym}
 use denote.Ref.{now}
 use Rattle.models.specs.declared.placement.Placement.the-variants.{Clock, Least}
 use Rattle.cut_table.specs.Table.{Table, table}
-use Rattle.cut_rows.specs.Runs.{RowLists, rowLists}
-use Rattle.cut_rows.proofs.Going.{same-terms}
+use Rattle.cut_runs.specs.Runs.{RowLists, rowLists}
+use Rattle.cut_runs.proofs.Going.{same-terms}
 use borrow.Author.Needs.{needs}
 use Rattle.cut_rows.proofs.rows.broken_row.Statement.{statement}
 use Rattle.cut_rows.proofs.rows.broken_row.Tie as tie

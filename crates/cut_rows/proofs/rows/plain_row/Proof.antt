@@ -20,14 +20,14 @@ use Rattle.distance.specs.Lookup.{roadF, roadOf}
 use Rattle.evaluation.specs.Records.{Tables}
 use Rattle.cut_stops.specs.Stops.{stopOf, stopAt, StopsOf, LegsLong, LegsAre}
 use Rattle.cut_table.specs.Table.{table}
-use Rattle.cut_rows.specs.declared.rows.Visited.the-variants.{Shut, Open}
-use Rattle.cut_rows.specs.Stretch.{joinedF, legTo}
-use Rattle.cut_rows.specs.Runs.{Instance, visitedOf, overBy, tariff, RowLists, rowLists, Rowed}
-use Rattle.cut_rows.proofs.Branches.{fails, holds}
-use Rattle.cut_rows.proofs.Along.{Row, rowFrom, setout}
-use Rattle.cut_rows.proofs.Ends.{run-out, overloaded, cut-off}
-use Rattle.cut_rows.proofs.Calls.{RunIs, run-is, call-below, way-is, CallIs, call-is, leg-closed}
-use Rattle.cut_rows.proofs.Going.{Going}
+use Rattle.cut_runs.specs.declared.visit.Visited.the-variants.{Shut, Open}
+use Rattle.cut_runs.specs.Stretch.{joinedF, legTo}
+use Rattle.cut_runs.specs.Runs.{Instance, visitedOf, overBy, tariff, RowLists, rowLists, Rowed}
+use Rattle.cut_runs.proofs.Branches.{fails, holds}
+use Rattle.cut_runs.proofs.Along.{Row, rowFrom, setout}
+use Rattle.cut_runs.proofs.Ends.{run-out, overloaded, cut-off}
+use Rattle.cut_runs.proofs.Calls.{RunIs, run-is, call-below, way-is, CallIs, call-is, leg-closed}
+use Rattle.cut_runs.proofs.Going.{Going}
 use Rattle.cut_rows.proofs.PlainAlong.{PlainAlong, plain-setout, shut, skip, put}
 use Rattle.cut_rows.proofs.rows.plain_row.Statement.{statement}
 use Rattle.cut_rows.proofs.rows.plain_row.Tie as tie

@@ -5,8 +5,8 @@ use denote.Ref.{now}
 use Rattle.models.specs.declared.vehicle.Rest.the-variants.{Unbroken, Break}
 use Rattle.models.specs.Records.{restOf}
 use Rattle.cut_table.specs.Table.{Table, table}
-use Rattle.cut_rows.specs.Runs.{RowLists, rowLists}
-use Rattle.cut_rows.proofs.Going.{same-terms, on-terms}
+use Rattle.cut_runs.specs.Runs.{RowLists, rowLists}
+use Rattle.cut_runs.proofs.Going.{same-terms, on-terms}
 use borrow.Author.Needs.{needs}
 use Rattle.cut_rows.proofs.rows.row.Statement.{statement}
 use Rattle.cut_rows.proofs.rows.row.Tie as tie

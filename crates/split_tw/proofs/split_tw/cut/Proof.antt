@@ -8,7 +8,7 @@ use lib.Seq.{length-take-le}
 use denote.Ref.{now}
 use Rattle.definitions.specs.Drop.{Held}
 use Rattle.definitions.specs.Room.{written}
-use Rattle.cut_rows.specs.Runs.{Instance, lentOn, tariff}
+use Rattle.cut_runs.specs.Runs.{Instance, lentOn, tariff}
 use Rattle.cut_drops.specs.Drops.{dropsF}
 use Rattle.split_tw.specs.SplitTw.{splitTwF}
 use Rattle.split_tw.proofs.Stayed.{each-counted}

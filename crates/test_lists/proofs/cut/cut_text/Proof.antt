@@ -4,7 +4,7 @@ use lib.ListN.{replicate}
 use denote.Ref.{now}
 use Rattle.cut_theory.specs.Tab.{mostCut}
 use Rattle.split_tw.specs.Answer.{ResultF}
-use Rattle.cut_rows.specs.Runs.{Instance}
+use Rattle.cut_runs.specs.Runs.{Instance}
 use Rattle.split_tw.specs.SplitTw.{splitTwF}
 use Rattle.split.proofs.Bare.{lent-bare}
 use Rattle.test_runs.specs.Along.{follows}

@@ -1,0 +1,2 @@
+-- What a row with a break by the clock keeps.
+pub mod RestAlong
