@@ -1,7 +1,7 @@
 -- From the table of the calls that stay to their cut. Assumes nothing.
 use Prim.Native.Nat.{ℕ, _+_, _≤_}
 use native.Mathlib.Omega.{arith}
-use mathlib.Core.Path.{_≡_, refl, sym, ap, subst, _∙_}
+use mathlib.Core.Path.{_≡_, refl, sym, subst}
 use mathlib.Core.Bool.{false}
 use mathlib.Core.List.{List, []}
 use lib.ListN.{length, getD, set, take, drop, replicate}
@@ -9,7 +9,6 @@ use lib.Seq.{length-take-le}
 use lib.Ieee.{Float, nan, inf}
 use Rattle.cut_theory.specs.Cut.{backOf, Falls}
 use Rattle.cut_theory.specs.Tab.{mostCut, cells}
-use Rattle.definitions.specs.Room.{written}
 use Rattle.whole.specs.Whole.{fl}
 use Rattle.models.specs.declared.customer.Customer.{Customer}
 use Rattle.cut_table.specs.Table.{Table, table}
@@ -18,23 +17,18 @@ use Rattle.cut_runs.specs.Runs.{Instance, tariff}
 use Rattle.split_tw.specs.SplitTw.{Settled}
 use Rattle.cut_drops.specs.Drops.{dropsF}
 use Rattle.cut_drops.specs.Refill.{Given, instanceWith, ListsOf, SomeLists, Stayed, Unfilled, Holds}
-use Rattle.cut_table.proofs.Writing.{front-written}
 use Rattle.split_tw.proofs.Cutting.{table-falls, table-cut}
 
-module _ (E : Given) (customers : List Customer) (calls tour : List ℕ) (e : calls ≡ tour) (W : ListsOf E tour customers) where
-  lists : ListsOf E calls customers
-  lists = subst (λ (l : List ℕ). ListsOf E l customers) (sym e) W
-
+module _ (E : Given) (customers : List Customer) (tour : List ℕ) (W : ListsOf E tour customers) where
   -- the numbers are of these customers
-  pub worked : SomeLists E calls
+  pub worked : SomeLists E tour
   unfolding SomeLists
-  worked = (customers, lists)
+  worked = (customers, W)
 
   pub stayed-of : (dropped : List ℕ) (n : ℕ) (held dropped' : List ℕ) (t : Table)
-      → Holds E calls dropped n held dropped' t → Stayed (instanceWith E customers) tour dropped n held dropped' t
+      → Holds E tour dropped n held dropped' t → Stayed (instanceWith E customers) tour dropped n held dropped' t
   unfolding Holds
-  stayed-of dropped n held dropped' t H =
-      subst (λ (l : List ℕ). Stayed (instanceWith E customers) l dropped n held dropped' t) e (H customers lists)
+  stayed-of dropped n held dropped' t H = H customers W
 
 module _ {I : Instance} {tour dropped : List ℕ} {n : ℕ} {held dropped' : List ℕ} {t : Table} (S : Stayed I tour dropped n held dropped' t)
     (few : n ≤ mostCut) (long : n ≤ length held) where
@@ -71,10 +65,6 @@ module _ {I : Instance} {tour dropped : List ℕ} {n : ℕ} {held dropped' : Lis
 pub unfilled : (x z d : Float) → x ≡ inf false → z ≡ fl 0 → d ≡ fl 0 → Unfilled (table (set (replicate cells x) 0 z) (replicate cells d) (replicate cells 0))
 unfolding Unfilled
 unfilled x z d ex ez ed = (rw (ex, ez) refl, rw ed refl, refl)
-
--- the tour, written at the front
-pub tour-front : (tour held₀ held : List ℕ) → held ≡ written tour held₀ → take (length tour) held ≡ tour
-tour-front tour held₀ held e = ap (take (length tour)) e ∙ front-written tour held₀
 
 -- each call of the tour is held or dropped
 pub each-counted : (I : Instance) (tour : List ℕ) (n : ℕ) (cost distance : Float) (at : ℕ) (hs es : List ℕ) → Settled I tour n cost distance at hs es

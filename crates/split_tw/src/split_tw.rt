@@ -1,4 +1,4 @@
-// The cut of a tour on some terms (ga/split_tw.rs), from the calls that are held and the table of their rows (holding)
+// The cut of a tour on some terms (ga/split_tw.rs), from the calls that are held and the table of their rows (cut_heavy)
 // to the answer.
 ghost use mathlib.Core.Path.{_≡_};
 ghost use Prim.Native.Nat.{_≤_};
@@ -11,7 +11,7 @@ ghost use Rattle.cut_drops.specs.Drops.{dropsF};
 ghost use Rattle.split_tw.specs.Answer.{Counted};
 ghost use Rattle.split_tw.specs.SplitTw.{Settled, splitTwF};
 use crate::answer::SplitResult;
-use cut_drops::hold::hold;
+use cut_heavy::heavy::hold_tour;
 use cut_runs::terms::Terms;
 use cut_stops::stops::ALL_CODES;
 use cut_stops::stops::ALL_FIGURES;
@@ -74,10 +74,9 @@ pub fn settle(
     let mut dist = [0.0; CELLS];
     let mut pred = [0usize; CELLS];
     cost[0] = 0.0;
-    write_front(tour, &mut *held);
-    let n = hold(
+    let n = hold_tour(
+        tour,
         &mut *held,
-        tour.len(),
         &mut *dropped,
         distances,
         times,

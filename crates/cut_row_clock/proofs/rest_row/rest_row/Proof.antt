@@ -1,5 +1,5 @@
--- `rest_row::rest_row` meets its contract. The loop's invariant is `RestAlong` for whatever tables the lists are worked out from: after m calls of the row, load, way and clock are those of these calls,
--- and the cells up to i + m are as the row leaves them. The measure is how many calls are left. Assumes nothing.
+-- `rest_row::rest_row` meets its contract. The loop's invariant is `RestAlong` for whatever tables the lists are worked out from: after m calls of the row, load, way and clock are those of
+-- these calls, and the cells up to i + m are as the row leaves them. The measure is how many calls are left. Assumes nothing.
 use Prim.Native.Nat.{ℕ, _+_, _-_, _<_, _≤_}
 use native.Mathlib.Omega.{arith}
 use mathlib.Core.Path.{_≡_, refl, sym, ap, subst, _∙_}

@@ -1,0 +1,2 @@
+-- The positions dropped, where the calls too heavy alone leave first.
+pub mod Heavy
