@@ -3,8 +3,9 @@ use Prim.Native.Nat.{ℕ, zero, suc, _-_, _<_, _≤_}
 use native.Mathlib.Omega.{arith}
 use mathlib.Core.Path.{_≡_, refl, sym, ap, subst, _∙_}
 use mathlib.Core.Bool.{Bool, true, false, cond}
-use mathlib.Core.List.{List, [], _∷_, map}
-use lib.ListN.{length, getD, take, length-map, List·getD-map}
+use mathlib.Core.List.{List, [], _∷_, _++_, map}
+use lib.ListN.{length, getD, take, drop, length-map, List·getD-map}
+use lib.Seq.{drop-nil}
 use lib.Ieee.{Float}
 use Rattle.basics.specs.Lists.{only, All}
 use Rattle.basics.proofs.TestLaws.{by-test}
@@ -66,6 +67,19 @@ module _ (p : ℕ → Bool) where
   unfolding Below64
   below-only l w = each-only (λ (c : ℕ). c < 64) l w
 
+-- what is written over what was written, and is no shorter
+drop-over : (n : ℕ) (l old : List ℕ) → length l ≤ n → drop n (l ++ drop (length l) old) ≡ drop n old
+drop-over n [] old h = refl
+drop-over zero (x ∷ l) old h = absurd (clash h)
+  where
+    clash : suc (length l) ≤ 0 → ⊥
+    clash h = omega arith
+drop-over (suc n) (x ∷ l) [] h = ap (λ (r : List ℕ). drop n (l ++ r)) (sym (drop-nil (length l))) ∙ drop-over n l [] (omega arith) ∙ drop-nil n
+drop-over (suc n) (x ∷ l) (y ∷ old) h = drop-over n l old (omega arith)
+
+written-twice : (l l' old : List ℕ) → length l' ≤ length l → written l (written l' old) ≡ written l old
+written-twice l l' old h = ap (λ (r : List ℕ). l ++ r) (drop-over (length l) l' old h)
+
 -- ---- what a call asks for is not changed by records without windows
 
 demand-bare : (alone : Bool) (cs : List (CustomerOf Float)) (c : ℕ) → demandF (cond alone (map bareF cs) cs) c ≡ demandF cs c
@@ -111,28 +125,30 @@ module _ (E : Given) (tour : List ℕ) where
     abbrev I : Instance
     I = instanceWith E customers
 
-    stayed-light : (among₀ : List ℕ) (n : ℕ) (held among : List ℕ) (t : Table) → Stayed I light among₀ n held among t
-        → (dropped₀ dropped : List ℕ) → dropped ≡ written (spread fits tour 1 1 (take (length light - n) among)) dropped₀
-        → Stayed I tour dropped₀ n held dropped t
-    stayed-light among₀ n held among t S dropped₀ dropped e =
+    stayed-light : (dropped₀ : List ℕ) (n : ℕ) (held among : List ℕ) (t : Table) → Stayed I light dropped₀ n held among t
+        → (dropped : List ℕ) → dropped ≡ written (spread fits tour 1 1 (take (length light - n) among)) among → Stayed I tour dropped₀ n held dropped t
+    stayed-light dropped₀ n held among t S dropped e =
         let same = held-same I fits tour (bars customers W) in
         let gone : take (length light - n) among ≡ dropsF I light .dropped
         = ap (take (length light - n)) (S .dropped-are)
-        ∙ ap (λ (k : ℕ). take k (written (dropsF I light .dropped) among₀)) (S .dropped-count)
-        ∙ front-written (dropsF I light .dropped) among₀
+        ∙ ap (λ (k : ℕ). take k (written (dropsF I light .dropped) dropped₀)) (S .dropped-count)
+        ∙ front-written (dropsF I light .dropped) dropped₀
         in
         let count : n ≡ length (dropsF I tour .held)
         = S .held-count ∙ sym (length-map (dropsF I light .held) (callAt light)) ∙ ap length (sym same) ∙ length-map (dropsF I tour .held) (callAt tour)
         in
+        let all : length tour - n ≡ length (dropsF I tour .dropped) = omega (arith, each-counted I tour, count) in
         record {
           held-count = count;
-          dropped-count = omega (arith, each-counted I tour, count);
+          dropped-count = all;
           few = omega (arith, S .few, only-few fits tour);
           held-are = S .held-are ∙ sym same;
           dropped-are =
               e
-              ∙ ap (λ (l : List ℕ). written (spread fits tour 1 1 l) dropped₀) gone
-              ∙ ap (λ (l : List ℕ). written l dropped₀) (sym (dropped-same I fits tour (bars customers W)));
+              ∙ ap (λ (l : List ℕ). written (spread fits tour 1 1 l) among) gone
+              ∙ ap (λ (l : List ℕ). written l among) (sym (dropped-same I fits tour (bars customers W)))
+              ∙ ap (written (dropsF I tour .dropped)) (S .dropped-are)
+              ∙ written-twice (dropsF I tour .dropped) (dropsF I light .dropped) dropped₀ (omega (arith, all, S .dropped-count, only-few fits tour));
           whole = S .whole;
         }
 
@@ -141,16 +157,15 @@ module _ (E : Given) (tour : List ℕ) where
   front-light m held₀ held c e = ap (take m) e ∙ ap (λ (k : ℕ). take k (written light held₀)) c ∙ front-written light held₀
 
   -- what is held of them is what is held of the tour
-  module _ (calls : List ℕ) (ec : calls ≡ light) (among₀ : List ℕ) (n : ℕ) (held among : List ℕ) (t : Table) (H : Holds E calls among₀ n held among t) where
-    pub holds-light : (m : ℕ) → m ≡ length light → (dropped₀ dropped : List ℕ) → dropped ≡ written (spread fits tour 1 1 (take (m - n) among)) dropped₀
-        → Holds E tour dropped₀ n held dropped t
+  module _ (calls : List ℕ) (ec : calls ≡ light) (dropped₀ : List ℕ) (n : ℕ) (held among : List ℕ) (t : Table) (H : Holds E calls dropped₀ n held among t) where
+    pub holds-light : (m : ℕ) → m ≡ length light → (dropped : List ℕ) → dropped ≡ written (spread fits tour 1 1 (take (m - n) among)) among → Holds E tour dropped₀ n held dropped t
     unfolding Holds
-    holds-light m em dropped₀ dropped e customers W =
-        stayed-light customers W among₀ n held among t
-        (subst (λ (l : List ℕ). Stayed (instanceWith E customers) l among₀ n held among t) ec
+    holds-light m em dropped e customers W =
+        stayed-light customers W dropped₀ n held among t
+        (subst (λ (l : List ℕ). Stayed (instanceWith E customers) l dropped₀ n held among t) ec
         (H customers (subst (λ (l : List ℕ). ListsOf E l customers) (sym ec) (lists-light customers W))))
-        dropped₀ dropped (e ∙ ap (λ (k : ℕ). written (spread fits tour 1 1 (take (k - n) among)) dropped₀) em)
+        dropped (e ∙ ap (λ (k : ℕ). written (spread fits tour 1 1 (take (k - n) among)) among) em)
 
     -- where they are all
-    pub holds-all : light ≡ tour → Holds E tour among₀ n held among t
-    holds-all all = subst (λ (l : List ℕ). Holds E l among₀ n held among t) (ec ∙ all) H
+    pub holds-all : light ≡ tour → Holds E tour dropped₀ n held among t
+    holds-all all = subst (λ (l : List ℕ). Holds E l dropped₀ n held among t) (ec ∙ all) H

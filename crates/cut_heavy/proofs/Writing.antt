@@ -6,18 +6,23 @@ use native.Mathlib.Omega.{arith}
 use mathlib.Core.Path.{_≡_, refl, sym, ap, _∙_}
 use mathlib.Core.Bool.{Bool, true, false}
 use mathlib.Core.List.{List, [], _∷_, _++_, append-nil}
-use lib.ListN.{length, getD, set, drop, length-append, drop-of-length-le}
-use lib.Seq.{drop-cons, getD-drop, append-snoc}
+use lib.ListN.{length, getD, set, take, drop, length-append, drop-of-length-le}
+use lib.Seq.{drop-cons, getD-drop, append-snoc, length-take-le}
 use lib.Dec.{eqb}
 use Rattle.basics.specs.Lists.{only}
 use Rattle.definitions.specs.Room.{written}
-use Rattle.cut_table.proofs.Writing.{written-more, length-written}
+use Rattle.cut_table.proofs.Writing.{written-more, length-written, front-written}
 use Rattle.cut_heavy.specs.Heavy.{spread}
 
 drop-one : (a : ℕ) (l : List ℕ) → drop 1 (drop a l) ≡ drop (suc a) l
 drop-one zero l = refl
 drop-one (suc a) [] = refl
 drop-one (suc a) (x ∷ l) = drop-one a l
+
+-- the first elements of a list, written elsewhere
+pub taken-back : (n : ℕ) (l old new : List ℕ) → n ≤ length l → new ≡ written (take n l) old → take n new ≡ take n l
+taken-back n l old new h e =
+    ap (take n) e ∙ ap (λ (k : ℕ). take k (written (take n l) old)) (sym (length-take-le n l h)) ∙ front-written (take n l) old
 
 -- of a list, n elements are written at the front, and these are still to come
 pub record Written (all old : List ℕ) (n : ℕ) (rest new : List ℕ) : Type 0 where

@@ -17,6 +17,7 @@ use cut_runs::terms::Terms;
 use cut_stops::stops::customer_at;
 use cut_table::cells::CELLS;
 use cut_table::cells::MOST_CUT;
+use cut_table::held::write_front;
 use models::load::Space;
 
 // Whether a vehicle holds what call c alone asks for.
@@ -108,63 +109,34 @@ pub fn write_dropped(
     }
 }
 
-// Of the m calls at the front of `held`, which are those of the tour that fit alone, those that stay, with the table
-// of their rows. Gives how many; they stand at the front.
-pub fn hold_light(
+// Where the first `gone` places of `dropped` have the numbers dropped of the calls that fit alone, the positions
+// dropped of all calls are written there.
+pub fn number_in_tour(
     tour: &[usize],
-    held: &mut [usize],
-    m: usize,
-    dropped: &mut [usize],
-    distances: &[f64],
-    times: &[f64],
-    size: usize,
     codes: &[u32],
     figures: &[f64],
-    terms: Terms,
-    cost: &mut [f64; CELLS],
-    dist: &mut [f64; CELLS],
-    pred: &mut [usize; CELLS],
-) -> usize
-    requires { ⌜ (length (now tour) ≤ mostCut) × Below64 (now tour) × Long (numbers (now codes) (now figures)) ⌝ }
-    requires { ⌜ (m ≤ length (now held)) × (length (now tour) ≤ length (now dropped)) ⌝ }
-    requires { let fits = fitsAlone (numbers (now codes) (now figures)) (spaceOf (terms .capacity)) in
-        let light = only fits (now tour) in
-        ⌜ (m ≡ length light) × (take m (now held) ≡ light) ⌝ }
-    requires { ⌜ Unfilled (table (now cost) (now dist) (now pred)) ⌝ }
-    requires { let E = given (now distances) (now times) size (now codes) (now figures) terms in
-        ⌜ SomeLists E (now tour) ⌝ }
-    ensures { λ r.
-        let E = given (now (distances .entry)) (now (times .entry)) size
-        (now (codes .entry)) (now (figures .entry)) terms in
-        let t = table (now (cost .exit)) (now (dist .exit)) (now (pred .exit)) in
-        ⌜ Holds E (now (tour .entry)) (now (dropped .entry)) r (now (held .exit)) (now (dropped .exit)) t ⌝ }
-    ensures { λ r. ⌜ r ≤ length (now (tour .entry)) ⌝ }
+    capacity: Space,
+    gone: usize,
+    dropped: &mut [usize],
+)
+    requires { ⌜ Long (numbers (now codes) (now figures)) × Below64 (now tour) ⌝ }
+    requires { ⌜ (length (now tour) ≤ mostCut) × (length (now tour) ≤ length (now dropped)) ⌝ }
+    requires { ⌜ gone ≤ length (now tour) ⌝ }
+    ensures { λ _.
+        let fits = fitsAlone (numbers (now (codes .entry)) (now (figures .entry))) (spaceOf capacity) in
+        let all = spread fits (now (tour .entry)) 1 1 (take gone (now (dropped .entry))) in
+        ⌜ now (dropped .exit) ≡ written all (now (dropped .entry)) ⌝ }
 {
     let mut among = [0usize; MOST_CUT];
-    let n = hold(
-        &mut *held,
-        m,
-        &mut among,
-        distances,
-        times,
-        size,
-        codes,
-        figures,
-        terms,
-        &mut *cost,
-        &mut *dist,
-        &mut *pred,
-    );
-    let gone = m - n;
+    write_front(&dropped[..gone], &mut among);
     write_dropped(
         tour,
         codes,
         figures,
-        terms.capacity,
+        capacity,
         &among[..gone],
         &mut *dropped,
     );
-    n
 }
 
 // Of the calls of a tour those that stay, with the table of their rows. Gives how many; they stand at the front of
@@ -196,24 +168,7 @@ pub fn hold_tour(
     ensures { λ r. ⌜ r ≤ length (now (tour .entry)) ⌝ }
 {
     let m = write_light(tour, codes, figures, terms.capacity, &mut *held);
-    if m == tour.len() {
-        return hold(
-            &mut *held,
-            m,
-            &mut *dropped,
-            distances,
-            times,
-            size,
-            codes,
-            figures,
-            terms,
-            &mut *cost,
-            &mut *dist,
-            &mut *pred,
-        );
-    }
-    hold_light(
-        tour,
+    let n = hold(
         &mut *held,
         m,
         &mut *dropped,
@@ -226,5 +181,10 @@ pub fn hold_tour(
         &mut *cost,
         &mut *dist,
         &mut *pred,
-    )
+    );
+    if m == tour.len() {
+        return n;
+    }
+    number_in_tour(tour, codes, figures, terms.capacity, m - n, &mut *dropped);
+    n
 }
