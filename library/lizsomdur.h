@@ -121,8 +121,10 @@
  * ---- Version
  *
  * LIZSOMDUR_VERSION is that of this header. Its first number changes where a program that calls the library has to be changed, the second where
- * something is added, the third with everything else; docs/CHANGELOG.md says what is new in each. No name in the archive has the version, so the linker
- * can't tell: link the archive that is built from the same source as this header.
+ * something is added, the third with everything else; docs/CHANGELOG.md says what is new in each.
+ *
+ * The first number is part of every name in the archive: lizsomdur_plan is linked as lizsomdur_3_plan where that number is 3. So a program that was
+ * compiled with the header of another major version does not link. In a program's source, and on this page, the names are the plain ones.
  */
 #ifndef LIZSOMDUR_H
 #define LIZSOMDUR_H
@@ -134,11 +136,25 @@
 extern "C" {
 #endif
 
-/* The version of this header: its numbers, and the same as text. */
-#define LIZSOMDUR_VERSION_MAJOR 2
+/* The version of this header: its numbers, and the same as text, with dots. */
+#define LIZSOMDUR_VERSION_MAJOR 3
 #define LIZSOMDUR_VERSION_MINOR 0
 #define LIZSOMDUR_VERSION_PATCH 0
-#define LIZSOMDUR_VERSION "2.0.0"
+#define LIZSOMDUR_VERSION LIZSOMDUR_DOTTED(LIZSOMDUR_VERSION_MAJOR, LIZSOMDUR_VERSION_MINOR, LIZSOMDUR_VERSION_PATCH)
+
+/* The numbers themselves have to be put in before they are made text or part of a name, hence two macros for each. */
+#define LIZSOMDUR_DOTTED(major, minor, patch) LIZSOMDUR_DOTTED_NUMBERS(major, minor, patch)
+#define LIZSOMDUR_DOTTED_NUMBERS(major, minor, patch) #major "." #minor "." #patch
+#define LIZSOMDUR_LINKED(major, rest) LIZSOMDUR_LINKED_NUMBER(major, rest)
+#define LIZSOMDUR_LINKED_NUMBER(major, rest) lizsomdur_##major##rest
+
+/* The names by which the functions are linked. */
+#define lizsomdur_plan LIZSOMDUR_LINKED(LIZSOMDUR_VERSION_MAJOR, _plan)
+#define lizsomdur_plan_least LIZSOMDUR_LINKED(LIZSOMDUR_VERSION_MAJOR, _plan_least)
+#define lizsomdur_mark LIZSOMDUR_LINKED(LIZSOMDUR_VERSION_MAJOR, _mark)
+#define lizsomdur_mark_least LIZSOMDUR_LINKED(LIZSOMDUR_VERSION_MAJOR, _mark_least)
+#define lizsomdur_reverse LIZSOMDUR_LINKED(LIZSOMDUR_VERSION_MAJOR, _reverse)
+#define lizsomdur_eliminate LIZSOMDUR_LINKED(LIZSOMDUR_VERSION_MAJOR, _eliminate)
 
 /* The most calls that a sheet has, and so the most runs of its plan: the room that each list of lizsomdur_plan needs. */
 #define LIZSOMDUR_TOUR 63

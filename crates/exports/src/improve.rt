@@ -13,7 +13,7 @@ use sheet_read::read::read;
 // lent list, and its distance. The answer is 0, or the number of a refusal: the reader's, whose word is written, or the
 // call's, which leaves everything as it was.
 #[no_mangle]
-pub extern "C" fn lizsomdur_reverse(
+pub extern "C" fn lizsomdur_3_reverse(
     sheet: &[u8],
     run: &[u8],
     improved: &mut [u8],
@@ -44,7 +44,7 @@ pub extern "C" fn lizsomdur_reverse(
 // run ends that are left at the front of the lent lists, and how many calls and runs these are. The answer is 0, or the
 // number of a refusal: the reader's, whose word is written, or the call's, which leaves everything as it was.
 #[no_mangle]
-pub extern "C" fn lizsomdur_eliminate(
+pub extern "C" fn lizsomdur_3_eliminate(
     sheet: &[u8],
     calls: &[u8],
     ends: &[u8],

@@ -51,7 +51,7 @@ fn mark_by(
 
 // Against the plan with the breaks where the clock puts them.
 #[no_mangle]
-pub extern "C" fn lizsomdur_mark(
+pub extern "C" fn lizsomdur_3_mark(
     sheet: &[u8],
     calls: &[u8],
     ends: &[u8],
@@ -81,7 +81,7 @@ pub extern "C" fn lizsomdur_mark(
 
 // Against the plan that pays the least for lateness: nothing is cheaper than that.
 #[no_mangle]
-pub extern "C" fn lizsomdur_mark_least(
+pub extern "C" fn lizsomdur_3_mark_least(
     sheet: &[u8],
     calls: &[u8],
     ends: &[u8],

@@ -82,7 +82,7 @@ fn plan_by(
 
 // The plan with the breaks where the clock puts them.
 #[no_mangle]
-pub extern "C" fn lizsomdur_plan(
+pub extern "C" fn lizsomdur_3_plan(
     sheet: &[u8],
     served: &mut [u8],
     run_ends: &mut [u8],
@@ -118,7 +118,7 @@ pub extern "C" fn lizsomdur_plan(
 
 // The plan that pays the least for lateness, wherever the breaks go.
 #[no_mangle]
-pub extern "C" fn lizsomdur_plan_least(
+pub extern "C" fn lizsomdur_3_plan_least(
     sheet: &[u8],
     served: &mut [u8],
     run_ends: &mut [u8],

@@ -1,7 +1,19 @@
 //! The library's functions as `lizsomdur.h` declares them: a lent list passes as a pointer and a length.
 
-extern "C" {
-    pub fn lizsomdur_plan(
+/// Declares functions of the library. The name by which one is linked has the package's major version in it, as in the header.
+macro_rules! linked {
+    ($(fn $name:ident($($parameter:ident: $type:ty,)*) -> $returned:ty;)*) => {
+        extern "C" {
+            $(
+                #[link_name = concat!("lizsomdur_", env!("CARGO_PKG_VERSION_MAJOR"), "_", stringify!($name))]
+                pub fn $name($($parameter: $type),*) -> $returned;
+            )*
+        }
+    };
+}
+
+linked! {
+    fn plan(
         sheet: *const u8,
         sheet_length: usize,
         served: *mut u8,
@@ -19,7 +31,7 @@ extern "C" {
         word: *mut usize,
     ) -> u32;
 
-    pub fn lizsomdur_plan_least(
+    fn plan_least(
         sheet: *const u8,
         sheet_length: usize,
         served: *mut u8,
@@ -37,7 +49,7 @@ extern "C" {
         word: *mut usize,
     ) -> u32;
 
-    pub fn lizsomdur_mark(
+    fn mark(
         sheet: *const u8,
         sheet_length: usize,
         calls: *const u8,
@@ -51,7 +63,7 @@ extern "C" {
         values: *mut [f64; 5],
     ) -> u32;
 
-    pub fn lizsomdur_mark_least(
+    fn mark_least(
         sheet: *const u8,
         sheet_length: usize,
         calls: *const u8,
@@ -65,7 +77,7 @@ extern "C" {
         values: *mut [f64; 5],
     ) -> u32;
 
-    pub fn lizsomdur_reverse(
+    fn reverse(
         sheet: *const u8,
         sheet_length: usize,
         run: *const u8,
@@ -76,7 +88,7 @@ extern "C" {
         distance: *mut f64,
     ) -> u32;
 
-    pub fn lizsomdur_eliminate(
+    fn eliminate(
         sheet: *const u8,
         sheet_length: usize,
         calls: *const u8,

@@ -15,8 +15,8 @@ pub fn plan(
     word: &mut usize,
 ) -> u32 {
     let plan = match placement {
-        Placement::Clock => raw::lizsomdur_plan,
-        Placement::Least => raw::lizsomdur_plan_least,
+        Placement::Clock => raw::plan,
+        Placement::Least => raw::plan_least,
     };
     // SAFETY: a slice is as long as it says, and nothing else refers to one that is lent to be written.
     unsafe {
@@ -52,8 +52,8 @@ pub fn mark(
     values: &mut [f64; 5],
 ) -> u32 {
     let mark = match placement {
-        Placement::Clock => raw::lizsomdur_mark,
-        Placement::Least => raw::lizsomdur_mark_least,
+        Placement::Clock => raw::mark,
+        Placement::Least => raw::mark_least,
     };
     // SAFETY: as in `plan`.
     unsafe {
@@ -82,7 +82,7 @@ pub fn reverse(
 ) -> u32 {
     // SAFETY: as in `plan`.
     unsafe {
-        raw::lizsomdur_reverse(
+        raw::reverse(
             sheet.as_ptr(),
             sheet.len(),
             run.as_ptr(),
@@ -106,7 +106,7 @@ pub fn eliminate(
 ) -> u32 {
     // SAFETY: as in `plan`.
     unsafe {
-        raw::lizsomdur_eliminate(
+        raw::eliminate(
             sheet.as_ptr(),
             sheet.len(),
             calls.as_ptr(),

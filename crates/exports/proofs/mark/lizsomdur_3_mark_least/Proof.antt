@@ -1,11 +1,11 @@
--- `mark::lizsomdur_mark_least` meets its contract. Assumes nothing.
+-- `mark::lizsomdur_3_mark_least` meets its contract. Assumes nothing.
 use denote.Ref.{now}
 use Rattle.bytes_mark.specs.Mark.{givenRuns}
 use Rattle.exports.specs.Mark.{markOutputs}
 use Rattle.exports.proofs.Marked.{never-cheaper}
 use borrow.Author.Needs.{needs}
-use Rattle.exports.proofs.mark.lizsomdur_mark_least.Statement.{statement}
-use Rattle.exports.proofs.mark.lizsomdur_mark_least.Tie as tie
+use Rattle.exports.proofs.mark.lizsomdur_3_mark_least.Statement.{statement}
+use Rattle.exports.proofs.mark.lizsomdur_3_mark_least.Tie as tie
 
 -- the entry, before the four lent slices and three places to write that are lent on
 abbrev entry : tie.After-mark-by → tie.Start
@@ -22,5 +22,5 @@ returns c =
     let m = c .mark-by in
     (m .ensures, never-cheaper (now (a .sheet)) given old (m .result) _ (m .ensures))
 
-pub lizsomdur-mark-least-spec : {M : Type 1} → statement M
-lizsomdur-mark-least-spec = tie.close (tie.spec mark-by-requires returns)
+pub lizsomdur-3-mark-least-spec : {M : Type 1} → statement M
+lizsomdur-3-mark-least-spec = tie.close (tie.spec mark-by-requires returns)

@@ -1,7 +1,7 @@
--- `plan::lizsomdur_plan` meets its contract. Assumes nothing.
+-- `plan::lizsomdur_3_plan` meets its contract. Assumes nothing.
 use borrow.Author.Needs.{needs}
-use Rattle.exports.proofs.plan.lizsomdur_plan.Statement.{statement}
-use Rattle.exports.proofs.plan.lizsomdur_plan.Tie as tie
+use Rattle.exports.proofs.plan.lizsomdur_3_plan.Statement.{statement}
+use Rattle.exports.proofs.plan.lizsomdur_3_plan.Tie as tie
 
 plan-by-requires : tie.Need-plan-by-requires
 plan-by-requires c κs = search needs
@@ -24,5 +24,5 @@ same-length-5 c = search needs
 returns : tie.Need-returns
 returns c = search needs
 
-pub lizsomdur-plan-spec : {M : Type 1} → statement M
-lizsomdur-plan-spec = tie.close (tie.spec plan-by-requires same-length same-length-2 same-length-3 same-length-4 same-length-5 returns)
+pub lizsomdur-3-plan-spec : {M : Type 1} → statement M
+lizsomdur-3-plan-spec = tie.close (tie.spec plan-by-requires same-length same-length-2 same-length-3 same-length-4 same-length-5 returns)

@@ -1,4 +1,4 @@
--- `improve::lizsomdur_eliminate` meets its contract. Assumes nothing.
+-- `improve::lizsomdur_3_eliminate` meets its contract. Assumes nothing.
 use Prim.Native.Nat.{ℕ}
 use mathlib.Core.Path.{_≡_, sym, ap, _∙_}
 use mathlib.Core.List.{List}
@@ -13,8 +13,8 @@ use Rattle.exports.specs.Answer.{Outputs}
 use Rattle.exports.specs.Improve.{EliminateLists, eliminateOutputs}
 use Rattle.exports.proofs.Improved.{eliminate-unread, eliminate-refused, eliminate-given}
 use borrow.Author.Needs.{needs}
-use Rattle.exports.proofs.improve.lizsomdur_eliminate.Statement.{statement}
-use Rattle.exports.proofs.improve.lizsomdur_eliminate.Tie as tie
+use Rattle.exports.proofs.improve.lizsomdur_3_eliminate.Statement.{statement}
+use Rattle.exports.proofs.improve.lizsomdur_3_eliminate.Tie as tie
 
 -- ---- what was lent, from the point where the bytes are read
 
@@ -115,8 +115,8 @@ returns-3 c =
     let h : m .result ≡ Eliminations.Left l = search needs in
     eliminate-given (bytes at) (given at) (old at) (q .0) (q .1) (q .2) (m .result) (left x) (m .ensures (q .0) (q .1) (q .2)) l h
 
-pub lizsomdur-eliminate-spec : {M : Type 1} → statement M
-lizsomdur-eliminate-spec =
+pub lizsomdur-3-eliminate-spec : {M : Type 1} → statement M
+lizsomdur-3-eliminate-spec =
     tie.close
     (tie.spec
     read-requires

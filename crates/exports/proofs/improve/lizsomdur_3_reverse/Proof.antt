@@ -1,4 +1,4 @@
--- `improve::lizsomdur_reverse` meets its contract. Assumes nothing.
+-- `improve::lizsomdur_3_reverse` meets its contract. Assumes nothing.
 use Prim.Native.Nat.{ℕ}
 use mathlib.Core.Path.{_≡_, sym, ap, _∙_}
 use mathlib.Core.List.{List}
@@ -12,8 +12,8 @@ use Rattle.exports.specs.Answer.{Outputs}
 use Rattle.exports.specs.Improve.{ReverseLists, reverseOutputs}
 use Rattle.exports.proofs.Improved.{reverse-unread, reverse-refused, reverse-given}
 use borrow.Author.Needs.{needs}
-use Rattle.exports.proofs.improve.lizsomdur_reverse.Statement.{statement}
-use Rattle.exports.proofs.improve.lizsomdur_reverse.Tie as tie
+use Rattle.exports.proofs.improve.lizsomdur_3_reverse.Statement.{statement}
+use Rattle.exports.proofs.improve.lizsomdur_3_reverse.Tie as tie
 
 -- ---- what was lent, from the point where the bytes are read
 
@@ -103,8 +103,8 @@ returns-3 c =
     let h : m .result ≡ Reverseds.Improved left = search needs in
     reverse-given (bytes at) (run at) (old at) (q .0) (q .1) (q .2) (m .result) (m .last .1 .1 .1 .0) (m .ensures (q .0) (q .1) (q .2)) left h
 
-pub lizsomdur-reverse-spec : {M : Type 1} → statement M
-lizsomdur-reverse-spec =
+pub lizsomdur-3-reverse-spec : {M : Type 1} → statement M
+lizsomdur-3-reverse-spec =
     tie.close
     (tie.spec
     read-requires
