@@ -111,8 +111,9 @@
  *   threads   Any number of threads may call them at once, on the same sheet and lists too, as long as none writes what another reads or writes.
  *   signals   A signal handler may call them, also where the signal came in the middle of a call, with memory of its own for what is written. A call
  *             that is left for good (longjmp) may have written some of its answer.
- *   stack     512 kB is enough for each function, in a thread and on a signal handler's own stack, there beside what the system puts on it. Measured
- *             on the largest sheets, each takes less than half of that.
+ *   stack     Each function takes at most as much as LIZSOMDUR_STACK_PLAN and so on say below, in bytes. That is what its code takes on the deepest of its
+ *             ways, which the largest sheets go, and at least a fifth more: none calls itself, and none takes an amount that depends on what it is given.
+ *             A stack of 512 kB is enough for each, in a thread and for a signal handler, there beside what the system puts on it.
  *   rounding  The answers are proved for rounding to nearest, with which a program starts. With each other rounding mode they are the same, and so
  *             they are where the processor takes tiny numbers for zero: every sum is a whole number below 2^53, which needs no rounding, and all that
  *             is rounded is a threshold far below 1 that whole numbers are held to. No function changes a mode. One may raise floating-point flags
@@ -164,6 +165,14 @@ extern "C" {
 
 /* The value of the C and D words of a leg that can't be driven. */
 #define LIZSOMDUR_NO_ROAD 0x0FFFFFFF
+
+/* The stack that each function takes at most, in bytes, and what is measured. */
+#define LIZSOMDUR_STACK_PLAN 130000       /* 102,522 */
+#define LIZSOMDUR_STACK_PLAN_LEAST 130000 /* 102,536 */
+#define LIZSOMDUR_STACK_MARK 120000       /* 95,338 */
+#define LIZSOMDUR_STACK_MARK_LEAST 120000 /* 95,352 */
+#define LIZSOMDUR_STACK_REVERSE 120000    /* 94,392 */
+#define LIZSOMDUR_STACK_ELIMINATE 135000  /* 106,360 */
 
 /* What a function returns in place of 0: the refusals by number, as told above. */
 enum {

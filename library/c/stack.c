@@ -1,11 +1,11 @@
 /* How much stack each function takes on the largest sheets: it is called in a thread whose stack was painted before, and what is no longer painted was
- * taken. Prints whether that is less than half of what lizsomdur.h says is enough; with an argument, how many bytes it is.
+ * taken. Prints whether that and a fifth more is at most what lizsomdur.h says; with an argument, how many bytes it is.
  */
 #define _XOPEN_SOURCE 700
 #include <pthread.h>
 #include "answers.h"
 
-enum { ENOUGH = 512000, PAINTED = 1 << 20, PAINT = 0xA5 };
+enum { PAINTED = 1 << 20, PAINT = 0xA5 };
 
 static uint8_t sheet[4 * 8643];
 static struct question question = {sheet, NULL, NULL, 0, CALLS, CALLS};
@@ -83,13 +83,13 @@ static uint32_t eliminate(void) {
 }
 
 /* The improvers refuse a sheet with lateness pay. */
-static const struct function { const char *name; uint32_t (*call)(void); uint32_t refusal; } FUNCTIONS[] = {
-    {"lizsomdur_plan", plan, 0},
-    {"lizsomdur_plan_least", plan_least, 0},
-    {"lizsomdur_mark", mark, 0},
-    {"lizsomdur_mark_least", mark_least, 0},
-    {"lizsomdur_reverse", reverse, LIZSOMDUR_REFUSED_LATENESS_PAY},
-    {"lizsomdur_eliminate", eliminate, LIZSOMDUR_REFUSED_LATENESS_PAY},
+static const struct function { const char *name; uint32_t (*call)(void); size_t stack; uint32_t refusal; } FUNCTIONS[] = {
+    {"lizsomdur_plan", plan, LIZSOMDUR_STACK_PLAN, 0},
+    {"lizsomdur_plan_least", plan_least, LIZSOMDUR_STACK_PLAN_LEAST, 0},
+    {"lizsomdur_mark", mark, LIZSOMDUR_STACK_MARK, 0},
+    {"lizsomdur_mark_least", mark_least, LIZSOMDUR_STACK_MARK_LEAST, 0},
+    {"lizsomdur_reverse", reverse, LIZSOMDUR_STACK_REVERSE, LIZSOMDUR_REFUSED_LATENESS_PAY},
+    {"lizsomdur_eliminate", eliminate, LIZSOMDUR_STACK_ELIMINATE, LIZSOMDUR_REFUSED_LATENESS_PAY},
 };
 
 static uint32_t (*called)(void);
@@ -135,7 +135,7 @@ static void tell(const struct function *function, int in_bytes) {
     if (in_bytes)
         printf("%s: %zu bytes\n", function->name, most);
     else
-        printf("%s: %s than half of the stack\n", function->name, 2 * most < ENOUGH ? "less" : "more");
+        printf("%s: %s, with a fifth more\n", function->name, most + most / 5 <= function->stack ? "within its stack" : "beyond its stack");
 }
 
 int main(int count, char **arguments) {
