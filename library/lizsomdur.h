@@ -119,6 +119,20 @@
  *             is rounded is a threshold far below 1 that whole numbers are held to. No function changes a mode. One may raise floating-point flags
  *             (inexact, invalid) and clears none, so exceptions have to stay masked, as they are where no one has called feenableexcept or the like.
  *
+ * ---- Time
+ *
+ * Each function ends, whatever it is given. How long that takes depends on the sheet and the runs; no proof speaks of it. These are the longest calls
+ * that a search has found, in milliseconds on one core of an Intel Xeon at 2.3 GHz. A call that comes once may take twice as long, until the processor's
+ * caches have it.
+ *
+ *   lizsomdur_plan       0.42      lizsomdur_plan_least     2.5
+ *   lizsomdur_mark       0.44      lizsomdur_mark_least     2.5
+ *   lizsomdur_eliminate    30      lizsomdur_reverse       2200
+ *
+ * The last is for a run that was made so that the function goes over it 500 times and tries nearly every reversal each time. Of the other runs that the
+ * search came by none took more than 4. But the function goes on as long as a reversal shortens the run: whoever takes runs from strangers should call it
+ * where it can be waited for. docs/BENCHMARKS.md says how the search goes; benchmarks/worst has the sheets and runs.
+ *
  * ---- Version
  *
  * LIZSOMDUR_VERSION is that of this header. Its first number changes where a program that calls the library has to be changed, the second where
