@@ -228,7 +228,8 @@ where
     Ok(Verdict::from_number(verdict, values.map(whole)))
 }
 
-/// Turns stretches of a run's calls around while that shortens it and it stays allowed: the run, and its distance.
+/// Turns stretches of a run's calls around while that shortens it and it stays allowed: the run, and its distance. That is a
+/// matter of milliseconds, but a run can be made that takes seconds; `lizsomdur.h` says more of it.
 pub fn reverse(sheet: &[u8], run: &[u8]) -> Result<(Vec<u8>, u64), Refusal> {
     let mut improved = vec![0; run.len()];
     let (mut word, mut distance) = (NO_WORD, 0.0);
