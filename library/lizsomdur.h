@@ -6,6 +6,7 @@
  *   lizsomdur_mark_least  says what somebody's own cutting is worth beside that one
  *   lizsomdur_reverse     shortens a run by another order of its calls
  *   lizsomdur_eliminate   does the same work with fewer runs
+ *   lizsomdur_visits      tells when a run is where, what it carries and all that it violates
  *
  * ---- The sheet
  *
@@ -67,12 +68,13 @@
  *   by least pay   it tries each call, and no break where the run needs none, and takes the place with the least lateness pay among those with which
  *                  the run is legal, limits too; of equal pay the one with which it is home sooner, then no break, then the earlier call
  *
- * lizsomdur_plan and lizsomdur_mark go by the clock; lizsomdur_plan_least and lizsomdur_mark_least go by least pay, and are the same in everything else.
+ * lizsomdur_plan and lizsomdur_mark go by the clock; lizsomdur_plan_least and lizsomdur_mark_least go by least pay, and are the same in everything
+ * else.
  *
  * A run that is legal with some break place gets one by either way, so both drop the same calls. By least pay no cutting of the served calls into legal
  * runs costs less, whatever its break places are. By the clock that is so too, but for sheets with both a break and lateness pay: there the cost is the
- * least with breaks as the clock takes them. On a sheet without lateness pay both ways cost the same, with breaks that may be at different calls; without
- * a break both give the same.
+ * least with breaks as the clock takes them. On a sheet without lateness pay both ways cost the same, with breaks that may be at different calls;
+ * without a break both give the same.
  *
  * ---- Refusals
  *
@@ -90,17 +92,20 @@
  * The first bad word is told, and of its faults the first in this list. `word` gets its index, from 0; for something behind F that is the index after
  * F's, and for 12 the number of whole words. These are faults of the lists:
  *
- *   13 a list too short: each that lizsomdur_plan writes needs room for 63; each that the other functions write, as much as the given list of its
- *      kind; and lizsomdur_mark needs a break place for each run (what it is given beyond that is not read)
+ *   13 a list too short: each that lizsomdur_plan writes needs room for 63; each that lizsomdur_visits writes, for a run of 128 calls, as is said there;
+ *      each that the other functions write, as much as the given list of its kind; and lizsomdur_mark needs a break place for each run (what it is given
+ *      beyond that is not read)
  *    1 more than 128 calls, or a call that is not from 1 to places - 1 (a byte from 64 to 255 never is)
  *    5 more than 128 run ends, one below the one before it, or a last one (without any: 0) that is not the number of calls (so none may be above that
- *      number); in lizsomdur_mark also a run without calls, a break place beyond its run, or one that is not 0 on a sheet without a break
+ *      number); in lizsomdur_mark also a run without calls; there and in lizsomdur_visits a break place beyond its run, or one that is not 0 on a
+ *      sheet without a break
  *    4 lateness pay on a sheet for lizsomdur_reverse or lizsomdur_eliminate
  *   23 a closed leg on a sheet for one of these two, whether the runs use it or not
  *
- * lizsomdur_plan tests its lists first: with 13 it sets `word` to 0, whatever the sheet is. The other functions test the sheet first, then their lists
- * in the order above; a fault of the lists leaves `word` as it was. On a refusal nothing but `word` is written. When 0 is returned, `word` stays as it
- * was, and nothing is written into a list beyond what the answer counts: each byte behind that stays as it was.
+ * lizsomdur_plan and lizsomdur_visits test first whether their lists are long enough: with 13 they set `word` to 0, whatever the sheet is. All else is
+ * tested after the sheet, in the order above, and so is 13 by the other functions; a fault of the lists leaves `word` as it was. On a refusal nothing
+ * but `word` is written. When 0 is returned, `word` stays as it was, and nothing is written into a list beyond what the answer counts: each byte behind
+ * that stays as it was.
  *
  * ---- Memory
  *
@@ -122,16 +127,17 @@
  * ---- Time
  *
  * Each function ends, whatever it is given. How long that takes depends on the sheet and the runs; no proof speaks of it. These are the longest calls
- * that a search has found, in milliseconds on one core of an Intel Xeon at 2.3 GHz. A call that comes once may take twice as long, until the processor's
- * caches have it.
+ * that a search has found, in milliseconds on one core of an Intel Xeon at 2.3 GHz. A call that comes once may take twice as long, until the
+ * processor's caches have it.
  *
  *   lizsomdur_plan       0.42      lizsomdur_plan_least     2.5
  *   lizsomdur_mark       0.44      lizsomdur_mark_least     2.5
  *   lizsomdur_eliminate    30      lizsomdur_reverse       2200
+ *   lizsomdur_visits     0.12
  *
- * The last is for a run that was made so that the function goes over it 500 times and tries nearly every reversal each time. Of the other runs that the
- * search came by none took more than 4. But the function goes on as long as a reversal shortens the run: whoever takes runs from strangers should call it
- * where it can be waited for. docs/BENCHMARKS.md says how the search goes; benchmarks/worst has the sheets and runs.
+ * That of lizsomdur_reverse is for a run that was made so that the function goes over it 500 times and tries nearly every reversal each time. Of the
+ * other runs that the search came by none took more than 4. But the function goes on as long as a reversal shortens the run: whoever takes runs from
+ * strangers should call it where it can be waited for. docs/BENCHMARKS.md says how the search goes; benchmarks/worst has the sheets and runs.
  *
  * ---- Version
  *
@@ -170,12 +176,16 @@ extern "C" {
 #define lizsomdur_mark_least LIZSOMDUR_LINKED(LIZSOMDUR_VERSION_MAJOR, _mark_least)
 #define lizsomdur_reverse LIZSOMDUR_LINKED(LIZSOMDUR_VERSION_MAJOR, _reverse)
 #define lizsomdur_eliminate LIZSOMDUR_LINKED(LIZSOMDUR_VERSION_MAJOR, _eliminate)
+#define lizsomdur_visits LIZSOMDUR_LINKED(LIZSOMDUR_VERSION_MAJOR, _visits)
 
 /* The most calls that a sheet has, and so the most runs of its plan: the room that each list of lizsomdur_plan needs. */
 #define LIZSOMDUR_TOUR 63
 
 /* The most calls, and the most runs, that a function is given. */
 #define LIZSOMDUR_CALLS 128
+
+/* The most violations of a run: one for each call, and four besides. */
+#define LIZSOMDUR_VIOLATIONS (LIZSOMDUR_CALLS + 4)
 
 /* The value of the C and D words of a leg that can't be driven. */
 #define LIZSOMDUR_NO_ROAD 0x0FFFFFFF
@@ -187,6 +197,7 @@ extern "C" {
 #define LIZSOMDUR_STACK_MARK_LEAST 120000 /* 95,352 */
 #define LIZSOMDUR_STACK_REVERSE 120000    /* 94,392 */
 #define LIZSOMDUR_STACK_ELIMINATE 135000  /* 106,360 */
+#define LIZSOMDUR_STACK_VISITS 170000     /* 135,064 */
 
 /* What a function returns in place of 0: the refusals by number, as told above. */
 enum {
@@ -297,6 +308,35 @@ uint32_t lizsomdur_eliminate(const uint8_t *sheet, size_t sheet_length,
                              uint8_t *left_calls, size_t left_calls_length,
                              uint8_t *left_ends, size_t left_ends_length,
                              size_t *word, size_t counts[2]);
+
+/* Violations, and the figures that each has. */
+enum {
+    LIZSOMDUR_VIOLATION_WINDOW = 1,      /* customer, when the bus is ready to serve, due: after due, where the customer has no penalty */
+    LIZSOMDUR_VIOLATION_BREAK = 2,       /* none: the run needs its break and does not take it; told only where no window is violated */
+    LIZSOMDUR_VIOLATION_LOAD = 3,        /* load, capacity */
+    LIZSOMDUR_VIOLATION_DISTANCE = 4,    /* distance, limit */
+    LIZSOMDUR_VIOLATION_DURATION = 5,    /* duration, limit */
+    LIZSOMDUR_VIOLATION_WHEELCHAIRS = 6, /* second load, second capacity */
+    LIZSOMDUR_VIOLATION_CLOSED_LEG = 7   /* number of the first closed leg: 1 leaves the depot; nothing else is told of such a run */
+};
+
+/* Tells the timeline of a run, legal or not, with its break at this place: 0 for none. A break that would start past latest is not taken. A customer
+ * whose window is missed is served all the same. With the break place of the plan, the times are those of the plan.
+ *
+ * times         arrival, before the break where that is here, service start and departure of each call: room for 3 * LIZSOMDUR_CALLS
+ * loads         seats and wheelchair places taken after each call: room for 2 * LIZSOMDUR_CALLS
+ * violations    their numbers, in the order of windows by call, break, load, second load, distance, duration: room for LIZSOMDUR_VIOLATIONS
+ * figures       three for each violation, 0 for those that it has not: room for 3 * LIZSOMDUR_VIOLATIONS
+ * counts        how many calls are told (none where a leg is closed), how many violations, and the place of the break if it is taken, or 0
+ * totals        distance, duration, lateness, lateness pay, and when the break starts, or 0
+ */
+uint32_t lizsomdur_visits(const uint8_t *sheet, size_t sheet_length,
+                          const uint8_t *run, size_t run_length, size_t place,
+                          double *times, size_t times_length,
+                          uint64_t *loads, size_t loads_length,
+                          uint8_t *violations, size_t violations_length,
+                          double *figures, size_t figures_length,
+                          size_t counts[3], double totals[5], size_t *word);
 
 #ifdef __cplusplus
 }

@@ -18,9 +18,22 @@ struct planned {
 struct marked { uint32_t number, verdict; double values[5]; size_t word; };
 struct reversed { uint32_t number; uint8_t improved[CALLS]; double distance; size_t word; };
 struct eliminated { uint32_t number; uint8_t calls[CALLS], ends[CALLS]; size_t counts[2], word; };
+struct timed {
+    uint32_t number;
+    double times[3 * CALLS], figures[3 * LIZSOMDUR_VIOLATIONS], totals[5];
+    uint64_t loads[2 * CALLS];
+    uint8_t violations[LIZSOMDUR_VIOLATIONS];
+    size_t counts[3], word;
+};
 
 /* What all functions return and leave; where a question is refused, or a list is longer than the answer, zeros stay. */
-struct answers { struct planned plans[2]; struct marked marks[2][MARKS]; struct reversed reversed; struct eliminated eliminated; };
+struct answers {
+    struct planned plans[2];
+    struct marked marks[2][MARKS];
+    struct reversed reversed;
+    struct eliminated eliminated;
+    struct timed timed[2];
+};
 
 typedef uint32_t plan_function(const uint8_t *, size_t, uint8_t *, size_t, uint8_t *, size_t, uint8_t *, size_t, double *, size_t, uint8_t *, size_t,
                                size_t[3], double[2], size_t *);
@@ -47,6 +60,12 @@ static inline void ask_eliminate(const struct question *q, struct eliminated *e)
                                     &e->word, e->counts);
 }
 
+/* The timeline of a run with its break at this place. */
+static inline void ask_visits(const struct question *q, const uint8_t *run, size_t count, size_t place, struct timed *t) {
+    t->number = lizsomdur_visits(q->sheet, q->sheet_length, run, count, place, t->times, 3 * CALLS, t->loads, 2 * CALLS,
+                                 t->violations, LIZSOMDUR_VIOLATIONS, t->figures, 3 * LIZSOMDUR_VIOLATIONS, t->counts, t->totals, &t->word);
+}
+
 /* The marks of the plan, of its calls as one run, and of each of them as a run. */
 static inline void ask_marks(mark_function *mark, const struct question *q, const struct planned *p, struct marked marks[MARKS]) {
     static const uint8_t no_breaks[TOUR];
@@ -67,6 +86,8 @@ static inline void ask(const struct question *q, struct answers *a) {
     ask_marks(lizsomdur_mark_least, q, &a->plans[0], a->marks[1]);
     ask_reverse(q, &a->reversed);
     ask_eliminate(q, &a->eliminated);
+    ask_visits(q, q->calls, q->count, 0, &a->timed[0]);
+    ask_visits(q, a->plans[0].served, a->plans[0].ends[0], a->plans[0].places[0], &a->timed[1]);
 }
 
 /* The questions that were read, with room for more than there are, and how many they are. */

@@ -232,6 +232,43 @@ static void improve(void) {
     eliminate(calls, LENGTH(calls), ends, LENGTH(ends));
 }
 
+/* The timeline of a run with its break at this place, in lists with room for so many calls less than the longest run has. */
+static void visits(const uint8_t *run, size_t count, size_t place, size_t less) {
+    enum { CALLED = LIZSOMDUR_CALLS, BROKEN = LIZSOMDUR_VIOLATIONS };
+    double times[3 * CALLED], figures[3 * BROKEN], totals[5];
+    uint64_t loads[2 * CALLED];
+    uint8_t numbers[BROKEN + BEHIND];
+    size_t counts[3] = {0, 0, 0}, word = 99;
+    memset(numbers, OLD, sizeof numbers);
+    uint32_t number = lizsomdur_visits(sheet, sheet_length, run, count, place, times, 3 * (CALLED - less), loads, 2 * CALLED, numbers, BROKEN,
+                                       figures, 3 * BROKEN, counts, totals, &word);
+    print_list("visits of", run, count);
+    printf("  with the break at %zu: %u word %zu\n", place, (unsigned)number, word);
+    for (size_t k = 0; k < counts[0]; k++)
+        printf("  call %u: there at %.0f, served from %.0f, left at %.0f, seats %u, wheelchairs %u\n", (unsigned)run[k], times[3 * k], times[3 * k + 1],
+               times[3 * k + 2], (unsigned)loads[2 * k], (unsigned)loads[2 * k + 1]);
+    if (number == 0) {
+        print_doubles("  distance, duration, lateness, pay and break start", totals, 5);
+        printf("  break taken at %zu\n", counts[2]);
+    }
+    for (size_t k = 0; k < counts[1]; k++)
+        printf("  violation %u: %.0f %.0f %.0f\n", (unsigned)numbers[k], figures[3 * k], figures[3 * k + 1], figures[3 * k + 2]);
+    look_behind("violations", numbers, counts[1], sizeof numbers);
+}
+
+/* Runs with their breaks at each call and at none, and beyond the last. */
+static void timelines(void) {
+    const uint8_t legal[] = {1, 5}, far[] = {4, 3, 2, 1, 5}, no_customer[] = {1, 6};
+    for (size_t place = 0; place <= LENGTH(legal) + 1; place++)
+        visits(legal, LENGTH(legal), place, 0);
+    visits(far, LENGTH(far), 0, 0);
+    visits(far, LENGTH(far), 1, 0);
+    visits(far, LENGTH(far), 5, 0);
+    visits(far, 0, 0, 0);
+    visits(no_customer, LENGTH(no_customer), 0, 0);
+    visits(legal, LENGTH(legal), 0, 1);
+}
+
 /* The calls 1 and 2 as one run, with a byte in place of the second, of the run's end or of its break place that may not stand there. Were only a part
  * of the byte read, some would be right.
  */
@@ -289,6 +326,7 @@ int main(void) {
     write_sheet(calls, LENGTH(calls), WINDOWS);
     plan();
     improve();
+    timelines();
     for (size_t k = 0; k < LENGTH(CUTTINGS); k++)
         mark(&CUTTINGS[k]);
     write_sheet(calls, LENGTH(calls), 0);
@@ -298,6 +336,7 @@ int main(void) {
     write_sheet(calls, LENGTH(calls), CLOSED);
     plan();
     improve();
+    visits(calls, 2, 0, 0);
     sheet_length -= 4;
     plan();
     improve();

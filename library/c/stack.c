@@ -82,6 +82,15 @@ static uint32_t eliminate(void) {
     return answers.eliminated.number;
 }
 
+static uint32_t visits(void) {
+    static double times[3 * LIZSOMDUR_CALLS], figures[3 * LIZSOMDUR_VIOLATIONS], totals[5];
+    static uint64_t loads[2 * LIZSOMDUR_CALLS];
+    static uint8_t violations[LIZSOMDUR_VIOLATIONS];
+    size_t counts[3], word;
+    return lizsomdur_visits(question.sheet, question.sheet_length, question.calls, CALLS, CALLS, times, 3 * LIZSOMDUR_CALLS, loads, 2 * LIZSOMDUR_CALLS,
+                            violations, LIZSOMDUR_VIOLATIONS, figures, 3 * LIZSOMDUR_VIOLATIONS, counts, totals, &word);
+}
+
 /* The improvers refuse a sheet with lateness pay. */
 static const struct function { const char *name; uint32_t (*call)(void); size_t stack; uint32_t refusal; } FUNCTIONS[] = {
     {"lizsomdur_plan", plan, LIZSOMDUR_STACK_PLAN, 0},
@@ -90,6 +99,7 @@ static const struct function { const char *name; uint32_t (*call)(void); size_t 
     {"lizsomdur_mark_least", mark_least, LIZSOMDUR_STACK_MARK_LEAST, 0},
     {"lizsomdur_reverse", reverse, LIZSOMDUR_STACK_REVERSE, LIZSOMDUR_REFUSED_LATENESS_PAY},
     {"lizsomdur_eliminate", eliminate, LIZSOMDUR_STACK_ELIMINATE, LIZSOMDUR_REFUSED_LATENESS_PAY},
+    {"lizsomdur_visits", visits, LIZSOMDUR_STACK_VISITS, 0},
 };
 
 static uint32_t (*called)(void);

@@ -16,20 +16,26 @@ pub enum Call {
     Mark(Placement),
     Reverse,
     Eliminate,
+    /// Of the calls given as one run, with its break at the first place given.
+    Visits,
 }
 
-pub const CALLS: [Call; 6] = [
+pub const CALLS: [Call; 7] = [
     Call::Plan(Placement::Clock),
     Call::Plan(Placement::Least),
     Call::Mark(Placement::Clock),
     Call::Mark(Placement::Least),
     Call::Reverse,
     Call::Eliminate,
+    Call::Visits,
 ];
 
 /// The most calls that a sheet has, and that runs have together.
 pub const TOUR: usize = 63;
 pub const MOST: usize = 128;
+
+/// The most violations that a run has.
+const VIOLATIONS: usize = MOST + 4;
 
 /// How long is timed.
 #[derive(Clone, Copy)]
@@ -52,6 +58,11 @@ impl Pace {
 pub struct Room {
     lists: [Vec<u8>; 4],
     starts: Vec<f64>,
+    /// Of a timeline: times, loads, violations and their figures.
+    times: Vec<f64>,
+    loads: Vec<u64>,
+    violations: Vec<u8>,
+    figures: Vec<f64>,
     word: usize,
     pub counts: [usize; 3],
 }
@@ -61,6 +72,10 @@ impl Room {
         Room {
             lists: [(); 4].map(|()| vec![0; MOST]),
             starts: vec![0.0; MOST],
+            times: vec![0.0; 3 * MOST],
+            loads: vec![0; 2 * MOST],
+            violations: vec![0; VIOLATIONS],
+            figures: vec![0.0; 3 * VIOLATIONS],
             ..Room::default()
         }
     }
@@ -75,6 +90,7 @@ impl Call {
             Call::Mark(Placement::Least) => "mark_least",
             Call::Reverse => "reverse",
             Call::Eliminate => "eliminate",
+            Call::Visits => "visits",
         }
     }
 
@@ -89,6 +105,10 @@ impl Call {
         let Room {
             lists: [first, second, third, fourth],
             starts,
+            times,
+            loads,
+            violations,
+            figures,
             word,
             counts,
         } = room;
@@ -105,6 +125,13 @@ impl Call {
             Call::Reverse => slices::reverse(sheet, calls, first, word, &mut 0.0),
             Call::Eliminate => {
                 slices::eliminate(sheet, calls, ends, first, second, word, &mut [0; 2])
+            }
+            Call::Visits => {
+                let place = places.first().map_or(0, |&place| place.into());
+                let totals = &mut [0.0; 5];
+                slices::visits(
+                    sheet, calls, place, times, loads, violations, figures, counts, totals, word,
+                )
             }
         }
     }

@@ -130,6 +130,18 @@ pub fn questions(call: Call) -> Vec<Question> {
                 .chain(made)
                 .collect()
         }
+        Call::Visits => {
+            let placed = |place: u8| {
+                move |question: Question| Question {
+                    places: vec![place],
+                    ..question
+                }
+            };
+            let runs = sheets.map(|words| in_runs(words, MOST));
+            let runs: Vec<Question> = runs.collect();
+            let late = runs.clone().into_iter().map(placed(MOST as u8));
+            runs.into_iter().map(placed(0)).chain(late).collect()
+        }
         _ => {
             let each = |words: Vec<u32>| {
                 let runs = RUNS.map(|run| in_runs(words.clone(), run));

@@ -3,20 +3,17 @@ use Prim.Native.Nat.{ℕ, zero, suc, _+_, _-_, _≤_, _<_}
 use native.Mathlib.Omega.{arith}
 use native.Mathlib.Nat.{zero-add}
 use mathlib.Core.Path.{_≡_, refl, sym, ap, ap₂, subst, _∙_}
-use mathlib.Core.Bool.{Bool, true, false, cond}
+use mathlib.Core.Bool.{false}
 use mathlib.Core.List.{List, [], _∷_, map}
 use mathlib.Core.Option.{Option, none, some}
 use lib.ListN.{length, length-map, length-append, drop}
 use lib.Seq.{take-append-seam}
-use Rattle.basics.proofs.TestLaws.{both}
-use Rattle.basics.specs.Options.{present}
 use Rattle.basics.specs.Lists.{All, Same, count, sum}
 use Rattle.basics.proofs.ListLaws.{all-imp, all-getD, all-map, length-count}
 use Rattle.definitions.specs.Domain.{mostCalls}
 use Rattle.definitions.specs.Sheet.{Sheet}
-use Rattle.definitions.specs.Run.{Run, legal}
 use Rattle.definitions.specs.RunList.{runsOf, callsOf, endsFrom, endsOf}
-use Rattle.definitions.specs.Cutting.{callsIn, joined, legalCutting}
+use Rattle.definitions.specs.Cutting.{callsIn, joined}
 use Rattle.definitions.specs.Placement.{Placement, byClock}
 use Rattle.definitions.specs.Drop.{callAt, Result, split, splitBy}
 use Rattle.definitions.specs.Promise.{Parts, ended, kept, gone}
@@ -33,8 +30,7 @@ use Rattle.theorems.proofs.Accepted.{Accepted, accepted-within}
 use Rattle.theorems.proofs.Bare.{split-by-clock}
 use Rattle.theorems.proofs.EliminationLaws.{eliminated-eliminates}
 use Rattle.theorems.proofs.GivenRuns.{rises}
-use Rattle.theorems.proofs.Legality.{legal-has}
-use Rattle.theorems.proofs.OwnMark.{placed-in, few-runs}
+use Rattle.theorems.proofs.OwnMark.{places-most, few-runs}
 use Rattle.theorems.proofs.Promised.{PromiseBy, promised-by}
 use Rattle.theorems.proofs.RunListLaws.{RiseTo, calls-back, sum-calls, ends-many}
 use Rattle.theorems.proofs.TwoOptLaws.{improved-same}
@@ -82,22 +78,6 @@ ends-most p (r ∷ rs) =
 
 ends-in-bytes : (rs : List (List ℕ)) → length (callsOf rs) ≤ mostCalls → InBytes (endsOf rs)
 ends-in-bytes rs few = all-imp (λ (e : ℕ). e ≤ 0 + length (callsOf rs)) (λ (e : ℕ). e ≤ mostCalls) (λ e h. omega (arith, h, few)) (endsOf rs) (ends-most 0 rs)
-
--- and so is each break place of legal runs
-at-most : (b : Bool) (p n : ℕ) → p ≤ cond b n 0 → p ≤ n
-at-most true p n h = h
-at-most false p n h = omega arith
-
-places-most : (s : Sheet) (rs : List Run) → legalCutting s rs ≡ true → All (λ (p : ℕ). p ≤ length (joined rs)) (map (λ r. r .place) rs)
-places-most s [] h = tt
-places-most s (r ∷ rs) h =
-    let b = both (legal s r) _ h in
-    let (t, L) = legal-has s r (b .0) in
-    let here = at-most (present (s .head .rest)) (r .place) (length (r .calls)) (placed-in (s .head .rest) (r .place) (length (r .calls)) (t .duration) (L .break-placed)) in
-    let m = length-append (r .calls) (joined rs) in (
-      omega (arith, here, m),
-      all-imp (λ (p : ℕ). p ≤ length (joined rs)) (λ (p : ℕ). p ≤ length (joined (r ∷ rs))) (λ p k. omega (arith, k, m)) (map (λ r. r .place) rs) (places-most s rs (b .1)),
-    )
 
 -- positions are at most the length of the tour
 count-most : (a n : ℕ) → All (λ (p : ℕ). p < a + n) (count a n)

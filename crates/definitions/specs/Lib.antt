@@ -17,6 +17,7 @@ pub mod Drop
 pub mod Promise
 -- Visits; the marker, and what its marks mean.
 pub mod Visits
+pub mod Timeline
 pub mod Marker
 pub mod Marks
 -- Demand 3 over what a caller is given.

@@ -2,11 +2,11 @@
 use Prim.Native.Nat.{ℕ, zero, suc, _+_, _/_, _%_}
 use Prim.Native.Char.{code}
 use Prim.Native.String.{String, [] as ended, _∷_ as _then_}
-use mathlib.Core.Bool.{cond}
+use mathlib.Core.Bool.{Bool, cond, _&&_}
 use mathlib.Core.List.{List, [], _∷_, _++_}
 use mathlib.Core.Option.{Option, none, some}
 use lib.ListN.{length}
-use lib.Dec.{ltb}
+use lib.Dec.{ltb, leb}
 use Rattle.definitions.specs.Sheet.{Sheet}
 use Rattle.definitions.specs.Run.{Run}
 use Rattle.definitions.specs.Clock.{startOf}
@@ -28,6 +28,10 @@ digitsIn (suc turns) n = cond (ltb n 10) ((code "0" + n) ∷ []) (digitsIn turns
 
 abbrev pub decimal : ℕ → List ℕ
 decimal n = digitsIn (suc n) n
+
+-- a byte that is a digit
+abbrev pub isDigit : ℕ → Bool
+isDigit b = leb (code "0") b && leb b (code "9")
 
 -- a blank, and a number
 abbrev pub spaced : ℕ → List ℕ

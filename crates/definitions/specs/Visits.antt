@@ -130,6 +130,15 @@ noTotals = record { distance = 0; duration = 0; lateness = 0; pay = 0; place = 0
 abbrev pub closedRoute : ℕ → Route
 closedRoute leg = record { visits = []; totals = noTotals; load = noLoad; start = none; violations = closedLeg leg ∷ [] }
 
+-- What a run violates: windows by visit, break not placeable (`told`; only if no window violation), capacity, distance, duration.
+abbrev pub violationsOf : Sheet → List ℕ → List Violation → Bool → Totals → List Violation
+violationsOf s calls windows told totals =
+    windows
+    ++ unless (not told) breakNotPlaceable
+    ++ overloads (load s calls) (s .head .capacity)
+    ++ unless (within (s .head .maxDistance) (totals .distance)) (overDistance (totals .distance) (valueOr 0 (s .head .maxDistance)))
+    ++ unless (within (s .head .maxDuration) (totals .duration)) (overDuration (totals .duration) (valueOr 0 (s .head .maxDuration)))
+
 -- Of a run without one: the break is where the clock puts it; an unplaceable break is left out of the visit times. Such a run has a way
 -- home, so `noTotals` is never read.
 unfoldable pub openRoute : Sheet → List ℕ → Route
@@ -143,13 +152,7 @@ openRoute s calls =
       totals = totals;
       load = load s calls;
       start = startOf s (record { calls = calls; place = place });
-      -- windows by visit, break not placeable (only if no window violation), capacity, distance, duration
-      violations =
-          windows
-          ++ unless (not (present (s .head .rest) && not (present placed) && isEmpty windows)) breakNotPlaceable
-          ++ overloads (load s calls) (s .head .capacity)
-          ++ unless (within (s .head .maxDistance) (totals .distance)) (overDistance (totals .distance) (valueOr 0 (s .head .maxDistance)))
-          ++ unless (within (s .head .maxDuration) (totals .duration)) (overDuration (totals .duration) (valueOr 0 (s .head .maxDuration)));
+      violations = violationsOf s calls windows (present (s .head .rest) && not (present placed) && isEmpty windows) totals;
     }
 
 unfoldable pub buildRoute : Sheet → List ℕ → Route

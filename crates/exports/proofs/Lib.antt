@@ -4,3 +4,4 @@ pub mod Answering
 pub mod PlanAnswers
 pub mod Marked
 pub mod Improved
+pub mod Visited

@@ -4,3 +4,4 @@ pub mod Answer
 pub mod Plan
 pub mod Mark
 pub mod Improve
+pub mod Visits

@@ -3,3 +3,4 @@
 pub mod improve;
 pub mod mark;
 pub mod plan;
+pub mod visits;

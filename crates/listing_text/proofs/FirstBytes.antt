@@ -33,8 +33,11 @@ longer bytes h =
     ∙ enough whole (take 1 behind) behind (length-take-le 34572 bytes (omega arith)) (first-byte behind many) (some-byte behind many)
     ∙ ap read (take-append-drop 34572 bytes)
 
+pub read-first : (bytes : List ℕ) → read (take 34573 bytes) ≡ read bytes
+read-first bytes =
+    by-test (leb 34573 (length bytes)) (λ y. longer bytes (leb-true 34573 (length bytes) y))
+    (λ n. let h : length bytes < 34573 = leb-false 34573 (length bytes) n in ap read (take-all 34573 bytes (omega arith)))
+
 pub first-bytes : (bytes : List ℕ) → listing (take 34573 bytes) ≡ listing bytes
 unfolding listing
-first-bytes bytes =
-    by-test (leb 34573 (length bytes)) (λ y. ap readingText (longer bytes (leb-true 34573 (length bytes) y)))
-    (λ n. let h : length bytes < 34573 = leb-false 34573 (length bytes) n in ap (λ (l : List ℕ). readingText (read l)) (take-all 34573 bytes (omega arith)))
+first-bytes bytes = ap readingText (read-first bytes)

@@ -1,5 +1,4 @@
--- What the proofs of the listing share: when breaks start, the text of a plan's lists, and that of bytes.
-pub mod BreakStarts
+-- What the proofs of the listing share: the text of a plan's lists, and that of bytes.
 pub mod PlanPrinted
 pub mod Listed
 pub mod FirstBytes

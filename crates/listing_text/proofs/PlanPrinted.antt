@@ -39,7 +39,7 @@ use Rattle.sheet_plan.proofs.CutHeld.{ends-counted, served-are, ends-are, dropp
 use Rattle.sheet_plan.proofs.PlanRuns.{runs-are, placed-are, served-few}
 use Rattle.sheet_plan.proofs.PlanRoom.{few-ends, served-and-dropped}
 use Rattle.sheet_plan.proofs.Planning.{rises, places-counted, starts-counted, break-places-are, break-starts-are}
-use Rattle.listing_text.proofs.BreakStarts.{starts-at, no-start}
+use Rattle.theorems.proofs.BreakStarts.{starts-at, no-start}
 
 -- ---- in whole numbers
 

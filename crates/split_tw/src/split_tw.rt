@@ -1,5 +1,5 @@
-// The cut of a tour on some terms (ga/split_tw.rs), from the calls that are held and the table of their rows (cut_heavy)
-// to the answer.
+// The cut of a tour on some terms (ga/split_tw.rs), from the calls that are held and the table of their rows
+// (cut_heavy) to the answer.
 ghost use mathlib.Core.Path.{_≡_};
 ghost use Prim.Native.Nat.{_≤_};
 ghost use lib.ListN.{length};

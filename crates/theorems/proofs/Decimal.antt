@@ -4,14 +4,14 @@ use Prim.Native.Char.{code}
 use native.Mathlib.Nat.{not-suc-le-zero, zero-add, div-add-mod'}
 use native.Mathlib.Omega.{arith}
 use mathlib.Core.Path.{_≡_, refl, ap, _∙_}
-use mathlib.Core.Bool.{Bool, true, _&&_}
+use mathlib.Core.Bool.{true}
 use mathlib.Core.List.{List, [], _∷_, _++_}
-use lib.Dec.{ltb, leb}
+use lib.Dec.{ltb}
 use borrow.Author.Tests.{ltb-true, ltb-false, le-leb}
 use Rattle.basics.proofs.TestLaws.{by-test, and-true}
 use Rattle.basics.specs.Lists.{Passes}
 use Rattle.basics.proofs.ListLaws.{all-append}
-use Rattle.definitions.specs.Listing.{digitsIn, decimal}
+use Rattle.definitions.specs.Listing.{digitsIn, decimal, isDigit}
 
 -- the number that digits say, behind those that said a
 abbrev pub valueFrom : ℕ → List ℕ → ℕ
@@ -45,10 +45,6 @@ digits-value (suc turns) n h =
 -- read again it is the number
 pub decimal-value : (n : ℕ) → valueFrom 0 (decimal n) ≡ n
 decimal-value n = digits-value (suc n) n (omega arith)
-
--- a digit
-abbrev pub isDigit : ℕ → Bool
-isDigit d = leb (code "0") d && leb d (code "9")
 
 digit : (d : ℕ) → d < 10 → isDigit (code "0" + d) ≡ true
 digit d h = and-true _ _ (le-leb (code "0") (code "0" + d) (omega arith)) (le-leb (code "0" + d) (code "9") (omega arith))

@@ -43,7 +43,7 @@ given-of : {A : Type 0} (o : Option ℕ) (x y : A) → o ≡ none → (unlessRef
 given-of o x y e = (λ h. given-by o x y h .1, λ h. ap (λ (q : Option ℕ). unlessRefused q x) e ∙ ap gives h)
 
 -- runs and their own break places, whatever stands behind these
-own-places : (rs : List Run) (more : List ℕ) → withPlaces (callsIn rs) (map (λ (r : Run). r .place) rs ++ more) ≡ rs
+pub own-places : (rs : List Run) (more : List ℕ) → withPlaces (callsIn rs) (map (λ (r : Run). r .place) rs ++ more) ≡ rs
 own-places [] more = refl
 own-places (r ∷ rs) more = ap (λ (l : List Run). r ∷ l) (own-places rs more)
 

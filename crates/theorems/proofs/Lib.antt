@@ -48,6 +48,8 @@ pub mod Marking
 pub mod Faults
 pub mod GivenMarks
 pub mod OwnMark
+-- When breaks start.
+pub mod BreakStarts
 pub mod Visiting
 pub mod Violations
 -- The improvers.

@@ -11,8 +11,8 @@ use lib.Dec.{ltb, leb, eqb}
 use borrow.Author.Tests.{ltb-false, le-ltb, leb-true, eqb-true, eq-eqb, ne-eqb}
 use Rattle.basics.proofs.TestLaws.{both, or-left, or-right, or-false}
 use Rattle.basics.specs.Options.{present}
-use Rattle.basics.specs.Lists.{isEmpty, any, count}
-use Rattle.basics.proofs.ListLaws.{length-count}
+use Rattle.basics.specs.Lists.{isEmpty, any, All, count}
+use Rattle.basics.proofs.ListLaws.{length-count, all-imp}
 use Rattle.definitions.specs.Domain.{isCall, mostCalls}
 use Rattle.definitions.specs.Sheet.{Break, Sheet, mapBreak}
 use Rattle.definitions.specs.Run.{Run, placed, legal}
@@ -55,7 +55,7 @@ module _ (Q : ℕ → Bool) where
   tour-fails tour p (suc n) h e =
       or-false (Q (callAt tour (suc p))) _ (subst (λ (i : ℕ). Q (getD tour i 0) ≡ false) (omega arith) (fails-at tour p (omega (arith, h)) e)) (tour-fails tour (suc p) n (omega (arith, h)) e)
 
-served-in-range : (places : ℕ) (tour : List ℕ) {held dropped : List ℕ} → Parts (count 1 (length tour)) held dropped → badCalls places tour ≡ false → badCalls places (callsAt tour held) ≡ false
+pub served-in-range : (places : ℕ) (tour : List ℕ) {held dropped : List ℕ} → Parts (count 1 (length tour)) held dropped → badCalls places tour ≡ false → badCalls places (callsAt tour held) ≡ false
 served-in-range places tour {held} p b =
     let R = calls-in-range places tour b in
     range-calls places (callsAt tour held)
@@ -75,11 +75,27 @@ filled : (l : List ℕ) → not (isEmpty l) ≡ true → 1 ≤ length l
 filled [] h = absurd (true≢false (sym h))
 filled (x ∷ l) h = omega arith
 
-pub placed-in : (rest : Option Break) (place n duration : ℕ) → placed rest place n duration ≡ true → place ≤ cond (present rest) n 0
+placed-in : (rest : Option Break) (place n duration : ℕ) → placed rest place n duration ≡ true → place ≤ cond (present rest) n 0
 unfolding placed
 placed-in none place n duration h = omega (arith, eqb-true place 0 h)
 placed-in (some b) zero n duration h = omega arith
 placed-in (some b) (suc k) n duration h = leb-true (suc k) n h
+
+-- each break place of legal runs is at most the number of their calls
+at-most : (b : Bool) (p n : ℕ) → p ≤ cond b n 0 → p ≤ n
+at-most true p n h = h
+at-most false p n h = omega arith
+
+pub places-most : (s : Sheet) (rs : List Run) → legalCutting s rs ≡ true → All (λ (p : ℕ). p ≤ length (joined rs)) (map (λ r. r .place) rs)
+places-most s [] h = tt
+places-most s (r ∷ rs) h =
+    let b = both (legal s r) _ h in
+    let (t, L) = legal-has s r (b .0) in
+    let here = at-most (present (s .head .rest)) (r .place) (length (r .calls)) (placed-in (s .head .rest) (r .place) (length (r .calls)) (t .duration) (L .break-placed)) in
+    let m = length-append (r .calls) (joined rs) in (
+      omega (arith, here, m),
+      all-imp (λ (p : ℕ). p ≤ length (joined rs)) (λ (p : ℕ). p ≤ length (joined (r ∷ rs))) (λ p k. omega (arith, k, m)) (map (λ r. r .place) rs) (places-most s rs (b .1)),
+    )
 
 module _ (s : Sheet) where
   none-empty : (p : ℕ) (rs : List Run) → legalCutting s rs ≡ true → emptyRun p (endsFrom p (callsIn rs)) ≡ false

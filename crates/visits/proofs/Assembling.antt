@@ -38,7 +38,7 @@ module _ (t : Tables) (capacity : Load) (limits : LimitsF) (calls : List ℕ) (b
 -- ---- a run without one
 
 -- a visit for each call
-visits-counted : (t : Tables) (r : RestF) (k : ℕ) (x : TripF) (calls : List ℕ) → length (visitsF t r k x calls) ≡ length calls
+pub visits-counted : (t : Tables) (r : RestF) (k : ℕ) (x : TripF) (calls : List ℕ) → length (visitsF t r k x calls) ≡ length calls
 unfolding visitsF
 visits-counted t r k x [] = refl
 visits-counted t r k x (c ∷ cs) = ap suc (visits-counted t r (suc k) _ cs)

@@ -69,7 +69,7 @@ overloads-exact load capacity =
     ∙ sym (map-append flViolation (unless (seated load capacity) v) (unless (wheeled load capacity) w))
 
 module _ (s : Sheet) (S : Sized s) (windows : List Violation) (missing : Bool) (load : Load) (distance duration : ℕ) (far : distance ≤ limit) (long : duration ≤ limit) where
-  checked-exact : checkedF (map flViolation windows) missing load (s .head .capacity) (flLimits s) (fl distance) (fl duration)
+  pub checked-exact : checkedF (map flViolation windows) missing load (s .head .capacity) (flLimits s) (fl distance) (fl duration)
       ≡ map flViolation (windows
       ++ unless (not (missing && isEmpty windows)) breakNotPlaceable
       ++ overloads load (s .head .capacity)

@@ -60,7 +60,7 @@ module _ (s : Sheet) (place : ℕ) (o : Option ℕ) where
   unplaced k e = rw e
 
   -- at a call without the break both are the arrival
-  ready-plain : (k arrival : ℕ) → eqb place k ≡ false → readyAt s place o k arrival ≡ valueOr arrival (ready (breakAt s place k) arrival)
+  pub ready-plain : (k arrival : ℕ) → eqb place k ≡ false → readyAt s place o k arrival ≡ valueOr arrival (ready (breakAt s place k) arrival)
   unfolding ready
   ready-plain k arrival e = rw e (go o)
     where
@@ -68,7 +68,7 @@ module _ (s : Sheet) (place : ℕ) (o : Option ℕ) where
       go none = refl
       go (some from) = refl
 
-  agrees-past : (k a : ℕ) (l : Label) (calls : List ℕ) → place < k → Agrees s place o k a l calls
+  pub agrees-past : (k a : ℕ) (l : Label) (calls : List ℕ) → place < k → Agrees s place o k a l calls
   agrees-past k a l [] h = tt
   agrees-past k a l (c ∷ cs) h = (ready-plain k _ (ne-eqb place k apart), agrees-past (suc k) c _ cs (omega arith))
     where

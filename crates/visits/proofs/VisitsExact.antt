@@ -59,7 +59,7 @@ length-small : (o : Option Break) → Holds SmallBreak o → Small (lengthOf o)
 length-small none B = omega arith
 length-small (some b) B = B .duration-small
 
-ready-exact : (s : Sheet) → Sized s → (place : ℕ) (o : Option ℕ) (missing : Bool) → Holds (λ (n : ℕ). n ≤ limit) o → (k arrival : ℕ)
+pub ready-exact : (s : Sheet) → Sized s → (place : ℕ) (o : Option ℕ) (missing : Bool) → Holds (λ (n : ℕ). n ≤ limit) o → (k arrival : ℕ)
     → readyAtF (flRest s place o missing) k (fl arrival) ≡ fl (readyAt s place o k arrival)
 unfolding readyAtF
 ready-exact s S place none missing O k arrival = refl
@@ -69,7 +69,7 @@ ready-exact s S place (some from) missing O k arrival =
 -- ---- a call after k others
 
 module _ (k : ℕ) (few : k < mostCalls) where
-  begin-exact : (w : Option Window) → Holds SmallWindow w → (r : ℕ) → r ≤ readyBy k → beginF (Option·map flWindow w) (fl r) ≡ fl (begins w r)
+  pub begin-exact : (w : Option Window) → Holds SmallWindow w → (r : ℕ) → r ≤ readyBy k → beginF (Option·map flWindow w) (fl r) ≡ fl (begins w r)
   unfolding beginF
   begin-exact none W r h = refl
   begin-exact (some w) W r h =
@@ -133,7 +133,7 @@ module _ (s : Sheet) (S : Sized s) (t : Tables) (I : Image s t) (place : ℕ) (o
     abbrev readiness : ℕ
     readiness = readyFor s (breakAt s place j) a c l
 
-    onward : Onward s place o (suc k) (suc j) c next cs
+    pub onward : Onward s place o (suc k) (suc j) c next cs
     onward =
         record {
           few = omega arith;

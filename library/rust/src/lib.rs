@@ -29,10 +29,12 @@ mod raw;
 mod refusal;
 mod sheet;
 mod slices;
+mod timeline;
 mod verdict;
 
 pub use refusal::Refusal;
 pub use sheet::{Customer, Sheet};
+pub use timeline::{timeline, Stop, Timeline, Violation, VIOLATIONS};
 pub use verdict::Verdict;
 
 /// The package's version, which is that of `lizsomdur.h`.

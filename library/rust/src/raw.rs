@@ -102,4 +102,23 @@ linked! {
         word: *mut usize,
         counts: *mut [usize; 2],
     ) -> u32;
+
+    fn visits(
+        sheet: *const u8,
+        sheet_length: usize,
+        run: *const u8,
+        run_length: usize,
+        place: usize,
+        times: *mut f64,
+        times_length: usize,
+        loads: *mut u64,
+        loads_length: usize,
+        violations: *mut u8,
+        violations_length: usize,
+        figures: *mut f64,
+        figures_length: usize,
+        counts: *mut [usize; 3],
+        totals: *mut [f64; 5],
+        word: *mut usize,
+    ) -> u32;
 }

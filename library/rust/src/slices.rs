@@ -122,3 +122,39 @@ pub fn eliminate(
         )
     }
 }
+
+#[allow(clippy::too_many_arguments)] // as in `plan`
+pub fn visits(
+    sheet: &[u8],
+    run: &[u8],
+    place: usize,
+    times: &mut [f64],
+    loads: &mut [u64],
+    violations: &mut [u8],
+    figures: &mut [f64],
+    counts: &mut [usize; 3],
+    totals: &mut [f64; 5],
+    word: &mut usize,
+) -> u32 {
+    // SAFETY: as in `plan`.
+    unsafe {
+        raw::visits(
+            sheet.as_ptr(),
+            sheet.len(),
+            run.as_ptr(),
+            run.len(),
+            place,
+            times.as_mut_ptr(),
+            times.len(),
+            loads.as_mut_ptr(),
+            loads.len(),
+            violations.as_mut_ptr(),
+            violations.len(),
+            figures.as_mut_ptr(),
+            figures.len(),
+            counts,
+            totals,
+            word,
+        )
+    }
+}

@@ -1,7 +1,7 @@
-//! The numbers of refusals and verdicts: those of the package beside those of lizsomdur.h, and the refusals beside those of docs/SHEET.md.
+//! The numbers of refusals, verdicts and violations: those of the package beside those of lizsomdur.h, and the refusals beside those of docs/SHEET.md.
 mod common;
 use common::text;
-use lizsomdur::{Refusal, Verdict};
+use lizsomdur::{Refusal, Verdict, Violation};
 
 /// The header's named numbers with this beginning: name without it, number, and the comment behind.
 fn named(beginning: &str) -> Vec<(String, u32, String)> {
@@ -85,11 +85,33 @@ const VERDICTS: [(&str, u32); 12] = [
 #[test]
 fn the_header_has_the_verdicts_of_the_package() {
     let header = named("LIZSOMDUR_").into_iter();
-    let header = header.filter(|(name, ..)| !name.starts_with("REFUSED_"));
+    let other = |name: &str| name.starts_with("REFUSED_") || name.starts_with("VIOLATION_");
+    let header = header.filter(|(name, ..)| !other(name));
     let header: Vec<(String, u32)> = header.map(|(name, number, _)| (name, number)).collect();
     assert_eq!(
         header,
         VERDICTS.map(|(name, number)| (name.to_string(), number))
+    );
+}
+
+/// In the order of their numbers.
+const VIOLATIONS: [(&str, u8); 7] = [
+    ("WINDOW", Violation::WINDOW),
+    ("BREAK", Violation::BREAK),
+    ("LOAD", Violation::LOAD),
+    ("DISTANCE", Violation::DISTANCE),
+    ("DURATION", Violation::DURATION),
+    ("WHEELCHAIRS", Violation::WHEELCHAIRS),
+    ("CLOSED_LEG", Violation::CLOSED_LEG),
+];
+
+#[test]
+fn the_header_has_the_violations_of_the_package() {
+    let header = named("LIZSOMDUR_VIOLATION_").into_iter();
+    let header: Vec<(String, u32)> = header.map(|(name, number, _)| (name, number)).collect();
+    assert_eq!(
+        header,
+        VIOLATIONS.map(|(name, number)| (name.to_string(), u32::from(number)))
     );
 }
 

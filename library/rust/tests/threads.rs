@@ -1,13 +1,13 @@
 //! All functions called by several threads at once, on the same sheets and on different ones: the answers are those of one thread alone.
 mod common;
 use common::{records, sample, PLACEMENTS};
-use lizsomdur::{eliminate, mark_by, plan_by, reverse};
+use lizsomdur::{eliminate, mark_by, plan_by, reverse, timeline};
 use std::sync::Barrier;
 use std::thread;
 
 const THREADS: usize = 8;
 
-/// What all functions say of a sheet: its plans, the marks of these, and its customers' runs improved.
+/// What all functions say of a sheet: its plans, the marks of these, its runs improved, and when they are where.
 fn answers(sheet: &[u8]) -> String {
     let plans = PLACEMENTS.map(|placement| plan_by(placement, sheet));
     let Ok(plan) = &plans[0] else {
@@ -16,7 +16,8 @@ fn answers(sheet: &[u8]) -> String {
     let marks = PLACEMENTS.map(|placement| mark_by(placement, sheet, &plan.runs));
     let runs: Vec<Vec<u8>> = plan.runs.iter().map(|run| run.calls.clone()).collect();
     let improved = (reverse(sheet, &runs.concat()), eliminate(sheet, &runs));
-    format!("{plans:?} {marks:?} {improved:?}")
+    let told: Vec<_> = plan.runs.iter().map(|run| timeline(sheet, run)).collect();
+    format!("{plans:?} {marks:?} {improved:?} {told:?}")
 }
 
 /// Each thread asks for all sheets, beginning so many after the thread before it.

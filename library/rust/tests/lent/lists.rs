@@ -185,3 +185,45 @@ impl Left {
         (number, self)
     }
 }
+
+#[derive(Clone, Debug, PartialEq)]
+pub struct Timed {
+    pub times: Lent<f64>,
+    pub loads: Lent<u64>,
+    pub violations: Lent<u8>,
+    pub figures: Lent<f64>,
+    pub counts: [usize; 3],
+    pub totals: [f64; 5],
+    pub word: usize,
+}
+
+impl Timed {
+    pub fn new([times, loads, violations, figures]: [usize; 4]) -> Timed {
+        Timed {
+            times: Lent::new(OLD_FLOAT, times),
+            loads: Lent::new(OLD as u64, loads),
+            violations: Lent::new(OLD_BYTE, violations),
+            figures: Lent::new(OLD_FLOAT, figures),
+            counts: [OLD; 3],
+            totals: [OLD_FLOAT; 5],
+            word: OLD,
+        }
+    }
+
+    /// What `lizsomdur_visits` returns, and what it leaves.
+    pub fn after(mut self, sheet: &[u8], run: &[u8], place: usize) -> (u32, Timed) {
+        let number = slices::visits(
+            sheet,
+            run,
+            place,
+            self.times.lent(),
+            self.loads.lent(),
+            self.violations.lent(),
+            self.figures.lent(),
+            &mut self.counts,
+            &mut self.totals,
+            &mut self.word,
+        );
+        (number, self)
+    }
+}

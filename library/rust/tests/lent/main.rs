@@ -12,10 +12,18 @@ use common::faulty::faulty;
 use common::sheets::{Customer, Sheet};
 use common::worked::{base, full, marked, of_closed, with_capacity, with_closed, with_window};
 use common::{sample, PLACEMENTS};
-use lists::{Judged, Left, Planned, Reversed, OLD_FLOAT};
+use lists::{Judged, Left, Planned, Reversed, Timed, OLD_FLOAT};
 use lizsomdur::Placement;
 
 const ROOM: usize = lizsomdur::TOUR;
+
+/// The room of the lists for a timeline.
+const LINE: [usize; 4] = [
+    3 * lizsomdur::CALLS,
+    2 * lizsomdur::CALLS,
+    lizsomdur::VIOLATIONS,
+    3 * lizsomdur::VIOLATIONS,
+];
 
 type List<'a> = &'a [u8];
 
@@ -125,6 +133,52 @@ fn a_refused_sheet_sets_the_word_alone() {
             ..Left::new(0, 0)
         };
         assert_eq!(Left::new(0, 0).after(&sheet, &[99], &[7]), (number, left));
+        let left = Timed {
+            word,
+            ..Timed::new(LINE)
+        };
+        assert_eq!(Timed::new(LINE).after(&sheet, &[99], 7), (number, left));
+    }
+}
+
+#[test]
+fn a_timeline_is_written_at_the_fronts() {
+    let (line, road) = (Timed::new(LINE), road());
+    let times = [10.0, 10.0, 10.0, 20.0, 20.0, 20.0, 30.0, 30.0, 30.0];
+    let expected = Timed {
+        times: line.times.fronted(&times),
+        loads: line.loads.fronted(&[1, 0, 2, 0, 3, 0]),
+        counts: [3, 0, 0],
+        totals: [60.0, 60.0, 0.0, 0.0, 0.0],
+        ..line.clone()
+    };
+    assert_eq!(line.clone().after(&road, &[1, 2, 3], 0), (0, expected));
+    let overfull: List = &[1, 2, 3, 1];
+    let (number, left) = line.clone().after(&road, overfull, 0);
+    assert_eq!((number, left.counts), (0, [4, 1, 0]));
+    assert_eq!(left.violations, line.violations.fronted(&[3]));
+    assert_eq!(left.figures, line.figures.fronted(&[4.0, 3.0, 0.0]));
+}
+
+#[test]
+fn a_timeline_that_is_refused_leaves_the_lists() {
+    let line = Timed::new(LINE);
+    let road = road();
+    for (run, place, number) in [(&[1, 4][..], 0, 1), (&[1; 129], 0, 1), (&[1], 1, 5)] {
+        assert_eq!(
+            line.clone().after(&road, run, place),
+            (number, line.clone())
+        );
+    }
+    for short in 0..LINE.len() {
+        let mut rooms = LINE;
+        rooms[short] -= 1;
+        let line = Timed::new(rooms);
+        let left = Timed {
+            word: 0,
+            ..line.clone()
+        };
+        assert_eq!(line.after(&[], &[1], 0), (13, left));
     }
 }
 

@@ -18,7 +18,7 @@ begun top = let known = top .before .before .before .before in known .before .be
 
 -- what is lent to `hold_tour`
 abbrev lent : tie.After-pred → tie.After-infinity
-lent c = let arg = c .before .before .before .before .before .before in arg .before
+lent c = let past-arg = c .before .before .before in let arg = past-arg .before .before .before in arg .before
 
 -- its lists are given back
 abbrev held-at : tie.After-slice-known4 → tie.After-hold-tour
