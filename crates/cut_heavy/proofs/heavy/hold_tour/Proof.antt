@@ -18,7 +18,7 @@ use Rattle.cut_heavy.proofs.heavy.hold_tour.Tie as tie
 -- the calls that fit alone are written
 module _ (b : tie.After-write-light) where
   abbrev begun : tie.Start
-  begun = let known = b .before .before in known .before .before .before .before .before .before .before
+  begun = let known = b .before .before .before .before .before in known .before .before .before .before
 
   abbrev lent : Given
   lent = let a = begun .args in given (now (a .distances)) (now (a .times)) (a .size) (now (a .codes)) (now (a .figures)) (a .terms)

@@ -27,7 +27,7 @@ abbrev μ-loop : tie.MeasureT-loop
 
 module _ (l : tie.At-loop Inv-loop μ-loop) where
   abbrev begun : tie.Start Inv-loop μ-loop
-  begun = l .before .before .before .before .before .before
+  begun = let known = l .before .before .before in known .before .before .before
 
   -- the list written is as long as it was
   long : length (l .loop .to) ≡ length (now (begun .args .to))

@@ -1,0 +1,3 @@
+-- What the code's modes mean, and what its counts and lists say.
+pub mod Modes
+pub mod TextSoFar

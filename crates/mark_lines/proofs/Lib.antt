@@ -1,0 +1,2 @@
+-- What the proofs of a mark's text share.
+pub mod Shown

@@ -1,0 +1,2 @@
+-- The words shown so far.
+pub mod Showing

@@ -1,0 +1,3 @@
+// A sheet as text: its words shown.
+pub mod file;
+pub mod show;

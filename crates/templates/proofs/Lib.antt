@@ -1,0 +1,3 @@
+-- What the proofs of templates share.
+pub mod Filling
+pub mod Chains

@@ -1,0 +1,2 @@
+-- What the contracts of templates cite.
+pub mod Fill

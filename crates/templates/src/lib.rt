@@ -1,0 +1,2 @@
+// Lines made from a template.
+pub mod fill;

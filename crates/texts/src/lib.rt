@@ -1,0 +1,1 @@
+// What the programs read and print, beside the listing: see specs/. No functions.

@@ -1,0 +1,3 @@
+-- What the proofs of a timeline's lines share.
+pub mod Templates
+pub mod Turns

@@ -1,0 +1,2 @@
+-- What the contracts of a timeline's lines cite.
+pub mod Told
