@@ -17,7 +17,7 @@ use split::split::split;
 use split_tw::split_tw::split_tw;
 use two_opt::two_opt::two_opt_improve;
 
-#[derive(Drop)]
+#[derive(Clone, Copy)]
 pub enum Work {
     // With breaks where this placement puts them.
     SplitTw(Placement),

@@ -5,7 +5,7 @@ ghost use Rattle.bytes_visits.specs.Rows.{held_f, figures_in};
 
 use visits::visit::ViolationType;
 
-#[derive(Drop)]
+#[derive(Clone, Copy)]
 pub struct Figures {
     pub first: f64,
     pub second: f64,

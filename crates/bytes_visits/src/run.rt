@@ -18,7 +18,7 @@ use models::vehicle::{Rest, has_rest};
 use refuse_numbers::calls::bad_run_list;
 use timeline::timeline::{Timeline, timeline_of};
 
-#[derive(Drop)]
+#[derive(Clone, Copy)]
 pub enum Visiting {
     Refused(u32),
     Told(Told),

@@ -9,7 +9,7 @@ use timeline::timeline::Timeline;
 
 // How many visits and violations there are; the number of the call at which the break is taken, from 1, or 0, and when
 // it starts, or 0.0; and the totals.
-#[derive(Drop)]
+#[derive(Clone, Copy)]
 pub struct Told {
     pub visits: usize,
     pub violations: usize,

@@ -10,7 +10,7 @@ use refuse_order::by_call::refuse_cutting;
 use split_tw::answer::SplitResult;
 
 // What is written is told by its counts.
-#[derive(Drop)]
+#[derive(Clone, Copy)]
 pub enum Cut {
     Refused(u32),
     Cut(SplitResult),

@@ -18,7 +18,7 @@ use models::placement::Placement;
 use refuse_order::by_call::refuse_marking;
 use split_tw::split_tw::split_tw;
 
-#[derive(Drop)]
+#[derive(Clone, Copy)]
 pub enum Marking {
     Refused(u32),
     Verdict(Verdict),

@@ -11,7 +11,7 @@ use models::head::Head;
 use refuse_order::by_call::refuse_eliminating;
 use route_elimination::route_elimination::Left;
 
-#[derive(Drop)]
+#[derive(Clone, Copy)]
 pub enum Elimination {
     Refused(u32),
     Left(Left),

@@ -11,13 +11,13 @@ use models::head::Head;
 use refuse_order::by_call::refuse_reversing;
 
 // A run as it is left: how many calls are written, and its distance.
-#[derive(Drop)]
+#[derive(Clone, Copy)]
 pub struct ImprovedRun {
     pub calls: usize,
     pub distance: f64,
 }
 
-#[derive(Drop)]
+#[derive(Clone, Copy)]
 pub enum Reversed {
     Refused(u32),
     Improved(ImprovedRun),

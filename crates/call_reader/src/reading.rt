@@ -10,7 +10,7 @@ use sheet_read::read::{Contents, Reading};
 use sheet_read::values::{write_tour, write_values};
 
 // What is written is told by its counts.
-#[derive(Drop)]
+#[derive(Clone, Copy)]
 pub enum Read {
     // Number, and word index from 0.
     Refused(u32, usize),

@@ -12,20 +12,20 @@ use models::placement::Placement;
 use placements::placed::eval_by;
 use refuse_order::by_call::refuse_evaluating;
 
-#[derive(Drop)]
+#[derive(Clone, Copy)]
 pub enum Feasible {
     Refused(u32),
     Answer(bool),
 }
 
 // Infinite where the run is not allowed.
-#[derive(Drop)]
+#[derive(Clone, Copy)]
 pub enum Cost {
     Refused(u32),
     Answer(f64),
 }
 
-#[derive(Drop)]
+#[derive(Clone, Copy)]
 pub enum Evaluation {
     Refused(u32),
     NotAllowed,

@@ -15,7 +15,7 @@ use visits::evaluator::Built;
 use visits::visit::{MOST_VIOLATIONS, Violation, Visit};
 
 // The visits and the violations by their counts, and the totals. The place is that of the break, from 1, or 0.
-#[derive(Drop)]
+#[derive(Clone, Copy)]
 pub struct RouteFigures {
     pub visits: usize,
     pub violations: usize,
@@ -28,14 +28,14 @@ pub struct RouteFigures {
     pub start: Start,
 }
 
-#[derive(Drop)]
+#[derive(Clone, Copy)]
 pub enum Route {
     Refused(u32),
     Built(RouteFigures),
 }
 
 // The answer, and what is to be written: the first `count` visits and the first `found` violations.
-#[derive(Drop)]
+#[derive(Clone, Copy)]
 pub struct Listed {
     pub route: Route,
     pub visits: [Visit; 128],

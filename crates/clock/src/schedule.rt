@@ -11,7 +11,7 @@ use models::vehicle::{Rest, VehicleBreak};
 use whole::larger;
 
 // The bus with a call served. The place is the number of the call at which the break was taken, from 1, or 0.
-#[derive(Drop)]
+#[derive(Clone, Copy)]
 pub struct Label {
     pub time: f64,
     pub lateness: f64,
@@ -20,21 +20,21 @@ pub struct Label {
 }
 
 // No label, or one.
-#[derive(Drop)]
+#[derive(Clone, Copy)]
 pub enum Reached {
     Nowhere,
     At(Label),
 }
 
 // When a call is ready to be entered; not at all where the break there would start after latest.
-#[derive(Drop)]
+#[derive(Clone, Copy)]
 pub enum Ready {
     TooLate,
     From(f64),
 }
 
 // What the clock reports of a run: its totals, with the place of the break.
-#[derive(Drop)]
+#[derive(Clone, Copy)]
 pub struct Scheduled {
     pub distance: f64,
     pub duration: f64,
@@ -44,7 +44,7 @@ pub struct Scheduled {
 }
 
 // A run that can't be had, or what it comes to.
-#[derive(Drop)]
+#[derive(Clone, Copy)]
 pub enum Finished {
     Impossible,
     Home(Scheduled),
@@ -52,7 +52,7 @@ pub enum Finished {
 
 // The clock of a run that grows one call at a time: the labels before and after the break, the last place, and the
 // number of the next call.
-#[derive(Drop)]
+#[derive(Clone, Copy)]
 pub struct BreakClock {
     pub rest: VehicleBreak,
     pub before: Reached,

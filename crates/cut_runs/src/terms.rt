@@ -3,7 +3,7 @@ use models::limits::RouteLimits;
 use models::load::Space;
 use models::placement::Placement;
 
-#[derive(Drop)]
+#[derive(Clone, Copy)]
 pub struct Terms {
     // what a vehicle holds
     pub capacity: Space,

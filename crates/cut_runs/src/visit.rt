@@ -7,14 +7,14 @@ use models::customer::{Customer, Opening, Penalty};
 use whole::larger;
 
 // The time on the way through a run without a break, and what its lateness costs so far.
-#[derive(Drop)]
+#[derive(Clone, Copy)]
 pub struct Elapsed {
     pub time: f64,
     pub late_cost: f64,
 }
 
 // A window that ends the run, or the way on.
-#[derive(Drop)]
+#[derive(Clone, Copy)]
 pub enum Visited {
     Shut,
     Open(Elapsed),

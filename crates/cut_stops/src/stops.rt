@@ -31,7 +31,7 @@ pub const ALL_CODES: usize = 64 * CODES;
 pub const ALL_FIGURES: usize = 64 * FIGURES;
 
 // A place: its record, and the legs from the depot and home, in distance and in time, as the lists have them.
-#[derive(Drop)]
+#[derive(Clone, Copy)]
 pub struct Stop {
     pub customer: Customer,
     pub out: f64,

@@ -5,7 +5,7 @@ ghost use Rattle.definitions.specs.Listing.{is_digit};
 ghost use Rattle.texts.specs.CuttingText as Text;
 ghost use Rattle.cutting_text.specs.Modes.{letters_of, after_of, mode_of, number_of, moved_of, turned, lined};
 
-#[derive(Drop)]
+#[derive(Clone, Copy)]
 pub enum LineWord {
     Run,
     Drop,
@@ -13,14 +13,14 @@ pub enum LineWord {
     Rest,
 }
 
-#[derive(Drop)]
+#[derive(Clone, Copy)]
 pub enum Number {
     Customer,
     Place,
     Start,
 }
 
-#[derive(Drop)]
+#[derive(Clone, Copy)]
 pub enum Mode {
     Fresh,
     // A word, and how many letters behind its first have come.
@@ -33,14 +33,14 @@ pub enum Mode {
 }
 
 // What a byte that is no blank and no end of a line leads to.
-#[derive(Drop)]
+#[derive(Clone, Copy)]
 pub enum Moved {
     Nowhere,
     To(Mode),
 }
 
 // What a blank leads to: a number may be complete with it.
-#[derive(Drop)]
+#[derive(Clone, Copy)]
 pub enum Turn {
     Stuck,
     On(Mode),
@@ -49,7 +49,7 @@ pub enum Turn {
 }
 
 // What the end of a line leads to behind a blank.
-#[derive(Drop)]
+#[derive(Clone, Copy)]
 pub enum Line {
     Early,
     Passed,

@@ -11,7 +11,7 @@ use crate::mode::{
 };
 
 // What the bytes so far say: this line, the break place of its run, and how many calls and whole runs there are.
-#[derive(Drop)]
+#[derive(Clone, Copy)]
 pub struct TextSoFar {
     pub mode: Mode,
     pub place: u8,
@@ -19,7 +19,7 @@ pub struct TextSoFar {
     pub runs: usize,
 }
 
-#[derive(Drop)]
+#[derive(Clone, Copy)]
 pub enum Step {
     Stuck,
     To(TextSoFar),
@@ -135,7 +135,7 @@ pub fn next(r: TextSoFar, b: u8, calls: &mut [u8], ends: &mut [usize], places: &
     })
 }
 
-#[derive(Drop)]
+#[derive(Clone, Copy)]
 pub enum CuttingRead {
     // How many calls and runs.
     Runs(usize, usize),

@@ -4,14 +4,14 @@ ghost use Rattle.distance.specs.Lookup.{drive_f, drive_of};
 
 use crate::matrix::{Road, get, travel_time};
 
-#[derive(Drop)]
+#[derive(Clone, Copy)]
 pub struct Leg {
     pub distance: f64,
     pub time: f64,
 }
 
 // A leg that can be driven, or a closed one.
-#[derive(Drop)]
+#[derive(Clone, Copy)]
 pub enum Drive {
     Open(Leg),
     Closed,

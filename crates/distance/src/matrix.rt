@@ -8,7 +8,7 @@ ghost use Rattle.distance.specs.Lookup.{is_closed_f, number_f, road_f, lookup_f,
 use whole::infinity;
 
 // What a leg table says of a leg: its length, or that there is no road.
-#[derive(Drop)]
+#[derive(Clone, Copy)]
 pub enum Road {
     Length(f64),
     Closed,
@@ -98,7 +98,7 @@ fn lookup_time(distances: &[f64], times: &[f64], size: usize, from: usize, to: u
 }
 
 // A view over the lent tables, each of its own lifetime; without a time table `times` is empty.
-#[derive(Drop)]
+#[derive(Clone, Copy)]
 pub struct DistanceMatrix<'a, 'b> {
     distances: &'a [f64],
     times: &'b [f64],

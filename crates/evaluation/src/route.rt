@@ -18,21 +18,21 @@ use models::vehicle::{Rest, VehicleBreak};
 use whole::infinity;
 
 // No break, or when it starts.
-#[derive(Drop)]
+#[derive(Clone, Copy)]
 pub enum Start {
     Unbroken,
     At(f64),
 }
 
 // The number of the call, from 1, at which a run takes its break, or 0, and when that starts.
-#[derive(Drop)]
+#[derive(Clone, Copy)]
 pub struct Taken {
     pub place: usize,
     pub start: Start,
 }
 
 // What `route_eval` reports of a run that is allowed. The place is that of the break, from 1, or 0.
-#[derive(Drop)]
+#[derive(Clone, Copy)]
 pub struct RouteEval {
     pub distance: f64,
     pub duration: f64,
@@ -43,7 +43,7 @@ pub struct RouteEval {
 }
 
 // A run that isn't allowed, or what it comes to.
-#[derive(Drop)]
+#[derive(Clone, Copy)]
 pub enum Evaluated {
     NotAllowed,
     Allowed(RouteEval),

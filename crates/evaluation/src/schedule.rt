@@ -14,7 +14,7 @@ use models::customer::Customer;
 use models::vehicle::VehicleBreak;
 
 // A run on its way with a break: its clock, and the distance travelled.
-#[derive(Drop)]
+#[derive(Clone, Copy)]
 pub struct Timed {
     pub clock: BreakClock,
     pub distance: f64,

@@ -14,7 +14,7 @@ use models::customer::Customer;
 use models::vehicle::Rest;
 
 // Some way through the calls: the distance travelled, the label, and the last place.
-#[derive(Drop)]
+#[derive(Clone, Copy)]
 pub struct Way {
     pub distance: f64,
     pub label: Label,
@@ -22,7 +22,7 @@ pub struct Way {
 }
 
 // A way that fails at a window or a closed leg, or one.
-#[derive(Drop)]
+#[derive(Clone, Copy)]
 pub enum Driven {
     Failed,
     To(Way),

@@ -71,7 +71,7 @@ pub fn open_leg(table: &[f64], size: usize, from: usize, to: usize) -> f64
 
 // A leg that is read, and its cell. The cell stands between the two numbers: side by side they would be read as one,
 // which waits until both have been written.
-#[derive(Drop)]
+#[derive(Clone, Copy)]
 pub struct LegAt {
     pub distance: f64,
     pub cell: usize,

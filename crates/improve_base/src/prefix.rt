@@ -18,7 +18,7 @@ use models::limits::RouteLimits;
 use models::vehicle::Rest;
 
 // Calls that cannot be served, or where they leave the bus: the way with no break, or the clock of a run with one.
-#[derive(Drop)]
+#[derive(Clone, Copy)]
 pub enum Prefix {
     Failed,
     Plain(Way),

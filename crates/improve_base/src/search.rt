@@ -9,7 +9,7 @@ use evaluation::checks::route_checks_needed;
 use models::customer::Customer;
 use models::limits::RouteLimits;
 
-#[derive(Drop)]
+#[derive(Clone, Copy)]
 pub struct Search {
     pub limits: RouteLimits,
     // whether `route_feasible` has to be asked of a run

@@ -14,7 +14,7 @@ use models::vehicle::Rest;
 use whole::infinity;
 
 // A call: from when on it is served, before when it has to be reached, and how long its service is.
-#[derive(Drop)]
+#[derive(Clone, Copy)]
 pub struct Hours {
     pub ready: f64,
     pub bound: f64,
@@ -23,7 +23,7 @@ pub struct Hours {
 
 // Home before `long`, and before `spare` where the break is still to take. The break begins from `earliest` on and
 // before `latest`; without one the last three are not read.
-#[derive(Drop)]
+#[derive(Clone, Copy)]
 pub struct Day {
     pub long: f64,
     pub spare: f64,

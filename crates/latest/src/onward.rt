@@ -13,7 +13,7 @@ use improve_base::leg::open_leg;
 use whole::{infinity, larger};
 
 // As times, or as bounds that these have to stay below.
-#[derive(Drop)]
+#[derive(Clone, Copy)]
 pub struct Times {
     pub before: f64,
     pub after: f64,

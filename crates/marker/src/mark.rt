@@ -18,7 +18,7 @@ use models::customer::Customer;
 use models::head::Head;
 
 // Two lists are the same, or differ first at this position, from 1.
-#[derive(Drop)]
+#[derive(Clone, Copy)]
 pub enum Difference {
     Nowhere,
     At(usize),

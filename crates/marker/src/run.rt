@@ -18,7 +18,7 @@ use models::load::{Load, Space};
 use models::vehicle::Rest;
 
 // The first fault, or what is marked costs so much.
-#[derive(Drop)]
+#[derive(Clone, Copy)]
 pub enum Marked {
     Faulty(Verdict),
     Costs(f64),

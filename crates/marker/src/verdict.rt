@@ -2,7 +2,7 @@
 
 // A fault carries its run, from 1, and the value and limit that clash; a window or break fault also the call's place in
 // the run, from 1, and its customer, and a closed leg its number in the run alone: leg 1 leaves the depot.
-#[derive(Drop)]
+#[derive(Clone, Copy)]
 pub enum Verdict {
     // The joined calls differ from the planner's served customers, first at this position, from 1.
     OtherCalls {

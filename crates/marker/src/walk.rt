@@ -14,7 +14,7 @@ use models::customer::{Customer, due_or_zero};
 use models::vehicle::{Rest, VehicleBreak};
 
 // Stopped by a fault at a call or by a closed leg, or home with the run's totals.
-#[derive(Drop)]
+#[derive(Clone, Copy)]
 pub enum Walked {
     Stopped(Verdict),
     Home(Scheduled),

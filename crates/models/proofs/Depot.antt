@@ -1,7 +1,7 @@
 -- The depot's record in the code holds the definitions' depot. Assumes nothing.
 use Prim.Native.Nat.{ℕ, zero, suc}
 use mathlib.Core.Path.{◌≡◌, refl, ap, ◌∙◌}
-use mathlib.Core.List.{List, [], ◌∷◌, map}
+use mathlib.Core.List.{List, ◌∷◌, map}
 use lib.Ieee.{Float, of_int}
 use lib.ListN.{replicate}
 use Rattle.definitions.specs.Sheet.{CustomerOf, depot}

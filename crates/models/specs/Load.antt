@@ -1,5 +1,5 @@
 -- What the code's loads hold, and what it takes that their sums do not wrap. Definitions, and the laws of the latter. Assumes nothing.
-use Rattle.std.specs.Prelude.{ℕ, suc, ◌+◌, ◌*◌, ◌≤◌}
+use Rattle.std.specs.Prelude.{ℕ, ◌+◌, ◌*◌, ◌≤◌}
 use Rattle.std.proofs.Common.{arith}
 use Rattle.definitions.specs.Load.{Load, no_load, plus}
 use Rattle.definitions.proofs.LoadLaws.{AtMost, none-most, plus-most, most-more}

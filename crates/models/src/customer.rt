@@ -7,27 +7,27 @@ ghost use Rattle.models.specs.Window.{late_f, waiting_f, lateness_f, due_f};
 use crate::load::{Space, seats};
 use whole::larger;
 
-#[derive(Drop)]
+#[derive(Clone, Copy)]
 pub struct TimeWindow {
     pub ready: f64,
     pub due: f64,
 }
 
 // No window, or one.
-#[derive(Drop)]
+#[derive(Clone, Copy)]
 pub enum Opening {
     Always,
     Window(TimeWindow),
 }
 
 // A late call fails, or costs so much for each unit of lateness.
-#[derive(Drop)]
+#[derive(Clone, Copy)]
 pub enum Penalty {
     Hard,
     Soft(f64),
 }
 
-#[derive(Drop)]
+#[derive(Clone, Copy)]
 pub struct Customer {
     pub demand: Space,
     pub service_duration: f64,

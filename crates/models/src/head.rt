@@ -2,7 +2,7 @@
 use crate::limits::RouteLimits;
 use crate::load::Space;
 
-#[derive(Drop)]
+#[derive(Clone, Copy)]
 pub struct Head {
     // The depot counts.
     pub places: usize,

@@ -1,4 +1,6 @@
 // Customers and vehicles: windows, loads, breaks and limits, counts, the head of a sheet, and the range of its numbers.
+#![tactic(auto)]
+
 pub mod byte;
 pub mod count;
 pub mod customer;

@@ -6,13 +6,13 @@ ghost use Rattle.models.specs.Limits.{limit_f, within_f, allow_f};
 use crate::vehicle::Rest;
 
 // No limit, or one.
-#[derive(Drop)]
+#[derive(Clone, Copy)]
 pub enum Limit {
     Unlimited,
     At(f64),
 }
 
-#[derive(Drop)]
+#[derive(Clone, Copy)]
 pub struct RouteLimits {
     pub max_distance: Limit,
     pub max_duration: Limit,

@@ -8,14 +8,14 @@ ghost use Rattle.models.specs.Load.{seat_space, space_of, load_of, UpTo, Countab
 use crate::domain::{is_capacity, is_demand};
 
 // What a call asks for, or a vehicle holds.
-#[derive(Drop)]
+#[derive(Clone, Copy)]
 pub struct Space {
     pub seats: u32,
     pub wheelchairs: u32,
 }
 
 // What calls ask for in all: it has room for the sum of many.
-#[derive(Drop)]
+#[derive(Clone, Copy)]
 pub struct Load {
     pub seats: u64,
     pub wheelchairs: u64,

@@ -1,6 +1,6 @@
 // Where the break of a run goes that has no place named.
 
-#[derive(Drop)]
+#[derive(Clone, Copy)]
 pub enum Placement {
     // where the clock puts it: as early home as can be
     Clock,

@@ -3,7 +3,7 @@ ghost use Rattle.std.specs.Prelude.{◌≡◌};
 ghost use Rattle.basics.specs.Options.{present};
 ghost use Rattle.models.specs.Records.{rest_of};
 
-#[derive(Drop)]
+#[derive(Clone, Copy)]
 pub struct VehicleBreak {
     pub earliest: f64,
     pub latest: f64,
@@ -11,7 +11,7 @@ pub struct VehicleBreak {
 }
 
 // No break, or one.
-#[derive(Drop)]
+#[derive(Clone, Copy)]
 pub enum Rest {
     Unbroken,
     Break(VehicleBreak),

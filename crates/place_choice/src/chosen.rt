@@ -21,7 +21,7 @@ use latest::hours::day_of;
 use latest::onward::{Times, serve_all, set_out};
 
 // The best place of a customer, if there is one.
-#[derive(Drop)]
+#[derive(Clone, Copy)]
 pub enum Best {
     At(Spot),
     Nowhere,

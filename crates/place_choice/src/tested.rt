@@ -19,7 +19,7 @@ use latest::onward::{Times, serve_all, set_out};
 use models::load::Space;
 
 // What is given beside the lists of records and the leg tables.
-#[derive(Drop)]
+#[derive(Clone, Copy)]
 pub struct Given {
     // the rows of the leg tables
     pub size: usize,
@@ -31,7 +31,7 @@ pub struct Given {
 }
 
 // A customer that is to be placed, what has been added before it, and what is saved.
-#[derive(Drop)]
+#[derive(Clone, Copy)]
 pub struct Mover {
     pub call: usize,
     pub added: f64,

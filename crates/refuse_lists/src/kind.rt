@@ -1,7 +1,7 @@
 // What kind of call a sheet goes to.
 
 // The result lists that a call writes, which say how long each has to be.
-#[derive(Drop)]
+#[derive(Clone, Copy)]
 pub enum Results {
     Nothing,
     // Served customers, run ends and dropped positions, each as long as the tour.
@@ -15,7 +15,7 @@ pub enum Results {
 }
 
 // What the refusals ask of a call.
-#[derive(Drop)]
+#[derive(Clone, Copy)]
 pub struct Kind {
     // Its calls are a run list.
     pub takes_ends: bool,

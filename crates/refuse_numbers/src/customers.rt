@@ -9,7 +9,7 @@ use models::count::fewer;
 use models::customer::Customer;
 
 // What is asked of a customer's record, in the order of the refusals.
-#[derive(Drop)]
+#[derive(Clone, Copy)]
 pub enum Test {
     // A number out of range (1).
     OutOfRange,

@@ -26,7 +26,7 @@ use place_choice::tested::Given;
 use whole::infinity;
 
 // How many calls and runs are left.
-#[derive(Drop)]
+#[derive(Clone, Copy)]
 pub struct Left {
     pub calls: usize,
     pub runs: usize,

@@ -14,7 +14,7 @@ use sheet_read::values::{write_tour, write_values};
 
 // What a sheet has besides its tables and tour, and how many distances, times and calls stand at the front of the
 // arrays.
-#[derive(Drop)]
+#[derive(Clone, Copy)]
 pub struct Loaded {
     pub head: Head,
     pub customers: [Customer; 64],

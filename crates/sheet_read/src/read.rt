@@ -9,7 +9,7 @@ use crate::values::count_values;
 use models::head::Head;
 use sheet_words::check::{Checked, check};
 
-#[derive(Drop)]
+#[derive(Clone, Copy)]
 pub struct Contents {
     pub head: Head,
     // The depot counts.
@@ -19,7 +19,7 @@ pub struct Contents {
     pub calls: usize,
 }
 
-#[derive(Drop)]
+#[derive(Clone, Copy)]
 pub enum Reading {
     Sheet(Contents),
     // Number, and word index from 0.

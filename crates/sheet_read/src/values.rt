@@ -13,7 +13,7 @@ ghost use Rattle.sheet_read.specs.Fitting.{fitting};
 use sheet_words::{word_at, word_count};
 
 // No value, or one.
-#[derive(Drop)]
+#[derive(Clone, Copy)]
 pub enum Value {
     Missing,
     Given(u32),

@@ -11,7 +11,7 @@ use crate::{Word, left_over, word_at, word_count};
 use models::domain::is_closed;
 use refuse_lists::called::{is_called, note_call};
 
-#[derive(Drop)]
+#[derive(Clone, Copy)]
 pub enum Checked {
     Accepted,
     // Number, and word index from 0.

@@ -7,7 +7,7 @@ ghost use Rattle.sheet_words.specs.Held.{held_word, no_word};
 pub mod check;
 pub mod state;
 
-#[derive(Drop)]
+#[derive(Clone, Copy)]
 pub struct Word {
     pub kind: u32,
     pub value: u32,

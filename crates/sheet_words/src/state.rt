@@ -11,7 +11,7 @@ use crate::Word;
 use models::domain::{is_call, is_capacity, is_demand, is_leg, is_number, is_penalty, is_places};
 use refuse_lists::first::first_fit;
 
-#[derive(Drop)]
+#[derive(Clone, Copy)]
 pub struct State {
     // The word before.
     pub last: Word,
@@ -23,7 +23,7 @@ pub struct State {
 }
 
 // A word is sound, or refused by a number.
-#[derive(Drop)]
+#[derive(Clone, Copy)]
 pub enum Fault {
     Sound,
     Number(u32),

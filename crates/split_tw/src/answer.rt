@@ -1,7 +1,7 @@
 // What a cut comes to.
 
 // How many calls are served, runs made and calls dropped, the cost and the distance.
-#[derive(Drop)]
+#[derive(Clone, Copy)]
 pub struct SplitResult {
     pub served: usize,
     pub runs: usize,

@@ -22,7 +22,7 @@ use models::placement::Placement;
 use whole::infinity;
 
 // What the drops come to: how many calls are held at the end, and their cut.
-#[derive(Drop)]
+#[derive(Clone, Copy)]
 pub struct Settlement {
     pub held: usize,
     pub cost: f64,

@@ -17,7 +17,7 @@ use test_sheets::changes::{Change, changed};
 use test_sheets::digits::{begin, digits};
 
 // A sheet, and where the breaks go.
-#[derive(Drop)]
+#[derive(Clone, Copy)]
 struct Case {
     change: Change,
     placement: Placement,

@@ -6,7 +6,7 @@ ghost use Rattle.test_records.specs.Records.{length_in, PartWithin, RecordWithin
 use sheet_words::little_endian;
 
 // A question or an answer.
-#[derive(Drop)]
+#[derive(Clone, Copy)]
 pub enum Part {
     // It has that many bytes, at the front of the buffer.
     Whole(usize),
@@ -18,7 +18,7 @@ pub enum Part {
     TooLong,
 }
 
-#[derive(Drop)]
+#[derive(Clone, Copy)]
 pub enum Record {
     // The lengths of the question and of the answer.
     Whole(usize, usize),

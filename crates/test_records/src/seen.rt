@@ -2,7 +2,7 @@
 ghost use Rattle.std.specs.Prelude.{◌≡◌};
 ghost use Rattle.test_records.specs.Seen.{is_answer, seen_of};
 
-#[derive(Drop)]
+#[derive(Clone, Copy)]
 pub enum Seen {
     // The recorded answer is the computed one.
     Alike,

@@ -8,7 +8,7 @@ use crate::seen::Seen;
 // No more answers than this are replayed in one run.
 pub const MOST: u64 = 1_000_000_000_000;
 
-#[derive(Drop)]
+#[derive(Clone, Copy)]
 pub struct Tally {
     pub answers: u64,
     // Those that are wrong on purpose, and of these those that were noticed.
@@ -21,7 +21,7 @@ pub struct Tally {
 }
 
 // What an answer adds to each count, and whether it is not as it should be: unlike, or wrong and not noticed.
-#[derive(Drop)]
+#[derive(Clone, Copy)]
 pub struct Weight {
     pub wrong: u64,
     pub noticed: u64,

@@ -4,7 +4,7 @@ use io::{print_decimal, write_all};
 use refuse_numbers::tables::bad_rows;
 
 // The table that has the number out of range.
-#[derive(Drop)]
+#[derive(Clone, Copy)]
 enum Spoilt {
     Distances,
     Times,

@@ -25,7 +25,7 @@ use two_opt::two_opt::two_opt_improve;
 use visits::evaluator::build_route;
 
 // What there is to say of each run.
-#[derive(Drop)]
+#[derive(Clone, Copy)]
 pub enum Topic {
     Visits,
     Evaluation,

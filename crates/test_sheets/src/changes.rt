@@ -5,7 +5,7 @@ use crate::sheets::{Sheet, base};
 use models::customer::Penalty;
 use models::load::Space;
 
-#[derive(Drop)]
+#[derive(Clone, Copy)]
 pub enum Change {
     Nothing,
     Capacity(u32),

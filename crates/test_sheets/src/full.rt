@@ -9,7 +9,7 @@ use models::limits::{Limit, RouteLimits};
 use models::load::seats;
 use models::vehicle::{Rest, VehicleBreak};
 
-#[derive(Drop)]
+#[derive(Clone, Copy)]
 pub struct FullSheet {
     pub head: Head,
     pub customers: [Customer; 64],

@@ -8,7 +8,7 @@ use models::limits::{Limit, RouteLimits};
 use models::load::{Space, seats};
 use models::vehicle::{Rest, VehicleBreak};
 
-#[derive(Drop)]
+#[derive(Clone, Copy)]
 pub struct Sheet {
     pub head: Head,
     pub customers: [Customer; 64],

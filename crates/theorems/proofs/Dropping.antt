@@ -153,17 +153,19 @@ parts-rise a ended r = (tt, tt)
 parts-rise a (kept {d = d} x P) r = let q = parts-rise x P r.1 in ((r.0, q.0), rising-from a x d r.0 q.1)
 parts-rise a (gone {h = h} x P) r = let q = parts-rise x P r.1 in (rising-from a x h r.0 q.0, (r.0, q.1))
 
-rising-above : (a : ℕ) {l : List ℕ} {x : ℕ} → Rising a l → In x l → a < x
+rising-above : {x : ℕ} (a : ℕ) {l : List ℕ} → Rising a l → In x l → a < x
 rising-above a r In.first = r.0
 rising-above a r (In.next {y = y} {l = l} i) = rising-above a {l = l} (rising-from a y l r.0 r.1) i
 
 pub parts-either : {l h d : List ℕ} {x : ℕ} → Parts l h d → In x l → In x h ⊎ In x d
+parts-either ended x10 = elim x10 [ ]
 parts-either (kept x P) In.first = inl In.first
 parts-either (gone x P) In.first = inr In.first
 parts-either (kept x P) (In.next i) = ⊎_elim (λ j. inl (In.next j)) (λ j. inr j) (parts-either P i)
 parts-either (gone x P) (In.next i) = ⊎_elim (λ j. inl j) (λ j. inr (In.next j)) (parts-either P i)
 
 pub parts-not-both : {l h d : List ℕ} {y : ℕ} (a : ℕ) → Parts l h d → Rising a l → In y h → In y d → ⊥
+parts-not-both {y = y} a ended r i j = elim i [ ]
 parts-not-both a (kept {d = d} x P) r In.first j = native.Mathlib.Nat.lt_irrefl _ (rising-above x {l = d} (parts-rise x P r.1).1 j)
 parts-not-both a (kept x P) r (In.next i) j = parts-not-both x P r.1 i j
 parts-not-both a (gone {h = h} x P) r i In.first = native.Mathlib.Nat.lt_irrefl _ (rising-above x {l = h} (parts-rise x P r.1).0 i)

@@ -38,6 +38,7 @@ repeat-fits s i w e = go (given (faults s i w) 21 e)
     go (later (later (here m t))) = t
     go (later (later (later (here m t)))) = other 2 21 refl m
     go (later (later (later (later (here m t))))) = other 22 21 refl m
+    go (later (later (later (later (later (later x18)))))) = elim x18 [ ]
     go (later (later (later (later (later (here m t)))))) = other 3 21 refl m
 
 -- ---- the calls that the reader has in mind are the earlier E words

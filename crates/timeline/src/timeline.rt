@@ -18,7 +18,7 @@ use visits::evaluator::{Built, closed_route, walk};
 use visits::trip::open_leg;
 
 // The run with its visits, totals and violations, and for each visit, in the same order, when its service starts.
-#[derive(Drop)]
+#[derive(Clone, Copy)]
 pub struct Timeline {
     pub run: Built,
     pub begins: [f64; 128],

@@ -9,7 +9,7 @@ use improve_base::gain::{gain_floor, scale, symmetric};
 use improve_base::search::Search;
 use models::limits::RouteLimits;
 
-#[derive(Drop)]
+#[derive(Clone, Copy)]
 pub struct Rules {
     pub limits: RouteLimits,
     // whether `route_feasible` has to be asked of a run

@@ -140,7 +140,7 @@ pub fn gains(rules: Rules, delta: f64) -> bool
 }
 
 // The search on a run: whether a reversal is taken, and the distance of the run, where it is limited.
-#[derive(Drop)]
+#[derive(Clone, Copy)]
 pub struct SoFar {
     pub improved: bool,
     pub far: f64,

@@ -20,7 +20,7 @@ use models::limits::RouteLimits;
 use models::load::{Load, Space};
 
 // All calls visited: the visits stand first in their array.
-#[derive(Drop)]
+#[derive(Clone, Copy)]
 pub struct VisitedRun {
     pub visits: [Visit; 128],
     pub windows: Violations,
@@ -28,7 +28,7 @@ pub struct VisitedRun {
 }
 
 // A run with its visits and violations, which stand first in their arrays. The place is the break's, from 1, or 0.
-#[derive(Drop)]
+#[derive(Clone, Copy)]
 pub struct Built {
     pub visits: [Visit; 128],
     pub count: usize,

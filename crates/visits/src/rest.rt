@@ -13,7 +13,7 @@ use models::vehicle::Rest;
 
 // The break as the visits have it: the number of the call that it comes before, from 1, or 0; its start and its length;
 // and whether it has no place though there is one.
-#[derive(Drop)]
+#[derive(Clone, Copy)]
 pub struct RestAt {
     pub place: usize,
     pub start: Start,

@@ -15,14 +15,14 @@ use models::customer::{Customer, Opening, due_or_zero};
 use models::load::Load;
 
 // A call as it is left, and whether it was reached after due without a penalty.
-#[derive(Drop)]
+#[derive(Clone, Copy)]
 pub struct Served {
     pub label: Label,
     pub shut: bool,
 }
 
 // Some way through the calls: the label, the distance travelled, the load, and the last place.
-#[derive(Drop)]
+#[derive(Clone, Copy)]
 pub struct Trip {
     pub label: Label,
     pub distance: f64,
@@ -31,7 +31,7 @@ pub struct Trip {
 }
 
 // A call visited: the trip with it, the visit, and the violation of its window, which counts where that is shut.
-#[derive(Drop)]
+#[derive(Clone, Copy)]
 pub struct VisitedCall {
     pub trip: Trip,
     pub visit: Visit,

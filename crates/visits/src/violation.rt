@@ -11,7 +11,7 @@ use models::limits::{Limit, RouteLimits, limit_or_zero};
 use models::load::{Load, Space};
 
 // The first `count` of the list.
-#[derive(Drop)]
+#[derive(Clone, Copy)]
 pub struct Violations {
     pub list: [Violation; MOST_VIOLATIONS],
     pub count: usize,

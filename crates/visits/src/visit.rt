@@ -6,7 +6,7 @@ use models::load::Load;
 pub const MOST_VIOLATIONS: usize = MOST_CALLS + 4;
 
 // The load is that after the call.
-#[derive(Drop)]
+#[derive(Clone, Copy)]
 pub struct Visit {
     pub customer_id: usize,
     pub arrival_time: f64,
@@ -15,7 +15,7 @@ pub struct Visit {
 }
 
 // The arrival at a window that is violated is the readiness: after the break, where that is here.
-#[derive(Drop)]
+#[derive(Clone, Copy)]
 pub enum ViolationType {
     TimeWindowViolated {
         customer_id: usize,
@@ -46,7 +46,7 @@ pub enum ViolationType {
     },
 }
 
-#[derive(Drop)]
+#[derive(Clone, Copy)]
 pub struct Violation {
     pub kind: ViolationType,
 }

@@ -5,7 +5,7 @@
 -- Assumes `Logic`.
 use mathlib.Core.List.{List, [], ◌∷◌}
 use seplogic.Ra.Ura.{Ura}
-use mir.Syntax.{Name, Place, Opd as Operand, Body, seq, call}
+use mir.Syntax.{Callee, Place, Opd as Operand, Body, seq, call}
 use mir.Val.{Val}
 use base.Logic.{SProp, ent, sep, emp, id⊢, via, mono_l}
 use prog.Wp.{Env, Calls, Loops}
@@ -38,7 +38,7 @@ module _ {M : Type 1} {𝓤 : Ura M} (𝓛 : Logic 𝓤) (T : Ended) (κs : Lfts
   Gives = alive 𝓛 T.signature κs qs
 
   -- F gives the call, at its `post` beside Rest
-  framed : (c : Clauses 𝓤 T) (bs : AllOutlive T.signature.lifetimes T.signature.outlives κs) (g : (c κs a).ghost) (F Rest : Item 𝓤) (C : Calls 𝓤 H) (f : Name)
+  framed : (c : Clauses 𝓤 T) (bs : AllOutlive T.signature.lifetimes T.signature.outlives κs) (g : (c κs a).ghost) (F Rest : Item 𝓤) (C : Calls 𝓤 H) (f : Callee)
       → FmC 𝓤 H 𝓛.laws C → Triple 𝓤 (C f) (Met 𝓛 T c) → ent 𝓤 (emp 𝓤) ((c κs a).requires g) → ent 𝓤 (mean 𝓛 F) (sep 𝓤 Asks (mean 𝓛 Rest))
       → ent 𝓤 (mean 𝓛 F) (C f (passed 𝓛 T.signature (κs, qs, bs, a, vss)) (λ u. sep 𝓤 ((Met 𝓛 T c).post ((κs, qs, bs, a, vss), g) u) (mean 𝓛 Rest)))
   framed c bs g F Rest C f fm met req out =
@@ -67,7 +67,7 @@ module _ {M : Type 1} {𝓤 : Ura M} {𝓛 : Logic 𝓤} {K : Type 0} {Γ : List
       split t $ move t (1 ∷ []) $ peeks t (type_at T.signature.result κs) (Is (type_at T.signature.result κs)) (shows 𝓛 (type_at T.signature.result κs)) r (u ∷ [])
       (λ is. drop t $ use2 𝓛 F back $ k r e is))))
 
-  module _ {E : Env 𝓤 H} {C : Calls 𝓤 H} {Λ : Loops 𝓤 H} {q : Post 𝓤 H} {f : Name} {xs : List Operand} {d : Place} where
+  module _ {E : Env 𝓤 H} {C : Calls 𝓤 H} {Λ : Loops 𝓤 H} {q : Post 𝓤 H} {f : Callee} {xs : List Operand} {d : Place} where
     pub calls-kept : K → FmC 𝓤 H 𝓛.laws C → {rest : Body} (T : Ended) (c : Clauses 𝓤 T) → Triple 𝓤 (C f) (Met 𝓛 T c)
         → (κs : Lfts T.signature.lifetimes) (qs : Shares T.signature.lifetimes) (bs : AllOutlive T.signature.lifetimes T.signature.outlives κs) (a : Args T.signature κs)
         (vss : Vals T.signature κs) (g : (c κs a).ghost)

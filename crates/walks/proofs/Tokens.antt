@@ -3,7 +3,7 @@
 --     halved, joined             a callee with two lifetimes takes the halves of the caller's one, and gives them back
 -- Assumes `Logic`, for the halves alone.
 use seplogic.Ra.Ura.{Ura}
-use seplogic.Ra.TreeShare.PosShare
+use base.Fraction.{left, right}
 use base.Logic.{ent, sep, emp, via, assoc∗, assoc', mono_l, fst∗}
 use base.Fml.{Lft, Share}
 use types.Logic.{Logic}
@@ -22,12 +22,12 @@ module _ {M : Type 1} {𝓤 : Ura M} (𝓛 : Logic 𝓤) (κ κ' : Lft) (q q' : 
 module _ {M : Type 1} {𝓤 : Ura M} (𝓛 : Logic 𝓤) (κ : Lft) (q : Share) where
   open 𝓛 use {A}
 
-  pub halved : ent 𝓤 (toks 𝓛 1 (κ, tt) (q, tt)) (toks 𝓛 2 (κ, (κ, tt)) (PosShare.left q, (PosShare.right q, tt)))
+  pub halved : ent 𝓤 (toks 𝓛 1 (κ, tt) (q, tt)) (toks 𝓛 2 (κ, (κ, tt)) (left q, (right q, tt)))
   halved =
-      via 𝓤 (sep 𝓤 (sep 𝓤 (A.lft κ (PosShare.left q)) (A.lft κ (PosShare.right q))) (emp 𝓤)) (mono_l 𝓤 (emp 𝓤) (𝓛.lfts.lft_split κ q))
-      (assoc∗ 𝓤 (A.lft κ (PosShare.left q)) (A.lft κ (PosShare.right q)) (emp 𝓤))
+      via 𝓤 (sep 𝓤 (sep 𝓤 (A.lft κ (left q)) (A.lft κ (right q))) (emp 𝓤)) (mono_l 𝓤 (emp 𝓤) (𝓛.lfts.lft_split κ q))
+      (assoc∗ 𝓤 (A.lft κ (left q)) (A.lft κ (right q)) (emp 𝓤))
 
-  pub joined : ent 𝓤 (toks 𝓛 2 (κ, (κ, tt)) (PosShare.left q, (PosShare.right q, tt))) (toks 𝓛 1 (κ, tt) (q, tt))
+  pub joined : ent 𝓤 (toks 𝓛 2 (κ, (κ, tt)) (left q, (right q, tt))) (toks 𝓛 1 (κ, tt) (q, tt))
   joined =
-      via 𝓤 (sep 𝓤 (sep 𝓤 (A.lft κ (PosShare.left q)) (A.lft κ (PosShare.right q))) (emp 𝓤)) (assoc' 𝓤 (A.lft κ (PosShare.left q)) (A.lft κ (PosShare.right q)) (emp 𝓤))
+      via 𝓤 (sep 𝓤 (sep 𝓤 (A.lft κ (left q)) (A.lft κ (right q))) (emp 𝓤)) (assoc' 𝓤 (A.lft κ (left q)) (A.lft κ (right q)) (emp 𝓤))
       (mono_l 𝓤 (emp 𝓤) (𝓛.lfts.lft_join κ q))

@@ -30,6 +30,8 @@ fl-back n h = (unsigned_back binary64 64 n (fl-in n h) (lt_of_le_of_lt h (lit< t
 -- ---- no NaN
 is-not-nan : (x : Float) (n : ℕ) → Is x n → T (not (Ieee.is_nan x))
 unfolding Ieee.is_nan
+is-not-nan nan n h = elim h [ ]
+is-not-nan (inf _) n h = elim h [ ]
 is-not-nan (fin s m e) n h = tt
 
 pub fl-not-nan : (n : ℕ) → n ≤ limit → T (not (Ieee.is_nan (fl n)))

@@ -70,6 +70,8 @@ module _ (m u n v a c b d : ℕ) (p : m * c ≡ a * u) (q : n * d ≡ b * v) whe
 -- ---- the operations
 pub neg-at : (x : Float) (s : Bool) (a c : ℕ) → HasValue x s a c → HasValue (Ieee.neg x) (not s) a c
 unfolding Ieee.neg
+neg-at Ieee.nan s a c p = elim p [ ]
+neg-at (inf _) s a c p = elim p [ ]
 neg-at (fin t m e) s a c p = (ap not p.0, p.1)
 
 -- rounding does not look at the sign
@@ -93,10 +95,18 @@ neg-round f s a c = neg-units f s _ _
 module _ (s t : Bool) (a c b d : ℕ) (C : 0 < c) (D : 0 < d) where
   pub add_at : (f : Format) (x y : Float) → HasValue x s a c → HasValue y t b d → Ieee.add f x y ≡ Ieee.sum f s (a * d) t (b * c) (c * d)
   unfolding Ieee.add
+  add_at f Ieee.nan y p q = elim p [ ]
+  add_at f (inf _) y p q = elim p [ ]
+  add_at f (fin s' m e) Ieee.nan p q = elim q [ ]
+  add_at f (fin s' m e) (inf _) p q = elim q [ ]
   add_at f (fin s' m e) (fin t' n g) p q = rw (p.0, q.0) (sum-cross (m * up e) (down e) (n * up g) (down g) a c b d p.1 q.1 (down_pos e) (down_pos g) C D f s t)
 
   pub mul_at : (f : Format) (x y : Float) → HasValue x s a c → HasValue y t b d → Ieee.mul f x y ≡ round f (Ieee.unlike s t) (a * b) (c * d)
   unfolding Ieee.mul
+  mul_at f Ieee.nan y p q = elim p [ ]
+  mul_at f (inf _) y p q = elim p [ ]
+  mul_at f (fin s' m e) Ieee.nan p q = elim q [ ]
+  mul_at f (fin s' m e) (inf _) p q = elim q [ ]
   mul_at f (fin s' m e) (fin t' n g) p q =
       rw (p.0, q.0)
       (round_same f (Ieee.unlike s t) (m * up e * (n * up g)) (down e * down g) (a * b) (c * d) (mul-pos (down_pos e) (down_pos g)) (mul-pos C D)
@@ -104,10 +114,18 @@ module _ (s t : Bool) (a c b d : ℕ) (C : 0 < c) (D : 0 < d) where
 
   pub lt_at : (x y : Float) → HasValue x s a c → HasValue y t b d → Ieee.lt x y ≡ Ieee.below s (a * d) t (b * c)
   unfolding Ieee.lt
+  lt_at Ieee.nan y p q = elim p [ ]
+  lt_at (inf _) y p q = elim p [ ]
+  lt_at (fin s' m e) Ieee.nan p q = elim q [ ]
+  lt_at (fin s' m e) (inf _) p q = elim q [ ]
   lt_at (fin s' m e) (fin t' n g) p q = rw (p.0, q.0) (below-cross (m * up e) (down e) (n * up g) (down g) a c b d p.1 q.1 (down_pos e) (down_pos g) C D s t)
 
   pub eq-at : (x y : Float) → HasValue x s a c → HasValue y t b d → Ieee.eq x y ≡ Ieee.level s (a * d) t (b * c)
   unfolding Ieee.eq
+  eq-at Ieee.nan y p q = elim p [ ]
+  eq-at (inf _) y p q = elim p [ ]
+  eq-at (fin s' m e) Ieee.nan p q = elim q [ ]
+  eq-at (fin s' m e) (inf _) p q = elim q [ ]
   eq-at (fin s' m e) (fin t' n g) p q = rw (p.0, q.0) (level-cross (m * up e) (down e) (n * up g) (down g) a c b d p.1 q.1 (down_pos e) (down_pos g) C D s t)
 
 pub sub_at : (s t : Bool) (a c b d : ℕ) → 0 < c → 0 < d → (f : Format) (x y : Float) → HasValue x s a c → HasValue y t b d → Ieee.sub f x y ≡ Ieee.sum f s (a * d) (not t) (b * c) (c * d)

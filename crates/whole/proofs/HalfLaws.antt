@@ -100,6 +100,10 @@ module _ (t x d : ℕ) (c : x * 2 ≤ d) (D : 0 < d) (h : suc t ≤ halves) wher
 neg-below : (x y : Float) (k : ℕ) → HasValue x true (suc k) 1 → T (nonneg y) → Ieee.lt x y ≡ true
 unfolding Ieee.lt
 neg-below x nan k p q = absurd q
+neg-below nan (inf _) k p q = elim p [ ]
+neg-below (inf _) (inf _) k p q = elim p [ ]
+neg-below nan (fin _ n d) k p q = elim p [ ]
+neg-below (inf _) (fin _ n d) k p q = elim p [ ]
 neg-below (fin s m e) (inf true) k p q = absurd q
 neg-below (fin s m e) (inf false) k p q = refl
 neg-below (fin s m e) (fin true n d) k p q = absurd q

@@ -9,26 +9,38 @@ use Rattle.whole.specs.Infinity.{Ext, of, never, fx, Fit, add_e, lt_e, le_e}
 -- ---- a whole number beside the infinity
 pub is-lt-inf : (x : Float) (a : ℕ) → Is x a → Ieee.lt x (inf false) ≡ true
 unfolding Ieee.lt
+is-lt-inf Ieee.nan a p = elim p [ ]
+is-lt-inf (inf _) a p = elim p [ ]
 is-lt-inf (fin s m e) a p = refl
 
 pub is-le-inf : (x : Float) (a : ℕ) → Is x a → Ieee.le x (inf false) ≡ true
 unfolding Ieee.le
+is-le-inf Ieee.nan a p = elim p [ ]
+is-le-inf (inf _) a p = elim p [ ]
 is-le-inf (fin s m e) a p = refl
 
 pub inf-lt-is : (x : Float) (a : ℕ) → Is x a → Ieee.lt (inf false) x ≡ false
 unfolding Ieee.lt
+inf-lt-is Ieee.nan a p = elim p [ ]
+inf-lt-is (inf _) a p = elim p [ ]
 inf-lt-is (fin s m e) a p = refl
 
 pub inf-le-is : (x : Float) (a : ℕ) → Is x a → Ieee.le (inf false) x ≡ false
 unfolding Ieee.le
+inf-le-is Ieee.nan a p = elim p [ ]
+inf-le-is (inf _) a p = elim p [ ]
 inf-le-is (fin s m e) a p = refl
 
 pub add-inf : (x : Float) (a : ℕ) → Is x a → Ieee.add binary64 x (inf false) ≡ inf false
 unfolding Ieee.add
+add-inf Ieee.nan a p = elim p [ ]
+add-inf (inf _) a p = elim p [ ]
 add-inf (fin s m e) a p = refl
 
 pub inf-add : (x : Float) (a : ℕ) → Is x a → Ieee.add binary64 (inf false) x ≡ inf false
 unfolding Ieee.add
+inf-add Ieee.nan a p = elim p [ ]
+inf-add (inf _) a p = elim p [ ]
 inf-add (fin s m e) a p = refl
 
 -- ---- either of them

@@ -43,6 +43,9 @@ round-nonneg f a c = units-nonneg f _ _
 
 pub add-nonneg : (f : Format) (x y : Float) → T (nonneg x) → T (nonneg y) → T (nonneg (Ieee.add f x y))
 unfolding Ieee.add Ieee.sum
+add-nonneg f Ieee.nan y p q = elim p [ ]
+add-nonneg f (inf false) Ieee.nan p q = elim q [ ]
+add-nonneg f (fin false m e) Ieee.nan p q = elim q [ ]
 add-nonneg f (inf true) y p q = absurd p
 add-nonneg f (inf false) (inf true) p q = absurd q
 add-nonneg f (inf false) (inf false) p q = tt
@@ -55,12 +58,14 @@ add-nonneg f (fin false m e) (fin false n d) p q = round-nonneg f (m * up e * do
 -- the sum is an infinity where a term is
 add-inf-r : (f : Format) (x : Float) → T (nonneg x) → Ieee.add f x (inf false) ≡ inf false
 unfolding Ieee.add
+add-inf-r f Ieee.nan p = elim p [ ]
 add-inf-r f (inf true) p = absurd p
 add-inf-r f (inf false) p = refl
 add-inf-r f (fin s m e) p = refl
 
 add-inf-l : (f : Format) (x : Float) → T (nonneg x) → Ieee.add f (inf false) x ≡ inf false
 unfolding Ieee.add
+add-inf-l f Ieee.nan p = elim p [ ]
 add-inf-l f (inf true) p = absurd p
 add-inf-l f (inf false) p = refl
 add-inf-l f (fin s m e) p = refl
@@ -69,6 +74,8 @@ add-inf-l f (fin s m e) p = refl
 add-mono-fin : (f : Format) (x z : Float) (n l : ℕ) (d g : ℤ) → T (nonneg x) → T (nonneg z) → T (Ieee.le x (fin false n d)) → T (Ieee.le z (fin false l g))
     → T (Ieee.le (Ieee.add f x z) (Ieee.add f (fin false n d) (fin false l g)))
 unfolding Ieee.add Ieee.sum Ieee.le
+add-mono-fin f Ieee.nan z n l d g p q h k = elim p [ ]
+add-mono-fin f (fin false m e) Ieee.nan n l d g p q h k = elim q [ ]
 add-mono-fin f (inf true) z n l d g p q h k = absurd p
 add-mono-fin f (inf false) z n l d g p q h k = absurd h
 add-mono-fin f (fin true m e) z n l d g p q h k = absurd p
@@ -82,6 +89,8 @@ add-mono-fin f (fin false m e) (fin false i j) n l d g p q h k =
 
 pub add-mono : (f : Format) (x z y w : Float) → T (nonneg x) → T (nonneg z) → T (nonneg y) → T (nonneg w) → T (Ieee.le x y) → T (Ieee.le z w)
     → T (Ieee.le (Ieee.add f x z) (Ieee.add f y w))
+add-mono f x z Ieee.nan w p q r s h k = elim r [ ]
+add-mono f x z (fin false n d) Ieee.nan p q r s h k = elim s [ ]
 add-mono f x z (inf true) w p q r s h k = absurd r
 add-mono f x z (inf false) w p q r s h k = subst (λ (v : Float). T (Ieee.le (Ieee.add f x z) v)) (sym (add-inf-l f w s)) (le-inf (Ieee.add f x z) (add-nonneg f x z p q))
 add-mono f x z (fin true n d) w p q r s h k = absurd r
@@ -150,6 +159,9 @@ self-exact f (suc m) (negsuc k) t = let q = take-apart f m (negsuc k) t in rw (m
 
 pub le-add : (f : Format) (x z : Float) → T (Ieee.fits f x) → T (nonneg x) → T (nonneg z) → T (Ieee.le x (Ieee.add f x z))
 unfolding Ieee.le Ieee.add Ieee.sum
+le-add f Ieee.nan z a p q = elim p [ ]
+le-add f (inf false) Ieee.nan a p q = elim q [ ]
+le-add f (fin false m e) Ieee.nan a p q = elim q [ ]
 le-add f (inf true) z a p q = absurd p
 le-add f (inf false) (inf true) a p q = absurd q
 le-add f (inf false) (inf false) a p q = tt

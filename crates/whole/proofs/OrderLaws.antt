@@ -30,6 +30,9 @@ of_le m n e d t = leb→le (m * up e * down d) (n * up d * down e) (subst T (le-
 -- ---- the order
 pub not-lt : (x y : Float) → T (nonneg x) → T (nonneg y) → not (Ieee.lt x y) ≡ Ieee.le y x
 unfolding Ieee.lt Ieee.le
+not-lt Ieee.nan y p q = elim p [ ]
+not-lt (inf false) Ieee.nan p q = elim q [ ]
+not-lt (fin false m e) Ieee.nan p q = elim q [ ]
 not-lt (inf true) y p q = absurd p
 not-lt (inf false) (inf true) p q = absurd q
 not-lt (inf false) (inf false) p q = refl
@@ -46,6 +49,7 @@ not-le x y p q = ap not (sym (not-lt y x q p)) ∙ not-not (Ieee.lt y x)
 -- below the infinity all lie
 pub le-inf : (x : Float) → T (nonneg x) → T (Ieee.le x (inf false))
 unfolding Ieee.le
+le-inf Ieee.nan p = elim p [ ]
 le-inf (inf true) p = absurd p
 le-inf (inf false) p = tt
 le-inf (fin true m e) p = absurd p
@@ -53,6 +57,7 @@ le-inf (fin false m e) p = tt
 
 pub le-self : (x : Float) → T (nonneg x) → T (Ieee.le x x)
 unfolding Ieee.le
+le-self Ieee.nan p = elim p [ ]
 le-self (inf true) p = absurd p
 le-self (inf false) p = tt
 le-self (fin true m e) p = absurd p
@@ -67,6 +72,9 @@ nlt-le x y p q e = subst T (sym (ap not e) ∙ not-lt x y p q) tt
 
 pub le-through : (x y z : Float) → T (nonneg x) → T (nonneg y) → T (nonneg z) → T (Ieee.le x y) → T (Ieee.le y z) → T (Ieee.le x z)
 unfolding Ieee.le
+le-through x y Ieee.nan p q r h k = elim r [ ]
+le-through x Ieee.nan (fin false l g) p q r h k = elim q [ ]
+le-through Ieee.nan (fin false n d) (fin false l g) p q r h k = elim p [ ]
 le-through x y (inf true) p q r h k = absurd r
 le-through x y (inf false) p q r h k = le-inf x p
 le-through x y (fin true l g) p q r h k = absurd r
@@ -98,6 +106,9 @@ bits-same m n e d h =
 
 pub le_antisym : (x y : Float) → T (Ieee.fits binary64 x) → T (Ieee.fits binary64 y) → T (nonneg x) → T (nonneg y) → T (Ieee.le x y) → T (Ieee.le y x) → x ≡ y
 unfolding Ieee.le
+le_antisym Ieee.nan y a b p q h k = elim p [ ]
+le_antisym (inf false) Ieee.nan a b p q h k = elim q [ ]
+le_antisym (fin false m e) Ieee.nan a b p q h k = elim q [ ]
 le_antisym (inf true) y a b p q h k = absurd p
 le_antisym (inf false) (inf true) a b p q h k = absurd q
 le_antisym (inf false) (inf false) a b p q h k = refl

@@ -48,6 +48,8 @@ value-limit = refl
 -- ---- `value` and `fl` undo each other
 pub is-value : (x : Float) (n : ℕ) → Is x n → value x ≡ some n
 unfolding value
+is-value nan n p = elim p [ ]
+is-value (inf _) n p = elim p [ ]
 is-value (fin true m e) n p = absurd (true≢false p.0)
 is-value (fin false m e) n p = rw (sym (mul-one (m * up e)) ∙ p.1, mul-mod_left n (down e), mul-div_cancel n (down_pos e))
 

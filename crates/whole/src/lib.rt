@@ -1,4 +1,6 @@
 // Whole numbers in an `f64`, on which arithmetic is exact up to 2 ^ 53.
+#![tactic(auto)]
+
 ghost use Rattle.std.specs.Prelude.{◌≡◌, false, nat_le};
 ghost use Rattle.std.specs.Float.{inf};
 ghost use Rattle.basics.specs.Options.{holds};
