@@ -1,3 +1,5 @@
 // Legs between places.
+#![tactic(auto)]
+
 pub mod leg;
 pub mod matrix;

@@ -11,7 +11,6 @@ use lib.Seq.{drop-cons, get_or-set_same, get_or-set_other}
 use lib.Dec.{eqb}
 use borrow.Author.Tests.{eqb-true, eqb-false}
 use Rattle.basics.proofs.TestLaws.{by-test}
-use Rattle.definitions.specs.Reader.{among}
 use Rattle.refuse_lists.specs.Called.{none_called, called_twice, Notes}
 
 -- of a number beyond them nothing is noted

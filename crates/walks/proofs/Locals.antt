@@ -232,13 +232,13 @@ module _ {M : Type 1} {𝓤 : Ura M} {𝓛 : Logic 𝓤} {K : Type 0} where
           (guard_i 𝓤 (T (has_ty τ v) × WT v) (sep 𝓤 (H.room τ b 0) (wand 𝓤 (H.at full_share τ b 0 v) P)) wt);
     }
 
-  pub opens : K → {Γ : List (Item 𝓤)} (ls : List Local) {Kt : Env 𝓤 H → Goal 𝓤 H} → ((bs : Blocks ls) → Seq K 𝓛 (locals 𝓛 (unset_of ls bs) ∷ Γ) (Kt (env_at 𝓛 (unset_of ls bs))))
+  pub opens : K → (ls : List Local) {Γ : List (Item 𝓤)} {Kt : Env 𝓤 H → Goal 𝓤 H} → ((bs : Blocks ls) → Seq K 𝓛 (locals 𝓛 (unset_of ls bs) ∷ Γ) (Kt (env_at 𝓛 (unset_of ls bs))))
       → Seq K 𝓛 Γ (allocs ls Kt)
   unfolding locals
   opens t [] k = alloc0 t $ nothing t $ k tt
   opens t (local τ h ∷ ls) k = alloc1 t (λ b. opens t ls (λ bs. move t (1 ∷ 2 ∷ []) $ join t $ join t $ k (b, bs)))
 
-  takes : K → {Γ : List (Item 𝓤)} {G : Goal 𝓤 H} (σ : List Cell) (vs : List Val) → Takes σ vs → Seq K 𝓛 (locals 𝓛 (pass_to σ vs) ∷ Γ) G → Seq K 𝓛 (locals 𝓛 σ ∷ Γ) (passes (env_at 𝓛 σ) vs G)
+  takes : K → {G : Goal 𝓤 H} (σ : List Cell) (vs : List Val) {Γ : List (Item 𝓤)} → Takes σ vs → Seq K 𝓛 (locals 𝓛 (pass_to σ vs) ∷ Γ) G → Seq K 𝓛 (locals 𝓛 σ ∷ Γ) (passes (env_at 𝓛 σ) vs G)
   unfolding locals
   takes t σ [] w s = pass0 t $ s
   takes t [] (v ∷ vs) w s = absurd w
