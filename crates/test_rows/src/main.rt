@@ -1,7 +1,9 @@
 // The leg tables row by row: in two tables of three rows each number in turn is out of range, and a line says for each
 // of the nine after how many rows that is found.
-use io::{print_decimal, write_all};
+#![tactic(auto)]
+
 use refuse_numbers::tables::bad_rows;
+use std::io;
 
 // The table that has the number out of range.
 #[derive(Clone, Copy)]
@@ -50,28 +52,27 @@ fn rows_with(what: Spoilt, place: usize) -> u64 {
     }
 }
 
-fn show(what: Spoilt, place: usize) {
-    write_all(1, b" ");
-    print_decimal(1, rows_with(what, place));
+fn show(rt: &impl Print, what: Spoilt, place: usize) -> io::Result<()> {
+    let rows = rows_with(what, place);
+    print!(rt; " {rows}")
 }
 
-fn all_places(what: Spoilt) {
-    let mut place = 0;
-    while place < 9 {
-        show(what, place);
-        place += 1;
+fn all_places(rt: &impl Print, what: Spoilt) -> io::Result<()> {
+    for place in 0..9 {
+        show(rt, what, place)?;
     }
+    Ok(())
 }
 
-fn line(word: &[u8], what: Spoilt) {
-    write_all(1, word);
-    all_places(what);
-    write_all(1, b"\n");
+fn line(rt: &impl Print, word: &str, what: Spoilt) -> io::Result<()> {
+    print!(rt; "{word}")?;
+    all_places(rt, what)?;
+    println!(rt)
 }
 
-fn main() {
-    line(b"distances:", Spoilt::Distances);
-    line(b"times:", Spoilt::Times);
-    line(b"distances alone:", Spoilt::DistancesAlone);
-    line(b"neither:", Spoilt::Neither);
+fn main(rt: HostRuntime) -> io::Result<()> {
+    line(&rt, "distances:", Spoilt::Distances)?;
+    line(&rt, "times:", Spoilt::Times)?;
+    line(&rt, "distances alone:", Spoilt::DistancesAlone)?;
+    line(&rt, "neither:", Spoilt::Neither)
 }
