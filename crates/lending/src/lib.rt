@@ -1,4 +1,6 @@
 // Lent lists of customers: read and written record by record, and carried to and from an array of 64.
+#![tactic(auto)]
+
 ghost use Rattle.std.specs.Prelude.{◌≡◌, ◌<◌, min, length, get_or, take};
 ghost use Rattle.definitions.specs.Room.{written};
 ghost use Rattle.models.specs.Records.{depot_record};
