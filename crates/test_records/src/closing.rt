@@ -106,13 +106,13 @@ pub fn closing_text(out: &mut [u8], tally: Tally, last: Seen) -> usize
     last_line(&mut *out, end, tally, last)
 }
 
-// Says how the run ended, in so many bytes.
-pub fn print_closing(tally: Tally, last: Seen) -> usize
+// Says how the run ended, in so many bytes. A write that fails is left at that.
+pub fn print_closing(rt: &impl Print, tally: Tally, last: Seen) -> usize
     requires { InRun tally }
     ensures { result ≡ length (closing tally last) }
 {
     let mut out = [0u8; 256];
     let end = closing_text(&mut out, tally, last);
-    io::write_all(1, &out[..end]);
+    let _ = rt.write_all(&out[..end]);
     end
 }

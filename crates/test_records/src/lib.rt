@@ -1,4 +1,6 @@
-// Recorded questions and answers on standard input, and the count of those that are not as they should be.
+// Recorded questions and answers of an input, and the count of those that are not as they should be.
+#![tactic(auto)]
+
 pub mod closing;
 pub mod record;
 pub mod seen;

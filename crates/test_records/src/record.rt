@@ -1,9 +1,10 @@
-// Records on standard input: a question and the answer to it. Each is the length of its bytes, in 32 bits,
+// Records of an input: a question and the answer to it. Each is the length of its bytes, in 32 bits,
 // little-endian, and the bytes. No contract can say which bytes are read; what is proved is that they fit the buffers.
-ghost use Rattle.std.specs.Prelude.{◌≡◌, length};
+ghost use Rattle.std.specs.Prelude.{◌≡◌, ◌≤◌, length};
 ghost use Rattle.test_records.specs.Records.{length_in, PartWithin, RecordWithin, with_answer};
 
 use sheet_words::little_endian;
+use std::io::Read;
 
 // A question or an answer.
 #[derive(Clone, Copy)]
@@ -41,12 +42,26 @@ fn length_of(head: &[u8; 4]) -> usize
     size(little_endian(head[0], head[1], head[2], head[3]))
 }
 
+// Reads until the buffer is full, the input ends or a read fails: how many bytes are at the front of the buffer.
+fn read_full(input: &mut impl Read, buffer: &mut [u8]) -> usize
+    ensures { result ≤ length buffer.new }
+{
+    let mut done = 0;
+    while done < buffer.len() {
+        match input.read(&mut buffer[done..]) {
+            Ok(0) | Err(_) => break,
+            Ok(n) => done += n,
+        }
+    }
+    done
+}
+
 // The next part, at the front of the buffer.
-fn read_part(buffer: &mut [u8]) -> Part
+fn read_part(input: &mut impl Read, buffer: &mut [u8]) -> Part
     ensures { PartWithin (length buffer.new) result }
 {
     let mut head = [0u8; 4];
-    let got = io::read_full(0, &mut head);
+    let got = read_full(&mut *input, &mut head);
     if got == 0 {
         return Part::End;
     }
@@ -57,7 +72,7 @@ fn read_part(buffer: &mut [u8]) -> Part
     if buffer.len() < n {
         return Part::TooLong;
     }
-    if io::read_full(0, &mut buffer[..n]) < n {
+    if read_full(&mut *input, &mut buffer[..n]) < n {
         return Part::CutShort;
     }
     Part::Whole(n)
@@ -76,12 +91,12 @@ fn with_answer(n: usize, answer: Part) -> Record
 }
 
 // The next record, into two buffers.
-pub fn read(question: &mut [u8], answer: &mut [u8]) -> Record
+pub fn read(input: &mut impl Read, question: &mut [u8], answer: &mut [u8]) -> Record
     ensures { RecordWithin (length question.new) (length answer.new) result }
 {
-    match read_part(&mut *question) {
+    match read_part(&mut *input, &mut *question) {
         Part::Whole(n) => {
-            let part = read_part(&mut *answer);
+            let part = read_part(&mut *input, &mut *answer);
             with_answer(n, part)
         }
         Part::End => Record::End,

@@ -7,6 +7,7 @@ ghost use Rattle.test_runs.specs.Along.{Short};
 ghost use Rattle.test_replay.specs.Replayed.{one_of, answer_alike, seen_in};
 
 use listing_text::text::text;
+use std::io::Read;
 use test_lists::alike::runs_alike;
 use test_records::closing::print_closing;
 use test_records::record::{Record, read};
@@ -60,10 +61,10 @@ fn seen(question: &[u8], recorded: &[u8]) -> Seen
 // Reads a question and its recorded answer, and compares. A question has a byte for its kind, and a sheet of at most
 // 34,572 bytes behind at most 258 bytes for run ends and calls, or alone with as many bytes too many; an answer has
 // fewer than 65,536. No contract can say what is read.
-fn next() -> Seen {
+fn next(input: &mut impl Read) -> Seen {
     let mut question = [0u8; 34962];
     let mut recorded = [0u8; 65535];
-    match read(&mut question, &mut recorded) {
+    match read(&mut *input, &mut question, &mut recorded) {
         Record::Whole(n, m) => seen(&question[..n], &recorded[..m]),
         Record::End => Seen::End,
         Record::CutShort => Seen::CutShort,
@@ -72,12 +73,13 @@ fn next() -> Seen {
 }
 
 // Record by record, up to the end of the input or the first record that is none.
-fn main() {
+fn main(rt: HostRuntime) {
+    let mut input = rt.reader();
     let mut tally = start();
-    let mut last = next();
+    let mut last = next(&mut input);
     while tally.answers < MOST && is_answer(last) {
         tally = counted(tally, last);
-        last = next();
+        last = next(&mut input);
     }
-    print_closing(tally, last);
+    print_closing(&rt, tally, last);
 }
