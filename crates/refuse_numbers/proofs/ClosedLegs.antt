@@ -7,7 +7,6 @@ use mathlib.Core.Bool.{Bool, true, false, cond, not, ◌||◌, and-true}
 use mathlib.Core.List.{List, [], ◌∷◌}
 use lib.ListN.{length, get_or, drop}
 use lib.Seq.{drop-cons}
-use lib.Ieee as Ieee
 use lib.Ieee.{Float}
 use Rattle.basics.proofs.TestLaws.{or_left, or_right}
 use Rattle.basics.specs.Lists.{any}

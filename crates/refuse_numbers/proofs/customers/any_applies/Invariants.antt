@@ -1,16 +1,13 @@
 -- `customers::any_applies` meets its contract. Assumes nothing.
 -- the test of a customer's record
-use mathlib.Core.Path.{refl, sym, ◌∙◌}
 use mathlib.Core.Bool.{Bool}
 use Prim.Native.Nat.{◌-◌}
-use native.Mathlib.Omega.{arith}
 use lib.ListN.{take}
 use Rattle.models.specs.declared.customer.Customer.{Customer}
 use Rattle.models.specs.Records.{customer_of}
 use Rattle.refuse_numbers.specs.declared.customers.Test.{Test}
 use Rattle.refuse_numbers.specs.Customers.{test_of}
-use Rattle.refuse_numbers.proofs.Searching.{Passed, found_first, next-first, missed_first, any-image}
-use borrow.Author.Rules.{rules}
+use Rattle.refuse_numbers.proofs.Searching.{Passed}
 use Rattle.refuse_numbers.proofs.customers.any_applies.Given as goal
 
 abbrev pub fits_of : Test → Customer → Bool
