@@ -1,4 +1,6 @@
 // Lent lists of bytes, read as numbers into an array and stored from one: here alone the width changes.
+#![tactic(auto)]
+
 ghost use Rattle.std.specs.Prelude.{◌≡◌, min, length, take};
 ghost use Rattle.definitions.specs.Room.{written};
 ghost use Rattle.definitions.specs.Bytes.{numbers_of, stored};
