@@ -1,5 +1,5 @@
 //! Links the static library: that in the folder LIZSOMDUR_LIB names, or else the one of the release that this package came with, or else the one that
-//! `rt staticlib exports` writes in this repository.
+//! `tools/build exports` writes in this repository.
 use std::env;
 use std::path::{Path, PathBuf};
 
