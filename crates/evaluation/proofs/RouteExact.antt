@@ -212,7 +212,7 @@ module _ (s : Sheet) (S : Sized s) (t : Tables) (I : Image s t) where
   way-prev w (c ∷ cs) v q =
       let x = bound (drive s w.prev c) _ v q in
       let y = bound (serve s none 0 w.prev c w.label) _ v x.2 in
-      way-prev _ cs v y.2
+      way-prev (record { far = w.far + x.0.length; label = y.0; prev = c }) cs v y.2
 
   -- and its distance with the way home that of the run
   way-far : (w : Gone) (calls : List ℕ) (v : Gone) → way_of w calls ≡ some v
