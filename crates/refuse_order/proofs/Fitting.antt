@@ -38,18 +38,18 @@ use Rattle.refuse_order.proofs.Image.{Fit, FitWindow, FitBreak, FitCustomer}
 
 -- ---- of a customer
 
-fit-penalty : (p : Penalty) (us : List Val) → shadow ((Enum.row PenaltyRow.the_type).own p us) → Holds Fit (penalty_of p)
+fit-penalty : (p : Penalty) (us : List Val) → shadow ((Enum.row PenaltyRow.the_type).own_val p us) → Holds Fit (penalty_of p)
 fit-penalty Hard us h = tt
 fit-penalty (Soft x) us h = passes _ h.1.1.1.1.0.1
 
-fit-window : (w : TimeWindow) (us : List Val) → shadow ((Struct.row TimeWindowRow.the_type).own w us) → FitWindow (window_of w)
+fit-window : (w : TimeWindow) (us : List Val) → shadow ((Struct.row TimeWindowRow.the_type).own_val w us) → FitWindow (window_of w)
 fit-window w us h = record { ready = passes _ h.1.1.0.1; due = passes _ h.1.1.1.0.1 }
 
-fit-opening : (o : Opening) (us : List Val) → shadow ((Enum.row OpeningRow.the_type).own o us) → Holds FitWindow (opening_of o)
+fit-opening : (o : Opening) (us : List Val) → shadow ((Enum.row OpeningRow.the_type).own_val o us) → Holds FitWindow (opening_of o)
 fit-opening Always us h = tt
 fit-opening (Window w) us h = fit-window w _ h.1.1.1.1.0
 
-pub fit-customer : (c : Customer) (us : List Val) → shadow ((Struct.row CustomerRow.the_type).own c us) → FitCustomer (customer_of c)
+pub fit-customer : (c : Customer) (us : List Val) → shadow ((Struct.row CustomerRow.the_type).own_val c us) → FitCustomer (customer_of c)
 fit-customer c us h =
     record {
       service = passes _ h.1.1.1.0.1;
@@ -58,21 +58,21 @@ fit-customer c us h =
     }
 
 -- of each customer of an array or a slice
-pub fit-customers : (cs : List Customer) (us : List Val) → shadow (each Customer (Struct.row CustomerRow.the_type).own cs us) → All FitCustomer (map customer_of cs)
+pub fit-customers : (cs : List Customer) (us : List Val) → shadow (each Customer (Struct.row CustomerRow.the_type).own_val cs us) → All FitCustomer (map customer_of cs)
 fit-customers [] us h = tt
 fit-customers (c ∷ cs) [] h = absurd h
 fit-customers (c ∷ cs) (u ∷ us) h = (fit-customer c (u ∷ []) h.0, fit-customers cs us h.1)
 
 -- ---- of a head
 
-fit-limit : (l : Limit) (us : List Val) → shadow ((Enum.row LimitRow.the_type).own l us) → Holds Fit (limit_of l)
+fit-limit : (l : Limit) (us : List Val) → shadow ((Enum.row LimitRow.the_type).own_val l us) → Holds Fit (limit_of l)
 fit-limit Unlimited us h = tt
 fit-limit (At x) us h = passes _ h.1.1.1.1.0.1
 
-fit-break : (b : VehicleBreak) (us : List Val) → shadow ((Struct.row VehicleBreakRow.the_type).own b us) → FitBreak (break_of b)
+fit-break : (b : VehicleBreak) (us : List Val) → shadow ((Struct.row VehicleBreakRow.the_type).own_val b us) → FitBreak (break_of b)
 fit-break b us h = record { earliest = passes _ h.1.1.0.1; latest = passes _ h.1.1.1.0.1; duration = passes _ h.1.1.1.1.0.1 }
 
-fit-rest : (r : Rest) (us : List Val) → shadow ((Enum.row RestRow.the_type).own r us) → Holds FitBreak (rest_of r)
+fit-rest : (r : Rest) (us : List Val) → shadow ((Enum.row RestRow.the_type).own_val r us) → Holds FitBreak (rest_of r)
 fit-rest Unbroken us h = tt
 fit-rest (Break b) us h = fit-break b _ h.1.1.1.1.0
 
@@ -82,7 +82,7 @@ pub record FitHead (head : Head) : Type 0 where
   pub max_duration : Holds Fit (limit_of head.limits.max_duration)
   pub rest : Holds FitBreak (rest_of head.limits.rest)
 
-pub fit-head : (head : Head) (us : List Val) → shadow ((Struct.row HeadRow.the_type).own head us) → FitHead head
+pub fit-head : (head : Head) (us : List Val) → shadow ((Struct.row HeadRow.the_type).own_val head us) → FitHead head
 fit-head head us h =
     let l = h.1.1.1.1.1.0 in
     record {
