@@ -3,7 +3,6 @@ use Prim.Native.Nat.{ℕ, suc, ◌<◌}
 use native.Mathlib.Omega.{arith}
 use mathlib.Core.List.{List, [], ◌∷◌, map}
 use lib.ListN.{length, get_or}
-use lib.Ieee as Ieee
 use lib.Ieee.{Float}
 use mir.Val.{Val}
 use denote.Array.{each}

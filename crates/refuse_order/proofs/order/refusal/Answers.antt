@@ -4,7 +4,6 @@ use mathlib.Core.List.{[], ◌∷◌}
 use Rattle.refuse_lists.proofs.Numbers.{by_tests}
 use Rattle.refuse_order.proofs.Fitting.{fit-head, fit-customers, fit-table}
 use Rattle.refuse_order.proofs.Deciding.{Given, Fitting, tests_on, refuses, images}
-use borrow.Author.Rules.{rules}
 use Rattle.refuse_order.proofs.order.refusal.Goals as goal
 
 pub returns : goal.returns

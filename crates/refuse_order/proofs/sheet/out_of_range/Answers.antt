@@ -5,7 +5,6 @@ use contract.Lifetimes.{Lfts}
 use Rattle.refuse_order.proofs.Ranging.{Seen, head-bad, depot-bad, customer-bad, table-bad, lists-left}
 use Rattle.refuse_order.proofs.sheet.out_of_range.Reads as reads
 use Rattle.refuse_order.proofs.sheet.out_of_range.Lts as lts
-use borrow.Author.Rules.{rules}
 use Rattle.refuse_order.proofs.sheet.out_of_range.Goals as goal
 
 abbrev seen : {q : lts.Claims} {κs : Lfts 4} → lts.Args q reads.Pre reads.Post κs → Seen
