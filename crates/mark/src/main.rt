@@ -1,52 +1,60 @@
 // The program mark: `mark SHEET CUTTING` prints what the cutting in the second file is worth beside the plan of the
 // sheet in the first. What keeps it from marking at all is said on standard error.
-use libc::{STDERR_FILENO, STDOUT_FILENO};
-use mark_text::text::text;
+#![tactic(auto)]
 
-// Opens the file that argument i names, and answers a descriptor, or -1 once it has said why there is none.
-fn open_named(i: usize) -> i32 {
-    let mut path = io::buffer();
-    let length = os::arg(i, &mut path);
-    let error = os::errno();
-    if error == libc::EINVAL {
-        io::write_all(STDERR_FILENO, b"usage: mark SHEET CUTTING\n");
-        return -1;
+use failures::fail;
+use mark_text::text::text;
+use std::env::{Env, FillError};
+use std::io::Read;
+use std::rt::Files;
+use std::{fs, io};
+
+// Opens the file that argument i names, or says why there is none.
+fn open_named<R: Env + Files + Eprint + Alloc>(rt: &R, i: usize) -> io::Result<Option<R::File>> {
+    let mut path = [0u8; 4096];
+    let length = match rt.arg(i, &mut path) {
+        Ok(length) => length,
+        Err(FillError::NotPresent) => {
+            eprintln!(rt; "usage: mark SHEET CUTTING")?;
+            return Ok(None);
+        }
+        Err(FillError::TooLong) => {
+            eprintln!(rt; "mark: a file name: File name too long")?;
+            return Ok(None);
+        }
+    };
+    let Ok(path) = str::from_utf8(&path[..length]) else {
+        eprintln!(rt; "mark: a file name: not UTF-8")?;
+        return Ok(None);
+    };
+    match fs::open(rt, path) {
+        Ok(file) => Ok(Some(file)),
+        Err(error) => {
+            fail(rt, path, &error)?;
+            Ok(None)
+        }
     }
-    if error != 0 {
-        os::fail(b"mark: a file name");
-        return -1;
-    }
-    let fd = os::open_read(&path[..length]);
-    if fd < 0 {
-        os::fail(&path[..length]);
-    }
-    fd
 }
 
 // One byte more than the longest sheet that is accepted is enough to answer for any sheet; a cutting may have 16,384.
-fn main() {
-    let sheet = open_named(1);
-    if sheet < 0 {
-        return;
-    }
-    let cutting = open_named(2);
-    if cutting < 0 {
-        return;
-    }
-    let mut bytes = [0u8; 34573];
-    let n = io::read_full(sheet, &mut bytes);
-    let mut lines = [0u8; 16385];
-    let m = io::read_full(cutting, &mut lines);
-    if m > 16384 {
-        io::write_all(
-            STDERR_FILENO,
-            b"mark: the cutting is longer than 16384 bytes\n",
-        );
-        return;
+fn main(rt: HostRuntime) -> io::Result<()> {
+    let Some(sheet) = open_named(&rt, 1)? else {
+        return Ok(());
+    };
+    let Some(cutting) = open_named(&rt, 2)? else {
+        return Ok(());
+    };
+    let mut bytes = Vec::new(rt.alloc());
+    sheet.take(34573).read_to_end(&mut bytes)?;
+    let mut lines = Vec::new(rt.alloc());
+    cutting.take(16385).read_to_end(&mut lines)?;
+    if lines.len() > 16384 {
+        return eprintln!(rt; "mark: the cutting is longer than 16384 bytes");
     }
     let mut out = [0u8; 4096];
-    let end = text(&mut out, &bytes[..n], &lines[..m]);
-    if !io::write_all(STDOUT_FILENO, &out[..end]) {
-        os::fail(b"mark: standard output");
+    let end = text(&mut out, bytes.as_slice(), lines.as_slice());
+    match rt.write_all(&out[..end]) {
+        Ok(()) => Ok(()),
+        Err(error) => fail(&rt, "mark: standard output", &error),
     }
 }

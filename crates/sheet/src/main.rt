@@ -1,7 +1,14 @@
 // The sheet program: `sheet show SHEET` prints the words of a sheet as text, or why they are refused.
+#![tactic(auto)]
+
 ghost use Rattle.std.specs.Prelude.{◌≡◌, length};
 
+use failures::fail;
 use sheet_text::file::show_file;
+use std::env::Env;
+use std::io::Read;
+use std::rt::Files;
+use std::{fs, io};
 
 // Room for the text of the longest file that is read: a word of four bytes shows at most 64.
 fn text_room() -> [u8; 553168]
@@ -11,12 +18,24 @@ fn text_room() -> [u8; 553168]
 }
 
 // One byte more than the longest sheet that is accepted is enough to answer for any file.
-fn show(fd: i32) {
-    let mut bytes = [0u8; 34573];
-    let n = io::read_full(fd, &mut bytes);
+fn show(rt: &(impl Print + Alloc), file: impl Read + Drop) -> io::Result<()> {
+    let mut bytes = Vec::new(rt.alloc());
+    file.take(34573).read_to_end(&mut bytes)?;
+    // No contract says that no more is taken.
+    bytes.truncate(34573);
     let mut out = text_room();
-    let end = show_file(&mut out, &bytes[..n]);
-    io::write_all(1, &out[..end]);
+    let end = show_file(&mut out, bytes.as_slice());
+    rt.write_all(&out[..end])
+}
+
+fn show_named<R: Files + Print + Eprint + Alloc>(rt: &R, path: &[u8]) -> io::Result<()> {
+    let Ok(path) = str::from_utf8(path) else {
+        return eprintln!(rt; "sheet: a file name: not UTF-8");
+    };
+    match fs::open(rt, path) {
+        Ok(file) => show(rt, file),
+        Err(error) => fail(rt, path, &error),
+    }
 }
 
 // The word that comes first.
@@ -27,20 +46,18 @@ fn is_show(said: &[u8]) -> bool {
     said[0] == b's' && said[1] == b'h' && said[2] == b'o' && said[3] == b'w'
 }
 
-fn main() {
+fn is_asked_to_show(rt: &impl Env) -> bool {
     let mut name = [0u8; 8];
-    let said = os::arg(1, &mut name);
-    let mut path = io::buffer();
-    let length = os::arg(2, &mut path);
-    if os::errno() != 0 || !is_show(&name[..said]) {
-        io::write_all(2, b"usage: sheet show SHEET\n");
-        return;
+    match rt.arg(1, &mut name) {
+        Ok(said) => is_show(&name[..said]),
+        Err(_) => false,
     }
-    let fd = os::open_read(&path[..length]);
-    if fd < 0 {
-        os::fail(&path[..length]);
-        return;
+}
+
+fn main(rt: HostRuntime) -> io::Result<()> {
+    let mut path = [0u8; 4096];
+    match rt.arg(2, &mut path) {
+        Ok(length) if is_asked_to_show(&rt) => show_named(&rt, &path[..length]),
+        _ => eprintln!(rt; "usage: sheet show SHEET"),
     }
-    show(fd);
-    libc::close(fd);
 }
