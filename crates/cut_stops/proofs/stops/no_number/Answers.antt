@@ -1,0 +1,8 @@
+-- `stops::no_number` meets its contract. Assumes nothing.
+use mathlib.Core.Path.{refl}
+use lib.Ieee.{div, of_bits}
+use Rattle.cut_stops.proofs.stops.no_number.Goals as goal
+
+pub returns : goal.returns
+unfolding div of_bits
+returns c = refl

@@ -1,0 +1,18 @@
+-- `stops::work_out_calls` meets its contract. The loop's invariant is `StopsTo`: the places of the first k calls stand in the lists. The
+-- measure is how many calls are left. Assumes nothing.
+-- ---- a turn, and the call that it is at
+use Prim.Native.Nat.{◌-◌, ◌<◌}
+use native.Mathlib.Omega.{arith}
+use lib.ListN.{length, get_or}
+use borrow.Author.Rules.{rules}
+use Rattle.distance.specs.Lookup.{drive_f}
+use Rattle.evaluation.specs.Records.{lent}
+use Rattle.cut_stops.specs.Stops.{numbers, StopsTo, Below64}
+use Rattle.cut_stops.proofs.Places.{place-put, stops-more, stops-all, looked-up}
+use Rattle.cut_stops.proofs.stops.work_out_calls.Given as goal
+
+abbrev pub invariant-loop-k : goal.invariant-loop-k
+invariant-loop-k l = StopsTo (lent l.customers l.distances l.times l.size) l.calls (numbers l.codes l.figures) l.k
+
+abbrev pub decreases-loop-k : goal.decreases-loop-k
+decreases-loop-k l = length l.calls - l.k
