@@ -114,7 +114,7 @@ kept-all r S i n prev kept K h =
     let count : length (ends_of (non_empty rs)) ≡ n = ends-many 0 (non_empty rs) ∙ ap length (sym all) ∙ sym K.count_kept in
     record {
       calls-front = front_same calls H.calls-front;
-      ends-front = record { long = K.long; fits = omega (arith, count, K.few, K.within, H.count-is, S.Runs-Fit); is = ap (λ (m : ℕ). take m kept) count ∙ K.ends-kept ∙ ap ends_of all };
+      ends-front = record { long = K.long; fits = omega (arith, count, K.few, K.within, H.count-is, S.runs_fit); is = ap (λ (m : ℕ). take m kept) count ∙ K.ends-kept ∙ ap ends_of all };
       many_is = H.many_is ∙ ap length calls;
       count-is = K.count_kept ∙ ap length all;
     }
@@ -124,7 +124,7 @@ pub end_read : (r : Runs) (S : Sound r) (i : ℕ) → i < r.count → (i < lengt
 unfolding place_before
 end_read r S i h =
     let b : i < length (runs_in r) = subst (λ (n : ℕ). i < n) (held r S).count-is h in
-    (b, subst (λ (n : ℕ). n ≤ room) (held r S).count-is S.Runs-Fit, start_is (runs_in r) r (held r S) (suc i) b)
+    (b, subst (λ (n : ℕ). n ≤ room) (held r S).count-is S.runs_fit, start_is (runs_in r) r (held r S) (suc i) b)
 
 -- ---- how many calls each run has
 

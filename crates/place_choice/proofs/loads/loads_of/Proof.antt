@@ -84,7 +84,7 @@ load-of-requires c κs =
 put-load-requires : tie.Need-put-load-requires invariant-loop decreases-loop
 put-load-requires c κs =
     let t = c.before.before.before.before in
-    (t.before.loop.invariant.2.long, omega (arith, t.loop-test.true, (start t).requires.0.Runs-Fit))
+    (t.before.loop.invariant.2.long, omega (arith, t.loop-test.true, (start t).requires.0.runs_fit))
 
 add-k : tie.Need-overflow-add-k invariant-loop decreases-loop
 add-k c = search rules

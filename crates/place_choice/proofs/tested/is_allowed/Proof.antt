@@ -71,7 +71,7 @@ mul-to c = record { fits = omega (arith, few c) }
 shared-slice-read-to : tie.Need-shared-slice-read-to
 shared-slice-read-to c =
     let s = start (entry c.before) in
-    omega (arith, few c.before, s.pre.0.0.Runs-Fit, s.pre.0.0.ends-long)
+    omega (arith, few c.before, s.pre.0.0.runs_fit, s.pre.0.0.ends-long)
 
 mul-fits-in : tie.Need-overflow-mul-fits-in
 mul-fits-in c = record { fits = omega (arith, (bound c.before).0, (bound c.before).1, (start (entry c.before)).requires.0.0.calls-fit) }

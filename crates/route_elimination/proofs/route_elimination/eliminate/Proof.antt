@@ -133,19 +133,19 @@ search-holds c =
     (searching-first (lent s) (runs_in (given s)) (given s) s.pre.0 refl, search rules, search rules)
 
 drop-empty-requires : tie.Need-drop-empty-requires invariant-loop decreases-loop invariant-search decreases-search
-drop-empty-requires c κs = let S = c.before.search.invariant.0.sound in (S.ends-long, S.Runs-Fit)
+drop-empty-requires c κs = let S = c.before.search.invariant.0.sound in (S.ends-long, S.runs_fit)
 
 lengths-of-requires : tie.Need-lengths-of-requires invariant-loop decreases-loop invariant-search decreases-search
 lengths-of-requires c κs =
     let k = c.before.before.before in
     let S = (keeps k).sound in
-    (S.ends-long, S.Runs-Fit, all-rise (new k) S)
+    (S.ends-long, S.runs_fit, all-rise (new k) S)
 
 slice-aggregate-number : tie.Need-slice-aggregate-number invariant-loop decreases-loop invariant-search decreases-search
 slice-aggregate-number c = refl
 
 number-requires : tie.Need-number-requires invariant-loop decreases-loop invariant-search decreases-search
-number-requires c κs = let S = (keeps (dropped c.before)).sound in (S.Runs-Fit, omega (arith, S.Runs-Fit))
+number-requires c κs = let S = (keeps (dropped c.before)).sound in (S.runs_fit, omega (arith, S.runs_fit))
 
 loop-holds : tie.Need-loop-init invariant-loop decreases-loop invariant-search decreases-search
 loop-holds c =
@@ -156,7 +156,7 @@ loop-holds c =
     let many = (held (new k) S).count-is in
     let at = searched k in (
       refl,
-      trying-first (lent (start at)) (runs_in (new k)) _ (λ j h. lengths-are (new k) S _ m.lengths-of.ensures j (omega (arith, many))) (omega (arith, many, S.Runs-Fit)) _
+      trying-first (lent (start at)) (runs_in (new k)) _ (λ j h. lengths-are (new k) S _ m.lengths-of.ensures j (omega (arith, many))) (omega (arith, many, S.runs_fit)) _
           (replicate 128 0) _ many refl numbered.number.ensures,
       at.search.inv.1,
       at.search.inv.2,

@@ -151,7 +151,7 @@ array-share-prefix-held-ends c = search rules
 slice-aggregate-write-front-2 : tie.Need-slice-aggregate-write-front-2
 slice-aggregate-write-front-2 c =
     let S = (left c.before.before.before).eliminate.ensures.sound in
-    sym (length-take-le _ _ (omega (arith, S.Runs-Fit, S.ends-long)))
+    sym (length-take-le _ _ (omega (arith, S.runs_fit, S.ends-long)))
 
 write-front-requires-2 : tie.Need-write-front-requires-2
 write-front-requires-2 c κs =
