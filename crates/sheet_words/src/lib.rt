@@ -1,5 +1,7 @@
 // The words of a sheet: which may stand where, and the leftmost bad one.
 // A word has 32 bits, little-endian in the file: the top four bits are the kind, the rest the value.
+#![tactic(auto)]
+
 ghost use Rattle.std.specs.Prelude.{◌≡◌, length, get_or};
 ghost use Rattle.definitions.specs.Words.{words_of, left_over, little_endian};
 ghost use Rattle.sheet_words.specs.Held.{held_word, no_word};
