@@ -1,2 +1,4 @@
 // The evaluation of a run by either placement of its break.
+#![tactic(auto)]
+
 pub mod placed;

@@ -3,7 +3,7 @@ use Prim.Native.Nat.{ℕ, suc, pred, ◌+◌, ◌*◌, ◌≤◌, ◌<◌}
 use native.Mathlib.Omega.{arith}
 use native.Mathlib.Nat.{mul-le-mul}
 use mathlib.Core.Path.{◌≡◌, refl, sym, ap, subst, ◌∙◌}
-use mathlib.Core.Bool.{Bool, true, false, cond, not}
+use mathlib.Core.Bool.{Bool, true, false, cond}
 use mathlib.Core.List.{List, [], ◌∷◌, ◌++◌, append-nil, append_assoc, cons≢nil, tail}
 use mathlib.Core.Option.{Option, none, some}
 use mathlib.Core.Logic.{inl, inr}
@@ -19,7 +19,7 @@ use Rattle.definitions.specs.Words.{Word, word}
 use Rattle.definitions.specs.Encoding.{optional, is_said, second_words, break_words, window_words, customer_words}
 use Rattle.definitions.specs.Refusal.{first_fit}
 use Rattle.definitions.specs.Refusals.{disagree}
-use Rattle.definitions.specs.Reader.{State, start, next, onward, behind_second, may_stand, in_range, pair_falls, among, faults, fault_at, accepted, behind, walk}
+use Rattle.definitions.specs.Reader.{State, start, next, onward, behind_second, may_stand, in_range, pair_falls, among, faults, fault_at, accepted, walk}
 use Rattle.round_trip.proofs.Says.{second, second_is, second-any, call_words, time_words, table_words, limit_words, from_customers, from_limits, behind_seats, all_words, others}
 use Rattle.theorems.proofs.Again.{again, again-repeats}
 use Rattle.round_trip.proofs.Good.{GoodWindow, GoodBreak, GoodCustomer, AsMany, GoodSheet, GoodTour}

@@ -1,0 +1,30 @@
+-- `placed::least` meets its contract. The loop's invariant: the best so far is that of none and the first k calls. Assumes nothing.
+use Prim.Native.Nat.{ℕ, ◌-◌, ◌≤◌}
+use native.Mathlib.Numerals.{add-one}
+use native.Mathlib.Omega.{arith}
+use mathlib.Core.Path.{◌≡◌, sym, ap, ap₂, ◌∙◌}
+use lib.ListN.{length}
+use Rattle.models.specs.Records.{break_of}
+use Rattle.clock.specs.Records.{finished_of}
+use Rattle.clock.specs.Least.{pick_f}
+use Rattle.evaluation.specs.Records.{lent, limits_of}
+use Rattle.placements.specs.Placed.{least_to_f}
+use borrow.Author.Rules.{rules}
+use Rattle.placements.proofs.placed.least.Goals as goal
+
+pub loop-k-init : goal.loop-k-init
+unfolding least_to_f
+loop-k-init c = (c.unplaced-best.ensures, omega arith)
+
+pub loop-k-preserved : goal.loop-k-preserved
+unfolding least_to_f
+loop-k-preserved c =
+    let p = c in
+    let t = p in
+    let l = t.loop-k in
+    let start = t in
+    let a = start.args in (
+      c.pick-best.ensures ∙ ap₂ pick_f l.invariant.0 p.placed-here.ensures
+          ∙ ap (least_to_f (lent a.customers a.distances.now a.times.now a.size) (break_of a.rest) (limits_of a.limits) a.route.now) (sym (add-one l.k)),
+      omega (arith, t.loop-k-test.true),
+    )
