@@ -30,7 +30,7 @@ use Rattle.definitions.specs.Evaluation as Evaluations
 use Rattle.definitions.specs.Evaluation.{eval_of, route_eval, least_eval}
 use Rattle.definitions.specs.Refusals.{Within, WithinCalls}
 use Rattle.theorems.proofs.Roads.{by-leg}
-use Rattle.theorems.proofs.Legality.{label_of, with}
+use Rattle.theorems.proofs.Legality.{label_of}
 use Rattle.theorems.proofs.LeastPay.{ride-at, least_at, none-wins}
 use Rattle.theorems.proofs.Labels.{kept_end, excused_end}
 use Rattle.theorems.proofs.Marking.{served-none}

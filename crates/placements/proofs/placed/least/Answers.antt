@@ -1,15 +1,11 @@
 -- `placed::least` meets its contract. The loop's invariant: the best so far is that of none and the first k calls. Assumes nothing.
-use Prim.Native.Nat.{ℕ, ◌-◌, ◌≤◌}
 use native.Mathlib.Numerals.{add-one}
 use native.Mathlib.Omega.{arith}
-use mathlib.Core.Path.{◌≡◌, sym, ap, ap₂, ◌∙◌}
-use lib.ListN.{length}
+use mathlib.Core.Path.{sym, ap, ap₂, ◌∙◌}
 use Rattle.models.specs.Records.{break_of}
-use Rattle.clock.specs.Records.{finished_of}
 use Rattle.clock.specs.Least.{pick_f}
 use Rattle.evaluation.specs.Records.{lent, limits_of}
 use Rattle.placements.specs.Placed.{least_to_f}
-use borrow.Author.Rules.{rules}
 use Rattle.placements.proofs.placed.least.Goals as goal
 
 pub loop-k-init : goal.loop-k-init

@@ -1,9 +1,8 @@
 -- `placed::rested_way` meets its contract, by what each step answers. Assumes nothing.
 use native.Mathlib.Numerals.{add-one}
-use native.Mathlib.Omega.{arith}
 use mathlib.Core.Path.{◌≡◌, sym, ap, ◌∙◌}
 use mathlib.Core.Option.{some}
-use lib.ListN.{take, length-take, get_or}
+use lib.ListN.{take, get_or}
 use Rattle.distance.specs.declared.leg.Drive.TheVariants.{Open, Closed}
 use Rattle.distance.specs.Lookup.{drive_of}
 use Rattle.models.specs.declared.customer.Customer.{Customer}
@@ -12,7 +11,7 @@ use Rattle.clock.specs.declared.schedule.Reached.TheVariants.{Nowhere, At}
 use Rattle.clock.specs.Records.{reached_of}
 use Rattle.evaluation.specs.declared.way.Way.{Way}
 use Rattle.evaluation.specs.declared.way.Driven.TheVariants.{Failed, To}
-use Rattle.evaluation.specs.Records.{Tables, driven_of, lent}
+use Rattle.evaluation.specs.Records.{driven_of, lent}
 use Rattle.evaluation.specs.Tables.{record_f, leg_f}
 use Rattle.evaluation.specs.Way.{start_way, way_f}
 use Rattle.evaluation.proofs.Reading.{read-record}
