@@ -65,7 +65,7 @@ module _ {t : Tables} {terms : Terms} {R : Row} {new : Table} {load : Load} {gon
 
   timed-after : timed_of (bare_tables t) R.st (suc m) ≡ some after
   unfolding visit_f enter_f
-  timed-after = timed-more (bare_tables t) R.st m _ _ A.timed (leg-is K) ∙ rw (← K.is_call.record_is) refl
+  timed-after = timed-more (bare_tables t) R.st m _ _ A.timed (leg-is K) ∙ rw (← K.is-call.record_is) refl
 
   -- after it
   abbrev Next : Table → Type 0
@@ -88,5 +88,5 @@ module _ {t : Tables} {terms : Terms} {R : Row} {new : Table} {load : Load} {gon
 
   pub put : (late : Float) → late ≡ fl 0 → (j : ℕ) (new' : Table) → j ≡ R.i + (m + 1) → OfferedAt j late new' → Next new'
   put late el j new' ej O =
-      by_home K.is_call (λ shut none-listed. subst Next (sym (vain R.base gone' s.back late none-listed O)) (next new (no-home K shut)))
+      by_home K.is-call (λ shut none-listed. subst Next (sym (vain R.base gone' s.back late none-listed O)) (next new (no-home K shut)))
       (λ road. next new' (offered K road (ending road) (end_is road) j new' refl ej (subst (λ (x : Float). OfferedAt j x new') el O)))
