@@ -4,19 +4,11 @@ use mathlib.Core.List.{[], ◌∷◌}
 use mathlib.Core.Option.{none}
 use Rattle.whole.proofs.Bits.{fl-zero}
 use Rattle.visits.specs.declared.visit.ViolationType.TheVariants.{ClosedLeg}
-use borrow.Author.Rules.{rules}
-use Rattle.visits.proofs.evaluator.closed_route.Statement.{statement}
-use Rattle.visits.proofs.evaluator.closed_route.Tie as tie
+use Rattle.visits.proofs.evaluator.closed_route.Goals as goal
 
-blank-visits-requires : tie.Need-blank-visits-requires
-blank-visits-requires c κs = search rules
-
-none-requires : tie.Need-none-requires
-none-requires c κs = search rules
-
-returns : tie.Need-returns
+pub returns : goal.returns
 returns c =
-    let a = c.before.before.args in
+    let a = c.args in
     let empty = c.none.ensures in (
       λ i. record {
         visits = [];
@@ -28,6 +20,3 @@ returns c =
       refl,
       refl,
     )
-
-pub closed-route-spec : {M : Type 1} → statement M
-closed-route-spec = tie.close (tie.spec blank-visits-requires none-requires returns)
