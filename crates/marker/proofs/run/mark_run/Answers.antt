@@ -1,7 +1,6 @@
 -- `run::mark_run` meets its contract. Assumes nothing.
 use mathlib.Core.Path.{◌≡◌, sym, ap, ◌∙◌}
 use lib.ListN.{length}
-use Rattle.basics.proofs.TestLaws.{not-true, not-false}
 use Rattle.evaluation.specs.Tables.{leg_f}
 use Rattle.evaluation.proofs.Driving.{found-closed, found-open}
 use Rattle.marker.specs.declared.run.Marked.TheVariants.{Faulty}

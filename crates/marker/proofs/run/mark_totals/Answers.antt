@@ -1,12 +1,10 @@
 -- `run::mark_totals` meets its contract. Assumes nothing.
 use mathlib.Core.Path.{sym, ap, ◌∙◌}
 use lib.Ieee.{Float}
-use Rattle.basics.proofs.TestLaws.{not-true, not-false}
 use Rattle.definitions.specs.Sheet.{BreakOf}
 use Rattle.marker.specs.declared.verdict.Verdict.TheVariants.{BreakMissing}
 use Rattle.marker.specs.declared.run.Marked.TheVariants.{Faulty}
 use Rattle.marker.specs.RunMark.{totals_mark_f}
-use borrow.Author.Rules.{rules}
 use Rattle.marker.proofs.run.mark_totals.Goals as goal
 
 pub returns-then-not-placed : goal.returns-then-not-placed

@@ -1,8 +1,6 @@
 -- `walk::walk` meets its contract. The loop's invariant: the walk through the calls that are left, from here, ends as the whole walk does. Assumes nothing.
-use mathlib.Core.Path.{◌≡◌, refl, sym, ap, ap₂, ◌∙◌}
-use Prim.Native.Nat.{◌+◌, ◌-◌, ◌≤◌}
+use mathlib.Core.Path.{◌≡◌, sym, ap, ap₂, ◌∙◌}
 use native.Mathlib.Omega.{arith}
-use lib.ListN.{length, drop}
 use lib.Ieee.{Float}
 use Rattle.whole.proofs.Bits.{fl-zero}
 use Rattle.distance.specs.declared.leg.Drive.TheVariants.{Open, Closed}
