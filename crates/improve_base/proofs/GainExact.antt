@@ -48,7 +48,7 @@ four-held a b c d (w ∷ []) p q r s h = largest-held _ (w ∷ []) (larger-held 
 four-held a b c d (w ∷ x ∷ []) p q r s h = largest-held _ (w ∷ x ∷ []) (larger-held (larger-held p q) (larger-held r s)) h
 four-held a b c d (w ∷ x ∷ y ∷ []) p q r s h = largest-held _ (w ∷ x ∷ y ∷ []) (larger-held (larger-held p q) (larger-held r s)) h
 four-held a b c d (w ∷ x ∷ y ∷ z ∷ l) p q r s h =
-    four-held _ _ _ _ l (larger-held p (held w h.0)) (larger-held q (held x h.1.0)) (larger-held r (held y h.1.1.0)) (larger-held s (held z h.1.1.1.0)) h.1.1.1.1
+    four-held (larger_f a (fl w)) (larger_f b (fl x)) (larger_f c (fl y)) (larger_f d (fl z)) l (larger-held p (held w h.0)) (larger-held q (held x h.1.0)) (larger-held r (held y h.1.1.0)) (larger-held s (held z h.1.1.1.0)) h.1.1.1.1
 
 pub scale-held : (l : List ℕ) → All Small l → Held (scale_f (map fl l))
 unfolding scale_f

@@ -23,7 +23,7 @@ use Rattle.evaluation.specs.Records.{Tables, LimitsF}
 use Rattle.evaluation.specs.Tables.{record_f, leg_f}
 use Rattle.evaluation.specs.Schedule.{TimedF, timed, tick_f, clock_from_f, clock_home_f, end_f}
 use Rattle.evaluation.specs.Way.{start_way, through_f, way_f, homeward_f, plain_f}
-use Rattle.evaluation.specs.Route.{totals_f, kept_f, allowed_f, feasible_f}
+use Rattle.evaluation.specs.Route.{totals_f, allowed_f, feasible_f}
 use Rattle.evaluation.proofs.Growing.{end-gone}
 use Rattle.evaluation.proofs.RouteExact.{joined}
 use Rattle.improve_base.proofs.Onward.{ended-failed}
