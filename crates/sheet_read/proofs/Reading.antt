@@ -1,7 +1,10 @@
 -- The reading of a sheet by its outcome: the head and the counts of an accepted one, or the refusal. Assumes nothing.
 use Prim.Native.Nat.{ℕ, ◌*◌, ◌≤◌}
 use native.Mathlib.Omega.{arith}
-use mathlib.Core.Path.{◌≡◌, sym, ap, ◌∙◌}
+use mathlib.Core.Path.{◌≡◌, refl, sym, ap, ◌∙◌}
+use mathlib.Core.Option as Option
+use mathlib.Core.Option.{Option, none, some}
+use Rattle.basics.specs.Options.{value_or}
 use lib.Ieee.{Float}
 use lib.ListN.{length}
 use mathlib.Core.List.{List}
@@ -49,3 +52,8 @@ module _ (bytes : List ℕ) where
       read-accepted times calls t l =
           (λ i. holds (record { head = h i; customers = all-customers i; distances = all-distances i; times = t i; calls = l i }))
           ∙ sym (ap summary_of sheet-read)
+
+-- the library's word for a value or 0 gives what the definitions' gives
+pub get_or-value_or : (o : Option ℕ) (d : ℕ) → Option.get_or o d ≡ value_or d o
+get_or-value_or none d = refl
+get_or-value_or (some n) d = refl
