@@ -1,0 +1,182 @@
+-- `load_row::load_row` meets its contract. The loop's invariant is `LoadAlong` for whatever tables the lists are worked out from: after m calls of the row, load and way are those of these calls,
+-- nothing is late, and the cells up to i + m are as the row leaves them. The measure is how many calls are left. Assumes nothing.
+use Prim.Native.Nat.{ℕ, ◌+◌, ◌-◌, ◌<◌, ◌≤◌}
+use native.Mathlib.Omega.{arith}
+use mathlib.Core.Path.{◌≡◌, refl, sym, ap, subst, ◌∙◌}
+use mathlib.Core.Option.{some}
+use mathlib.Core.List.{List}
+use lib.ListN.{length, get_or, take, drop, length-drop}
+use lib.Dec.{eqb}
+use lib.Ieee.{Float, nan}
+use borrow.Author.Rules.{rules}
+use Rattle.cut_theory.specs.Tab.{most_cut}
+use Rattle.definitions.specs.Load.{no_load}
+use Rattle.models.specs.Load.{load_of, UpTo, none-up-to, up-to-more}
+use Rattle.whole.proofs.Bits.{fl-zero}
+use Rattle.distance.specs.declared.matrix.Road.TheVariants.{Length, Closed}
+use Rattle.distance.specs.Lookup.{road_f, road_of}
+use Rattle.evaluation.specs.Records.{Tables}
+use Rattle.cut_stops.specs.Stops.{stop_of, stop_at, StopsOf, LegsLong, LegsAre}
+use Rattle.cut_table.specs.Table.{Table, table}
+use Rattle.cut_runs.specs.Stretch.{joined_f, leg_to}
+use Rattle.cut_runs.specs.Runs.{Instance, by_loads, tariff, RowLists, row_lists, Rowed}
+use Rattle.cut_runs.proofs.Along.{Row, row_from, Along, setout}
+use Rattle.cut_runs.proofs.Ends.{run_out, overloaded, cut_off}
+use Rattle.cut_runs.proofs.Calls.{RunIs, run_is, call_below, way-is, CallIs, call-is, leg-closed}
+use Rattle.cut_runs.proofs.Calling.{Called}
+use Rattle.cut_runs.proofs.LoadAlong.{bare_tables, bare_stop, call-bare, load-setout, put}
+use Rattle.cut_row_loads.proofs.load_row.load_row.Goals as goal
+use Rattle.cut_row_loads.proofs.load_row.load_row.Goals.{After-none-load, After-stop_at-stop, After-way_to-gone, In-loop-m}
+
+-- the loop is entered
+module _ (n : After-none-load) where
+  abbrev row_at : Float → Float → Row
+  row_at base ahead = let a = n.args in row_from (drop a.i a.held.now) a.i (table a.cost.now a.dist.now a.pred.now) base ahead
+
+  abbrev over : Tables → Instance
+  over t = by_loads t n.args.terms
+
+-- the next run
+module _ (r : In-loop-m) where
+  ahead-run : r.args.i + r.loop-m.m < length r.args.held.now
+  ahead-run = omega (arith, r.loop-m-test.true)
+
+  is-run : RunIs r.args.held.now r.args.i r.loop-m.m (take (r.args.i + r.loop-m.m + 1 - r.args.i) (drop r.args.i r.args.held.now))
+  is-run = run_is _ _ _ ahead-run
+
+-- its last call
+module _ (p : After-stop_at-stop) where
+  -- the number of the row's first call, and how many calls of the row come before this one
+  abbrev i : ℕ
+  i = p.args.i
+
+  abbrev m : ℕ
+  m = p.loop-m.m
+
+  abbrev x : RowLists
+  x = let a = p.args in row_lists a.held.now a.legs.now a.time_legs.now a.codes.now a.figures.now
+
+  abbrev run : List ℕ
+  run = take (i + m + 1 - i) (drop i x.held)
+
+  ahead : i + m < length x.held
+  ahead = omega (arith, p.loop-m-test.true)
+
+  few : (length x.held ≤ most_cut) × LegsLong x.legs
+  few = (p.requires.few, p.requires.legs-long)
+
+  inside : m < length (drop i x.held)
+  inside = simp length-drop (omega (arith, ahead))
+
+  short : i + length (drop i x.held) ≤ most_cut
+  short = simp length-drop (omega (arith, few.0, p.requires.inside))
+
+  next-cell : i + m + 1 ≡ i + (m + 1)
+  next-cell = omega arith
+
+  -- the travel time to it, which the row does not read
+  abbrev travel : Float
+  travel = leg_to run (stop_of p.stop_at-stop.result).time_out (get_or x.legs.times (i + m) nan)
+
+  called : (t : Tables) → StopsOf t x.held x.stops → LegsAre t x.held x.legs
+      → (leg : Float) → leg ≡ leg_to run (stop_of p.stop_at-stop.result).out (get_or x.legs.distances (i + m) nan)
+      → CallIs (bare_tables t) (drop i x.held) m (bare_stop (stop_of p.stop_at-stop.result)) leg travel
+  called t W L leg el =
+      call-bare
+      (call-is t x W L p.requires.below (run_is _ _ _ ahead) ahead
+      (stop_of p.stop_at-stop.result) leg travel (p.stop_at-stop.ensures ∙ ap (stop_at x.stops) p.last_call.ensures) el refl)
+
+-- the way to it is added
+module _ (way : After-way_to-gone) where
+  leg-open : road_f way.leg_to.result ≡ some way.in-Length.leg
+  leg-open = let e : way.road_of.result ≡ Length way.in-Length.leg = way.in-Length.is in sym way.road_of.ensures ∙ ap road_of e
+
+  far-way : way.way_to-gone.result ≡ joined_f way.loop-m.gone way.in-Length.leg (eqb way.loop-m.m 0)
+  far-way = let ahead : way.args.i + way.loop-m.m < length way.args.held.now = omega (arith, way.loop-m-test.true) in way-is (run_is _ _ _ ahead) _ _ _ way.way_to-gone.ensures
+
+-- the call, its load and the way with it
+going : (way : After-way_to-gone) (t : Tables) → let a = way.args in let l = way.loop-m in let x = row_lists a.held.now a.legs.now a.time_legs.now a.codes.now a.figures.now in
+    let over = by_loads t a.terms in let row = row_from (drop a.i a.held.now) a.i (table a.cost.now a.dist.now a.pred.now) in
+    (travel : Float) → CallIs (bare_tables t) (drop a.i x.held) l.m (bare_stop (stop_of way.stop_at-stop.result)) way.leg_to.result travel
+    → l.m < length (drop a.i x.held) → a.i + length (drop a.i x.held) ≤ most_cut
+    → (base ahead' : Float) (new : Table)
+    → Along (tariff over) (row base ahead') new (load_of l.load) l.gone l.m
+    → Called over (row base ahead') new (load_of l.load) l.gone l.m (bare_stop (stop_of way.stop_at-stop.result)) travel (load_of way.plus-load.result) way.way_to-gone.result
+going way t time is-call within most base ahead' new A =
+    record {
+      along = A;
+      listed = way.leg_to.result;
+      leg = way.in-Length.leg;
+      is-call = is-call;
+      inside = within;
+      short = most;
+      is-load = way.plus-load.ensures.result_value;
+      fits = sym way.fits.ensures.value ∙ way.if-not-fits.false;
+      is-leg = leg-open way;
+      is-gone = far-way way;
+    }
+
+pub loop-m-init : goal.loop-m-init
+loop-m-init c =
+    let n = (goal.at.loop-m-init c).After-none-load in
+    let s = c in
+    let a = s.args in
+    record {
+      within = omega (arith, s.requires.inside);
+      light = subst (UpTo 1) (sym c.none-load.ensures) (up-to-more 0 1 no_load (omega arith) none-up-to);
+      keeps =
+          λ t W L.
+          (load-setout (setout (tariff (over n t)) (row_at n _ _) _ _ c.none-load.ensures (sym fl-zero) s.requires.table-long refl refl));
+    }
+
+pub stop_at-stop-requires : goal.stop_at-stop-requires
+stop_at-stop-requires c =
+    let r = (goal.at.stop_at-stop-requires c).In-loop-m in
+    let pre = c.requires in
+    (pre.stops-long, subst (λ (k : ℕ). k < 64) (sym (c.last_call.ensures ∙ (is-run r).is_last)) (call_below _ _ _ pre.below (ahead-run r)))
+
+pub returns-then-not-fits : goal.returns-then-not-fits
+unfolding Rowed
+returns-then-not-fits c =
+    let f = c in
+    let p = (goal.at.returns-then-not-fits c).After-stop_at-stop in
+    let l = c in record {
+      fact = λ t W L.
+          overloaded (l.loop-m.invariant.keeps t W L).along (inside p) _ _ (called p t W L _ refl).demand-is f.plus-load.ensures.result_value
+          (sym f.fits.ensures.value ∙ c.if-not-fits.true);
+      result_in_bounds = l.loop-m.invariant.within;
+    }
+
+pub returns-in_default : goal.returns-in_default
+unfolding Rowed
+returns-in_default c =
+    let n = (goal.at.returns-in_default c).After-none-load in
+    let q = c in
+    let p = (goal.at.returns-in_default c).After-stop_at-stop in
+    let l = c in
+    let e : q.road_of.result ≡ Closed = search rules in record {
+      fact = λ t W L.
+          cut_off (over n t) (l.loop-m.invariant.keeps t W L).along (inside p)
+          (leg-closed _ _ _ (called p t W L _ q.leg_to.ensures).leg-is (sym q.road_of.ensures ∙ ap road_of e));
+      result_in_bounds = l.loop-m.invariant.within;
+    }
+
+pub loop-m-preserved : goal.loop-m-preserved
+loop-m-preserved c =
+    let k = (goal.at.loop-m-preserved c).After-way_to-gone in
+    let b = c in
+    let p = (goal.at.loop-m-preserved c).After-stop_at-stop in
+    let l = c in
+    record {
+      within = omega (arith, ahead p);
+      light = b.fits.ensures.up_to b.if-not-fits.false;
+      keeps =
+          λ t W L.
+          let A = l.loop-m.invariant.keeps t W L in
+          put (stop_of p.stop_at-stop.result) A (going k t (travel p) (called p t W L _ k.leg_to.ensures) (inside p) (short p) _ _ _ A.along) _ (sym fl-zero) _ _ (next-cell p) c.offer.ensures;
+    }
+
+pub returns : goal.returns
+unfolding Rowed
+returns c =
+    let l = c in record { fact = λ t W L. run_out (l.loop-m.invariant.keeps t W L).along (simp length-drop (omega (arith, c.loop-m-test.false))); result_in_bounds = l.loop-m.invariant.within }
