@@ -1,5 +1,5 @@
 -- The times of the clock of crates/definitions, and whether a run is allowed by them. Assumes nothing.
-use Prim.Native.Nat.{ℕ, suc, ◌+◌, ◌≤◌, ◌<◌, max}
+use Prim.Native.Nat.{ℕ, suc, ◌+◌, max}
 use native.Mathlib.Omega.{arith}
 use mathlib.Core.Path.{◌≡◌, refl, sym, ap, ap₂, subst, ◌∙◌}
 use mathlib.Core.Bool.{Bool, true, false, cond, ◌&&◌, ◌||◌, false≢true}
@@ -8,7 +8,6 @@ use mathlib.Core.Option.{Option, none, some, map}
 use lib.Dec.{ltb, leb, eqb}
 use borrow.Author.Tests.{ltb-true, ltb-false, lt-ltb, le-ltb, eqb-true, leb-true, leb-false}
 use Rattle.basics.specs.Options.{◌>>=◌, holds, given, present}
-use Rattle.basics.specs.Lists.{All}
 use Rattle.basics.proofs.TestLaws.{by-test, not-both}
 use Rattle.definitions.specs.Sheet.{Window, Break, Customer, Sheet, Leg, customer, drive, map_window, map_break, map_customer}
 use Rattle.definitions.specs.Window.{Entry, enter}
@@ -18,11 +17,11 @@ use Rattle.definitions.specs.Run as Run
 use Rattle.definitions.specs.Clock.{Clock, smaller, tick, clock_from, counts, clock, start_of}
 use Rattle.definitions.specs.Clock as Clock
 use Rattle.definitions.specs.Evaluation.{Evaluation, route_eval, route_feasible}
-use Rattle.theorems.proofs.Roads.{home-is, home_by}
+use Rattle.theorems.proofs.Roads.{home-is}
 use Rattle.whole.specs.Infinity.{Ext, of, never, add_e, lt_e}
 use Rattle.latest.specs.Times.{HoursOf, DayOf, TimesOf, later, sooner, less, above, opens_at, shuts_at, hours_of, day_of, leave, rested, set_out, serve, serves, entered, paused, home, in_time}
 use Rattle.latest.proofs.Ways.{serve-broken, serve-whole}
-use Rattle.latest.proofs.Bounding.{exts, less-is, sooner-time, leave-is, rested-is, gate, sooner-bound, or-goes, Known, Set, Whole}
+use Rattle.latest.proofs.Bounding.{exts, less-is, sooner-time, leave-is, rested-is, gate, sooner-bound, or-goes, Known, Set}
 
 -- ---- a label's time
 

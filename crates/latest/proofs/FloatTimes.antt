@@ -1,22 +1,18 @@
 -- Floats that hold whole numbers reckon times and bounds as the whole numbers do. Assumes nothing.
-use Prim.Native.Nat.{ℕ, suc, ◌+◌, ◌-◌, ◌*◌, ◌≤◌, ◌<◌}
+use Prim.Native.Nat.{ℕ, ◌+◌, ◌*◌, ◌≤◌}
 use native.Mathlib.Omega.{arith}
 use mathlib.Core.Path.{◌≡◌, refl, sym, ap, ap₂, subst, ◌∙◌}
 use mathlib.Core.Bool.{Bool, true, false, cond, ◌||◌, false≢true}
-use mathlib.Core.List.{List, [], ◌∷◌}
-use lib.ListN.{length, get_or}
 use lib.Ieee as Ieee
 use lib.Ieee.{Float, binary64, inf, fin}
-use lib.Dec.{ltb}
 use borrow.Author.Tests.{ltb-true}
 use Rattle.basics.proofs.TestLaws.{by-test}
-use Rattle.basics.specs.Lists.{All}
 use Rattle.definitions.specs.Domain.{most_number}
 use Rattle.whole.specs.Whole.{fl, limit, Is}
 use Rattle.whole.proofs.WholeLaws.{fl-is, fl-sub}
 use Rattle.whole.specs.Infinity.{Ext, of, never, fx, Fit, add_e, lt_e}
 use Rattle.whole.proofs.InfinityLaws.{fx-add, fx-lt}
-use Rattle.latest.specs.Times.{HoursOf, DayOf, TimesOf, later, sooner, less, leave, rested, serve, serves, entered, paused, home, back, bounds, in_time}
+use Rattle.latest.specs.Times.{HoursOf, DayOf, TimesOf, later, sooner, less, leave, rested, serve, entered, paused, back, in_time}
 use Rattle.latest.specs.Floats.{floats}
 use Rattle.latest.proofs.Ways.{serve-broken, serve-whole, back-broken, back_whole}
 use Rattle.latest.proofs.Bounding.{exts, sub_e}
@@ -86,6 +82,8 @@ module _ (x y : Ext) (p : Fit x) (q : Fit y) where
 inf-sub : (x : Float) (a : ℕ) → Is x a → Ieee.sub binary64 (inf false) x ≡ inf false
 unfolding Ieee.sub Ieee.add Ieee.neg
 inf-sub (fin s m e) a p = refl
+inf-sub Ieee.nan a p = elim p [ ]
+inf-sub (inf _) a p = elim p [ ]
 
 less-fx : (u d : Ext) → Fit u → Fit d → less floats (fx u) (fx d) ≡ fx (less exts u d)
 less-fx u d p q = rw (fx-lt d u q p) (by-test (lt_e d u) (λ t. rw t (taken u d p q t)) (λ f. rw f))

@@ -1,22 +1,21 @@
 -- On a sheet of whole numbers within the limits a run is in time with a call more exactly when it is feasible and not too long. Assumes nothing.
-use Prim.Native.Nat.{ℕ, zero, suc, ◌+◌, ◌*◌, ◌≤◌, ◌<◌}
+use Prim.Native.Nat.{ℕ, ◌+◌, ◌*◌, ◌≤◌}
 use native.Mathlib.Omega.{arith}
 use mathlib.Core.Path.{◌≡◌, refl, sym, ap, ap₂, subst, ◌∙◌}
 use mathlib.Core.Bool.{Bool, true, false, ◌&&◌}
 use mathlib.Core.List.{List, [], ◌∷◌, ◌++◌}
 use mathlib.Core.Option.{Option, none, some, map}
-use lib.ListN.{length, get_or, take, drop, length-append}
+use lib.ListN.{length, get_or, take, drop}
 use lib.Seq.{length-take-le}
-use lib.Ieee.{Float, inf}
+use lib.Ieee.{Float}
 use Rattle.basics.specs.Options.{Holds}
 use Rattle.basics.specs.Lists.{All}
-use Rattle.basics.proofs.ListLaws.{all_take, all_drop, all_append}
-use Rattle.basics.proofs.OptionLaws.{same, clash}
-use Rattle.basics.proofs.TestLaws.{by-test}
+use Rattle.basics.proofs.ListLaws.{all_take, all_drop}
+use Rattle.basics.proofs.OptionLaws.{same}
 use Rattle.bounds.specs.Sized.{Small, SmallWindow, SmallBreak, SmallCustomer, Sized, Place}
 use Rattle.bounds.proofs.Inside.{sized, depot-inside, call-inside, leg-small, customer-small}
-use Rattle.definitions.specs.Domain.{most_calls, most_number, most_penalty}
-use Rattle.definitions.specs.Sheet.{Window, Break, Customer, Sheet, Leg, customer, drive, map_window, map_break, map_customer, time_table}
+use Rattle.definitions.specs.Domain.{most_calls, most_number}
+use Rattle.definitions.specs.Sheet.{Window, Break, Customer, Sheet, Leg, customer, drive, map_window, map_break}
 use Rattle.definitions.specs.Limits.{within}
 use Rattle.definitions.specs.Refusals.{any_closed, Within}
 use Rattle.definitions.specs.Improver.{given_of, distance_of}
@@ -25,12 +24,12 @@ use Rattle.definitions.specs.Run.{last_of, distance_from}
 use Rattle.definitions.specs.Evaluation.{route_feasible}
 use Rattle.whole.specs.Whole.{fl, limit}
 use Rattle.whole.proofs.WholeLaws.{fl-add}
-use Rattle.whole.specs.Infinity.{Ext, of, never, fx, add_e, lt_e}
+use Rattle.whole.specs.Infinity.{Ext, of, fx}
 use Rattle.models.specs.Image.{fl_window, fl_break, fl_customer}
 use Rattle.distance.specs.declared.leg.Leg as D
 use Rattle.distance.proofs.Exact.{fl_leg}
 use Rattle.evaluation.specs.Records.{Tables}
-use Rattle.evaluation.specs.Tables.{place_before, record_f, leg_f}
+use Rattle.evaluation.specs.Tables.{place_before, record_f}
 use Rattle.evaluation.specs.Image.{Image, fl_limits}
 use Rattle.evaluation.proofs.ClockExact.{leg-exact, record-exact}
 use Rattle.improve_base.specs.Leg.{AllOpen}
@@ -40,7 +39,7 @@ use Rattle.latest.specs.Times.{HoursOf, DayOf, TimesOf, above, opens_at, shuts_a
 use Rattle.latest.specs.Floats.{floats, travel_f, hours_f, day_f, serves_f, bounds_f}
 use Rattle.latest.proofs.Ways.{serve-whole}
 use Rattle.latest.proofs.Walking.{first-left, last-before, serves-append}
-use Rattle.latest.proofs.Bounding.{exts, Known, Set, Whole, turn}
+use Rattle.latest.proofs.Bounding.{exts, Whole, turn}
 use Rattle.latest.proofs.ClockTimes.{hours_e, day_e, travel_of, road_e, place_e, serves_e, Open, set-hours, known-day, feasible-is}
 use Rattle.latest.proofs.FloatTimes.{fx_hours, fx_day, fx_times, Upto, SmallHours, SmallDay, Times, each, serve-fx, serve-upto, back-fx, back-upto, in-time-fx, sooner-upto, sooner-fx, fit}
 

@@ -1,0 +1,42 @@
+-- `onward::serve_all` meets its contract. Assumes nothing.
+use Rattle.latest.specs.Times.{HoursOf, TimesOf, serve}
+use lib.Ieee.{Float}
+use Rattle.latest.proofs.Walking.{serves-turn, serves-end}
+use Rattle.latest.specs.Floats.{floats, day_in, times_in, travel_f, hours_f, serves_f}
+use Rattle.cut_stops.specs.Stops.{numbers, listed}
+use Rattle.evaluation.specs.Records.{Tables}
+use lib.ListN.{get_or, drop}
+use native.Mathlib.Omega.{arith}
+use Prim.Native.Nat.{◌+◌}
+use mathlib.Core.Path.{sym, ap, ap₂, ◌∙◌}
+use Rattle.latest.proofs.onward.serve_all.Goals as goal
+use Rattle.latest.proofs.onward.serve_all.Goals.{Start}
+
+abbrev tables : Start → Tables
+tables s = let a = s.args in listed (numbers a.codes.now a.figures.now) a.distances.now a.times.now a.size
+
+pub loop-i-preserved : goal.loop-i-preserved
+loop-i-preserved c =
+    let hours = c in
+    let there = hours in
+    let inside = there in
+    let at = inside in
+    let l = at.loop-i in
+    let s = at in
+    let t = tables (goal.at.loop-i-preserved c).Start in
+    let calls = s.args.calls.now in
+    let day = day_in s.args.day in
+    let turn = serves-turn floats (travel_f t) (hours_f t.customers) day calls l.i (times_in l.left) l.last inside.loop-i-test.true in (
+      omega (arith, inside.loop-i-test.true),
+      ap (λ (x : TimesOf Float). serves_f t day x (get_or calls l.i 0) (drop (l.i + 1) calls))
+          (c.serve-left.ensures ∙ ap₂ (λ (b : HoursOf Float) (w : Float). serve floats day b w (times_in l.left)) hours.hours_at-hours.ensures there.open_time-travel.ensures)
+          ∙ sym turn ∙ l.invariant.1,
+    )
+
+pub returns : goal.returns
+returns c =
+    let at = c in
+    let l = at.loop-i in
+    let s = at in
+    let t = tables (goal.at.returns c).Start in
+    sym (serves-end floats (travel_f t) (hours_f t.customers) (day_in s.args.day) s.args.calls.now l.i (times_in l.left) l.last (omega (arith, c.loop-i-test.false))) ∙ l.invariant.1
