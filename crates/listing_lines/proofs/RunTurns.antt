@@ -1,5 +1,5 @@
 -- The loop over a run list: one run's line at each turn. Assumes nothing.
-use Rattle.std.proofs.Common.{◌≡◌, ℕ, ◌+◌, ◌-◌, ◌*◌, ◌<◌, ◌≤◌, List, ◌∷◌, ◌++◌, map, length, get_or, take, drop, sym, ap, ◌∙◌, subst, arith, length-drop, length-take-le}
+use Rattle.std.proofs.Common.{◌≡◌, ℕ, ◌+◌, ◌-◌, ◌*◌, ◌<◌, ◌≤◌, List, ◌++◌, map, length, get_or, take, drop, ap, subst, arith, length-drop, length-take-le}
 use lib.Ieee.{Float}
 use Rattle.definitions.specs.RunList.{runs_of}
 use Rattle.theorems.proofs.RunListLaws.{RiseTo}

@@ -1,4 +1,6 @@
 // The text of the listing, written into a lent buffer.
+#![tactic(auto)]
+
 pub mod lines;
 pub mod number;
 pub mod plan;
