@@ -27,7 +27,7 @@ use Rattle.definitions.specs.Load.{Load}
 use Rattle.cut_stops.specs.Stops.{StopF}
 use Rattle.cut_runs.specs.Tariff.{RowOf, Ended}
 use Rattle.cut_runs.specs.Places.{label_of, least_of}
-use Rattle.cut_runs.specs.Runs.{Instance, tariff, End, kept_of, end_in}
+use Rattle.cut_runs.specs.Runs.{Instance, tariff, kept_of, end_in}
 use Rattle.cut_runs.proofs.Along.{Row, Along, stopped, vain}
 use Rattle.cut_runs.proofs.Placing.{all_to, label-on, all_more, least-is, Keeps, least-keeps, as_end, least-end}
 use Rattle.cut_runs.proofs.Calls.{by_home}
@@ -68,10 +68,10 @@ module _ (I : Instance) (by : I.placement ≡ Least) (rest : BreakOf Float) (bro
 
   before-is : before' ≡ label_of t R.st rest 0 (suc m)
   before-is =
-      en ∙ rw (ek, K.is_call.record_is, L.is-before) refl ∙ sym (label-on t R.st rest m _ (leg-is K) 0 (omega arith))
+      en ∙ rw (ek, K.is-call.record_is, L.is-before) refl ∙ sym (label-on t R.st rest m _ (leg-is K) 0 (omega arith))
 
   after-are : ls' ≡ all_to t R.st rest (suc m) (suc m)
-  after-are = ea ∙ rw (ek, K.is_call.record_is, L.is-before, L.are-after) refl ∙ sym (all_more t R.st rest m _ (leg-is K))
+  after-are = ea ∙ rw (ek, K.is-call.record_is, L.is-before, L.are-after) refl ∙ sym (all_more t R.st rest m _ (leg-is K))
 
   -- no label is left
   pub unplaced : before' ≡ none → ls' ≡ [] → RowOf (tariff I) R.st R.i R.old new × Ended (tariff I) R.st m
@@ -108,13 +108,13 @@ module _ (I : Instance) (by : I.placement ≡ Least) (rest : BreakOf Float) (bro
 
     -- there is none
     pub endless : o ≡ none → Next new
-    endless e = next new (by_home K.is_call (λ shut _. no-home K shut) (λ road. no_end K (end_is road ∙ ap as_end e)))
+    endless e = next new (by_home K.is-call (λ shut _. no-home K shut) (λ road. no_end K (end_is road ∙ ap as_end e)))
 
     -- there is one
     pub put : (x : Scheduled) → o ≡ some x → (j : ℕ) (new' : Table) → j ≡ R.i + (m + 1)
         → Offered j R.i (add binary64 (add binary64 R.base (total K)) x.cost) (add binary64 R.ahead (total K)) new new' → Next new'
     put x ex j new' ej O =
-        by_home K.is_call (λ shut none-listed. subst Next (sym (vain R.base gone' s.back x.cost none-listed O)) (next new (no-home K shut)))
+        by_home K.is-call (λ shut none-listed. subst Next (sym (vain R.base gone' s.back x.cost none-listed O)) (next new (no-home K shut)))
         (λ road.
         next new'
         (offered K road (record { distance = x.distance; duration = x.duration; pay = x.cost }) (end_is road ∙ ap as_end ex) j new' (keeps road x ex) ej O))
