@@ -3,7 +3,7 @@ use Prim.Native.Nat.{ℕ, suc, ◌+◌, ◌-◌, ◌*◌, ◌/◌, ◌%◌, ◌�
 use Prim.Native.Char.{code}
 use native.Mathlib.Omega.{arith}
 use mathlib.Core.Path.{◌≡◌, refl, sym, ap, subst, ◌∙◌}
-use mathlib.Core.Bool.{true, false, not, false≢true}
+use mathlib.Core.Bool.{true, false, cond, not, false≢true}
 use mathlib.Core.List.{List, [], ◌∷◌, ◌++◌, append_assoc}
 use mathlib.Core.Option.{Option, none, some}
 use lib.ListN.{length}
@@ -29,7 +29,7 @@ steps s (b ∷ bs) = step s b >>= λ t. steps t bs
 pub walked : (line column : ℕ) (s : State) (bs : List ℕ) (t : State) → steps s bs ≡ some t → walk line column s bs ≡ runs t.calls t.ends t.places
 unfolding walk
 walked line column s [] t e = ap (λ (u : State). runs u.calls u.ends u.places) (same e)
-walked line column s (b ∷ bs) t e = let (u, q, r) = bound (step s b) (λ u. steps u bs) t e in rw (q, walk) (walked _ _ u bs t r)
+walked line column s (b ∷ bs) t e = let (u, q, r) = bound (step s b) (λ u. steps u bs) t e in rw (q, walk) (walked (cond (is_line_end b) (suc line) line) (cond (is_line_end b) 1 (suc column)) u bs t r)
 
 pub goes : (s : State) {t u : State} (xs ys : List ℕ) → steps s xs ≡ some t → steps t ys ≡ some u → steps s (xs ++ ys) ≡ some u
 goes s [] ys e f = ap (λ (x : State). steps x ys) (same e) ∙ f
