@@ -1,2 +1,4 @@
 // An accepted sheet in memory.
+#![tactic(auto)]
+
 pub mod load;
