@@ -1,6 +1,6 @@
 -- Texts joined piece by piece, as definitions write them, bracketed to the right, as a filled template is. Assumes nothing.
 use Prim.Native.Nat.{ℕ}
-use mathlib.Core.Path.{◌≡◌, refl, ap, ◌∙◌}
+use mathlib.Core.Path.{◌≡◌, refl, ◌∙◌}
 use mathlib.Core.List.{List, [], ◌∷◌, ◌++◌, append_assoc}
 
 -- one piece behind the other, and at last `end`

@@ -1,15 +1,14 @@
 -- A template filled byte by byte. Assumes nothing.
-use Prim.Native.Nat.{ℕ, ◌+◌, ◌*◌, ◌≤◌, ◌<◌}
+use Prim.Native.Nat.{ℕ, ◌+◌, ◌≤◌, ◌<◌}
 use native.Mathlib.Omega.{arith}
-use mathlib.Core.Path.{◌≡◌, refl, sym, ap, subst, ◌∙◌}
+use mathlib.Core.Path.{◌≡◌, refl, sym, ap, ◌∙◌}
 use mathlib.Core.Bool.{true, false, true≢false}
 use mathlib.Core.List.{List, [], ◌∷◌, ◌++◌, append_assoc}
 use lib.ListN.{length, drop, get_or, drop_of_length-le}
 use lib.Dec.{ltb}
-use borrow.Author.Tests.{ltb-true, ltb-false, lt-ltb, le-ltb}
+use borrow.Author.Tests.{ltb-true, ltb-false}
 use Rattle.basics.proofs.TestLaws.{by-test, and_left, and_right}
 use Rattle.definitions.specs.Listing.{decimal}
-use Rattle.listing_lines.specs.Put.{Put}
 use Rattle.listing_lines.proofs.Pieces.{next-left}
 use Rattle.templates.specs.Fill.{is_gap, piece, left, takes_one, used_by, fill}
 

@@ -1,2 +1,4 @@
 // Lines made from a template.
+#![tactic(auto)]
+
 pub mod fill;
