@@ -1,2 +1,4 @@
 // The rows of the table: without a break, and by what the terms hold a run to.
+#![tactic(auto)]
+
 pub mod rows;
