@@ -1,11 +1,11 @@
 -- The answer of a call goes by what the numbers that it is lent mean, however they are held. Assumes nothing.
-use Prim.Native.Nat.{ℕ, zero, suc}
+use Prim.Native.Nat.{ℕ}
 use mathlib.Core.Path.{◌≡◌, refl, ap, ap₂, ◌∙◌}
-use mathlib.Core.Bool.{Bool, ◌&&◌, ◌||◌}
+use mathlib.Core.Bool.{Bool, ◌||◌}
 use mathlib.Core.List.{List, [], ◌∷◌, map}
 use mathlib.Core.Option
 use mathlib.Core.Option.{Option, none, some}
-use lib.ListN.{length-map, take}
+use lib.ListN.{length-map}
 use Rattle.basics.specs.Options.{present}
 use Rattle.basics.specs.Lists.{is_empty, any}
 use Rattle.basics.proofs.ListLaws.{take-map}
