@@ -1,0 +1,10 @@
+-- `closing::count_line` meets its contract. Assumes nothing.
+use native.Mathlib.Omega.{arith}
+use Rattle.listing_lines.proofs.Putting.{joined}
+use Rattle.test_records.proofs.closing.count_line.Goals as goal
+
+pub returns : goal.returns
+returns c =
+    let l = c in
+    let f = l in
+    record { text = joined f.counts_text-end.ensures.text l.others_text.ensures.text (omega arith); short = omega arith }

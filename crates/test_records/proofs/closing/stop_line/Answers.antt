@@ -1,0 +1,10 @@
+-- `closing::stop_line` meets its contract. Assumes nothing.
+use native.Mathlib.Omega.{arith}
+use Rattle.listing_lines.proofs.Putting.{joined}
+use Rattle.test_records.proofs.closing.stop_line.Goals as goal
+
+pub returns : goal.returns
+returns c =
+    let w = c in
+    let n = w in
+    record { text = joined n.numbered-end.ensures.text w.word.ensures (omega arith); short = omega arith }
