@@ -5,6 +5,4 @@ use Rattle.test_records.proofs.closing.count_line.Goals as goal
 
 pub returns : goal.returns
 returns c =
-    let l = c in
-    let f = l in
-    record { text = joined f.counts_text-end.ensures.text l.others_text.ensures.text (omega arith); short = omega arith }
+    record { text = joined c.counts_text-end.ensures.text c.others_text.ensures.text (omega arith); short = omega arith }

@@ -6,12 +6,8 @@ use Rattle.test_records.proofs.closing.first_line.Goals as goal
 
 pub returns-then-first-eq0 : goal.returns-then-first-eq0
 returns-then-first-eq0 c =
-    let a = c.args in
-    record { text = rw (eq-eqb a.first 0 c.if-first-eq0.true) (nothing a.at a.out.now); short = omega arith }
+    record { text = rw (eq-eqb c.args.first 0 c.if-first-eq0.true) (nothing c.args.at c.args.out.now); short = omega arith }
 
 pub returns : goal.returns
 returns c =
-    let w = c in
-    let n = w in
-    let i = n in
-    record { text = rw (ne_eqb i.args.first 0 i.if-first-eq0.false) (joined n.numbered-end.ensures.text w.word.ensures (omega arith)); short = omega arith }
+    record { text = rw (ne_eqb c.args.first 0 c.if-first-eq0.false) (joined c.numbered-end.ensures.text c.word.ensures (omega arith)); short = omega arith }

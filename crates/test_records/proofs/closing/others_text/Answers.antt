@@ -6,7 +6,4 @@ use Rattle.test_records.proofs.closing.others_text.Goals as goal
 
 pub returns : goal.returns
 returns c =
-    let w = c in
-    let n = w in
-    let i = n in
-    record { text = rw (sym i.as_it_should.ensures ∙ i.if-as_it_should.false) (joined n.spaced-end.ensures.text w.word-2.ensures (omega arith)); short = omega arith }
+    record { text = rw (sym c.as_it_should.ensures ∙ c.if-as_it_should.false) (joined c.spaced-end.ensures.text c.word-2.ensures (omega arith)); short = omega arith }

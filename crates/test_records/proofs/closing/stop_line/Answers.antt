@@ -5,6 +5,4 @@ use Rattle.test_records.proofs.closing.stop_line.Goals as goal
 
 pub returns : goal.returns
 returns c =
-    let w = c in
-    let n = w in
-    record { text = joined n.numbered-end.ensures.text w.word.ensures (omega arith); short = omega arith }
+    record { text = joined c.numbered-end.ensures.text c.word.ensures (omega arith); short = omega arith }
