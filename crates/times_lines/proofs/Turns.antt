@@ -18,7 +18,7 @@ use Rattle.models.specs.Records.{opening_of, customer_of}
 use Rattle.evaluation.specs.Tables.{record_index, blank, record_f}
 use Rattle.evaluation.proofs.Reading.{read-record}
 use Rattle.listing_lines.proofs.Pieces.{next-left}
-use Rattle.texts.specs.TimesText.{Told, stop_line, stop_lines, violation_line, violation_lines}
+use Rattle.texts.specs.TimesText.{stop_line, stop_lines, violation_line, violation_lines}
 use Rattle.visits.specs.declared.visit.Visit.{Visit}
 use Rattle.visits.specs.declared.visit.Violation.{Violation}
 use Rattle.times_lines.specs.Told.{told_at, stops_in, violation_in}

@@ -3,7 +3,7 @@ use Rattle.std.specs.Prelude.{ℕ, suc, cond, List, [], ◌∷◌, map, eqb, Flo
 use Rattle.std.proofs.Math.Option.{Option, none, some}
 use Rattle.std.specs.Float.Ieee as Ieee
 use Rattle.std.specs.Float.{binary64}
-use Rattle.definitions.specs.Sheet.{WindowOf, BreakOf, CustomerOf, Window, map_window}
+use Rattle.definitions.specs.Sheet.{WindowOf, BreakOf, CustomerOf, Window}
 use Rattle.definitions.specs.Run.{Totals}
 use Rattle.definitions.specs.Visits as Whole
 use Rattle.definitions.specs.Visits.{window_shut, break_not_placeable, over_capacity, over_distance, over_duration, over_wheelchairs, closed_leg}
