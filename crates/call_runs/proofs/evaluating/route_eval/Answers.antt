@@ -7,7 +7,6 @@ use Rattle.placements.specs.Chosen.{placement_of}
 use Rattle.placements.specs.Placed.{eval_by}
 use Rattle.call_runs.specs.declared.evaluating.Evaluation.TheVariants.{NotAllowed, Allowed}
 use Rattle.call_runs.specs.Evaluating.{evaluation_in}
-use Rattle.byte_lists.proofs.Widened.{zeros, as_many}
 use Rattle.call_runs.proofs.RunAnswers.{run-read, refused-run}
 use Rattle.call_runs.proofs.EvalCase.{not-allowed-in, allowed-in, evaluated-run}
 use borrow.Author.Rules.{rules}

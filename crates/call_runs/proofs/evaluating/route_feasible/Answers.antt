@@ -6,9 +6,7 @@ use Rattle.evaluation.specs.Route.{feasible_f}
 use Rattle.evaluation.proofs.RouteExact.{feasible-exact}
 use Rattle.call_runs.specs.declared.evaluating.Feasible.TheVariants.{Answer}
 use Rattle.call_runs.specs.Evaluating.{feasible_in}
-use Rattle.byte_lists.proofs.Widened.{zeros, as_many}
 use Rattle.call_runs.proofs.RunAnswers.{run-read, refused-run, accepted-run}
-use borrow.Author.Rules.{rules}
 use Rattle.call_runs.proofs.evaluating.route_feasible.Goals as goal
 
 pub returns-then-number-ne0 : goal.returns-then-number-ne0

@@ -5,9 +5,7 @@ use mathlib.Core.List.{List}
 use Rattle.models.specs.Load.{space_of}
 use Rattle.evaluation.specs.Records.{lent, limits_of}
 use Rattle.visits.specs.Building.{Builds}
-use Rattle.byte_lists.proofs.Widened.{zeros, as_many, few-read}
 use Rattle.call_runs.proofs.RouteAnswers.{run-read, refused-lists, given-lists}
-use borrow.Author.Rules.{rules}
 use Rattle.call_runs.proofs.visiting.build_route.Goals as goal
 
 pub returns-then-number-ne0 : goal.returns-then-number-ne0
