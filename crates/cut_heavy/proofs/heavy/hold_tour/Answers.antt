@@ -61,3 +61,7 @@ returns c =
     let w = b.write_light-m.ensures in
     let e = front-light (lent b) (tour b) (m b) _ _ w.0 w.1 in
     record { fact_2 = holds-light (lent b) (tour b) _ e _ h.hold-n.result _ _ (table _ _ _) h.hold-n.ensures.fact_2 (m b) w.0 _ d.number_in_tour.ensures; upper_bound = omega (arith, h.hold-n.ensures.upper_bound, few b) }
+
+pub number_in_tour-requires-clause-gone_in_bounds : goal.number_in_tour-requires-clause-gone_in_bounds
+number_in_tour-requires-clause-gone_in_bounds c =
+    let b = (goal.at.number_in_tour-requires-clause-gone_in_bounds c).After-write_light-m in omega (arith, few b)
