@@ -1,3 +1,5 @@
 // A sheet as text: its words shown.
+#![tactic(auto)]
+
 pub mod file;
 pub mod show;
