@@ -99,7 +99,7 @@ module _ (G : GivenF) (m : Mover) (best : Spot) (run : List ℕ) (k : ℕ) where
       let shut : (j : ℕ) → from ≤ j → j < r → found ≡ on found (spot j) =
       λ j u v.
       not-wanted (Ieee.lt (spot j).cost found.cost) (pays_f m (spot j).cost) (allowed_f G m.call run (spot j)) (spot j) found (W.passed j u v) in
-      in-skip on best spot (length run) found from r I W.at_least_lem W.at_most shut
+      in-skip on best spot (length run) found from r I W.at_least W.at_most shut
 
   -- where none is wanted
   pub none-wanted : (r : ℕ) → Wants m best (leg_f G) run 0 r → length run < r → best ≡ folded on best (places_in (leg_f G) k m.call run)
@@ -125,8 +125,8 @@ module _ (G : GivenF) (m : Mover) (best : Spot) (run : List ℕ) (k : ℕ) where
       ∙ is-wanted (Ieee.lt (spot pos).cost found.cost) (pays_f m (spot pos).cost) (allowed_f G m.call run (spot pos)) (spot pos) found (C.wanted h) in
       record {
         places = skips new (pos + 1) r W (in-more on best spot (length run) found pos C.places h new here);
-        behind = omega (arith, C.behind, W.at_least_lem);
-        before = omega (arith, W.at_least_lem);
+        behind = omega (arith, C.behind, W.at_least);
+        before = omega (arith, W.at_least);
         inside = h;
         left_is = L;
         wanted = W.wanted;
