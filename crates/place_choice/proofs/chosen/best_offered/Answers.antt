@@ -5,4 +5,4 @@ use Rattle.place_choice.proofs.chosen.best_offered.Goals as goal
 
 pub returns : goal.returns
 unfolding folded
-returns c = record { result_value = rw c.if-fits.false; befores_len_2 = (let earlier = c in earlier.requires.befores_len.0) }
+returns c = record { result_value = rw c.if-fits.false; befores_len_2 = c.requires.befores_len }

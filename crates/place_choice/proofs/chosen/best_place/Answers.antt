@@ -1,6 +1,6 @@
 -- `chosen::best_place` meets its contract. Assumes nothing.
 -- ---- the places on the way
--- what each call asks for, by the records
+-- what each call (fun_ext for.requires.fact_2.1), by the records
 use Prim.Native.Nat.{ℕ}
 use mathlib.Core.Path.{◌≡◌, sym, subst, fun_ext, ◌∙◌}
 use mathlib.Core.Bool.{true}
@@ -16,33 +16,24 @@ use Rattle.place_choice.specs.Insertion.{given_in, GivenF, leg_f, demand_f, fold
 use Rattle.place_choice.proofs.Spots.{best_none, best-least, best-found, best-missing, least-there, tested-there}
 use borrow.Author.Rules.{rules}
 use Rattle.place_choice.proofs.chosen.best_place.Goals as goal
-use Rattle.place_choice.proofs.chosen.best_place.Goals.{After-best_tested-best, After-cheapest_place-least, Else-not-pays, Start}
+use Rattle.place_choice.proofs.chosen.best_place.Goals.{After-best_tested-best, After-cheapest_place-least, Else-not-pays}
 
-abbrev given : Start → GivenF
-given s = let a = s.args in given_in a.given (numbers a.codes.now a.figures.now) a.distances.now a.times.now
-
-abbrev rest : Start → List (List ℕ)
-rest s = let a = s.args in runs_in (runs a.calls.now a.ends.now a.many a.count)
-
-abbrev asks : (s : Start) → asked_f s.args.demands.now ≡ demand_f (given s)
-asks s = fun_ext s.requires.fact_2.0.1
-
-abbrev least : (c : After-cheapest_place-least) → let s = c in c.cheapest_place-least.result ≡ folded cheaper_f nowhere_f (candidates_f (given s) s.args.mover.call (rest s))
+abbrev least : (c : After-cheapest_place-least) → let s = c in c.cheapest_place-least.result ≡ folded cheaper_f nowhere_f (candidates_f (given_in s.args.given (numbers s.args.codes.now s.args.figures.now) s.args.distances.now s.args.times.now) s.args.mover.call (runs_in (runs s.args.calls.now s.args.ends.now s.args.many s.args.count)))
 least c =
     let s = c in
-    let T = given s.before.before.before.before.before.before.before.before.before in
-    subst (λ (d : ℕ → Load). c.cheapest_place-least.result ≡ folded cheaper_f nowhere_f (each_from (places_of (leg_f T) (room_f d T.capacity-1) s.args.mover.call) 0 (rest s.before.before.before.before.before.before.before.before.before))) (asks s.before.before.before.before.before.before.before.before.before)
+    let T = (given_in s.args.given (numbers s.args.codes.now s.args.figures.now) s.args.distances.now s.args.times.now) in
+    subst (λ (d : ℕ → Load). c.cheapest_place-least.result ≡ folded cheaper_f nowhere_f (each_from (places_of (leg_f T) (room_f d T.capacity) s.args.mover.call) 0 (runs_in (runs s.args.calls.now s.args.ends.now s.args.many s.args.count)))) (fun_ext s.requires.fact_2.1)
     c.cheapest_place-least.ensures
 
 abbrev paid : (c : Else-not-pays) → pays_f c.args.mover c.cheapest_place-least.result.cost ≡ true
-paid c = let pays = c.pays in sym pays.ensures ∙ not-false pays.result c.if-not-pays.false
+paid c = let pays = c.pays in sym pays.ensures ∙ c.if-not-pays.false
 
-abbrev tested : (c : After-best_tested-best) → let s = c in c.best_tested-best.result ≡ tested_f (given s) s.args.mover (rest s)
+abbrev tested : (c : After-best_tested-best) → let s = c in c.best_tested-best.result ≡ tested_f (given_in s.args.given (numbers s.args.codes.now s.args.figures.now) s.args.distances.now s.args.times.now) s.args.mover (runs_in (runs s.args.calls.now s.args.ends.now s.args.many s.args.count))
 tested c =
     let s = c in
-    let T = given s.before.before.before.before.before.before.before.before.before.before.before.before.before.before in
+    let T = (given_in s.args.given (numbers s.args.codes.now s.args.figures.now) s.args.distances.now s.args.times.now) in
     let m = s.args.mover in
-    subst (λ (d : ℕ → Load). c.best_tested-best.result ≡ folded (better_of T m (rest s.before.before.before.before.before.before.before.before.before.before.before.before.before.before)) nowhere_f (each_from (places_of (leg_f T) (room_f d T.capacity-1) m.call) 0 (rest s.before.before.before.before.before.before.before.before.before.before.before.before.before.before))) (asks s.before.before.before.before.before.before.before.before.before.before.before.before.before.before)
+    subst (λ (d : ℕ → Load). c.best_tested-best.result ≡ folded (better_of T m (runs_in (runs s.args.calls.now s.args.ends.now s.args.many s.args.count))) nowhere_f (each_from (places_of (leg_f T) (room_f d T.capacity) m.call) 0 (runs_in (runs s.args.calls.now s.args.ends.now s.args.many s.args.count)))) (fun_ext s.requires.fact_2.1)
     c.best_tested-best.ensures
 
 pub returns-then-not-pays : goal.returns-then-not-pays
@@ -50,13 +41,13 @@ returns-then-not-pays c =
     let k = c in
     let s = k in
     let pays = c.pays in
-    record { is = best_none (given s.before.before.before.before.before.before.before.before.before.before.before) s.args.mover (rest s.before.before.before.before.before.before.before.before.before.before.before) _ (least k.before.before.before) (sym pays.ensures ∙ not-true pays.result c.if-not-pays.true); inside = tt }
+    record { is = best_none (given_in s.args.given (numbers s.args.codes.now s.args.figures.now) s.args.distances.now s.args.times.now) s.args.mover (runs_in (runs s.args.calls.now s.args.ends.now s.args.many s.args.count)) _ (least (goal.at.returns-then-not-pays k).After-cheapest_place-least) (sym pays.ensures ∙ c.if-not-pays.true); inside = tt }
 
 pub is_allowed-requires : goal.is_allowed-requires
 is_allowed-requires c =
     let k = c in
     let s = k in
-    record { fact = (s.requires.fact.0, least-there (given s.before.before.before.before.before.before.before.before.before.before.before) s.args.mover (rest s.before.before.before.before.before.before.before.before.before.before.before) _ (least k.before.before.before) (paid c), s.requires.fact_2.0.0); all_open = s.requires.fact_2.1 }
+    record { fact = (s.requires.fact.0, least-there (given_in s.args.given (numbers s.args.codes.now s.args.figures.now) s.args.distances.now s.args.times.now) s.args.mover (runs_in (runs s.args.calls.now s.args.ends.now s.args.many s.args.count)) _ (least (goal.at.is_allowed-requires k).After-cheapest_place-least) (paid (goal.at.is_allowed-requires c).Else-not-pays), s.requires.fact_2.0); all_open = s.requires.all_open }
 
 pub returns-then-is_allowed : goal.returns-then-is_allowed
 returns-then-is_allowed c =
@@ -66,8 +57,8 @@ returns-then-is_allowed c =
     let s = k in
     let a = asked.is_allowed in
     record {
-      is = best-least (given s.before.before.before.before.before.before.before.before.before.before.before.before.before) s.args.mover (rest s.before.before.before.before.before.before.before.before.before.before.before.before.before) _ (least k.before.before.before.before.before) (paid p.before.before.before) (sym a.ensures.result_value ∙ c.if-is_allowed.true);
-      inside = least-there (given s.before.before.before.before.before.before.before.before.before.before.before.before.before) s.args.mover (rest s.before.before.before.before.before.before.before.before.before.before.before.before.before) _ (least k.before.before.before.before.before) (paid p.before.before.before);
+      is = best-least (given_in s.args.given (numbers s.args.codes.now s.args.figures.now) s.args.distances.now s.args.times.now) s.args.mover (runs_in (runs s.args.calls.now s.args.ends.now s.args.many s.args.count)) _ (least (goal.at.returns-then-is_allowed k).After-cheapest_place-least) (paid (goal.at.returns-then-is_allowed p).Else-not-pays) (sym a.ensures.result_value ∙ c.if-is_allowed.true);
+      inside = least-there (given_in s.args.given (numbers s.args.codes.now s.args.figures.now) s.args.distances.now s.args.times.now) s.args.mover (runs_in (runs s.args.calls.now s.args.ends.now s.args.many s.args.count)) _ (least (goal.at.returns-then-is_allowed k).After-cheapest_place-least) (paid (goal.at.returns-then-is_allowed p).Else-not-pays);
     }
 
 pub returns-then-pays : goal.returns-then-pays
@@ -81,8 +72,8 @@ returns-then-pays c =
     let pays = c.pays-2 in
     let e = sym pays.ensures ∙ c.if-pays.true in
     record {
-      is = best-found (given s.before.before.before.before.before.before.before.before.before.before.before.before.before.before.before.before) s.args.mover (rest s.before.before.before.before.before.before.before.before.before.before.before.before.before.before.before.before) _ (least k.before.before.before.before.before.before.before.before) _ (tested t.before.before.before) (paid p.before.before.before.before.before.before) (sym asked.is_allowed.ensures.result_value ∙ refused.if-is_allowed.false) e;
-      inside = tested-there (given s.before.before.before.before.before.before.before.before.before.before.before.before.before.before.before.before) s.args.mover (rest s.before.before.before.before.before.before.before.before.before.before.before.before.before.before.before.before) _ (tested t.before.before.before) e;
+      is = best-found (given_in s.args.given (numbers s.args.codes.now s.args.figures.now) s.args.distances.now s.args.times.now) s.args.mover (runs_in (runs s.args.calls.now s.args.ends.now s.args.many s.args.count)) _ (least (goal.at.returns-then-pays k).After-cheapest_place-least) _ (tested (goal.at.returns-then-pays t).After-best_tested-best) (paid (goal.at.returns-then-pays p).Else-not-pays) (sym asked.is_allowed.ensures.result_value ∙ refused.if-is_allowed.false) e;
+      inside = tested-there (given_in s.args.given (numbers s.args.codes.now s.args.figures.now) s.args.distances.now s.args.times.now) s.args.mover (runs_in (runs s.args.calls.now s.args.ends.now s.args.many s.args.count)) _ (tested (goal.at.returns-then-pays t).After-best_tested-best) e;
     }
 
 pub returns : goal.returns
@@ -95,6 +86,6 @@ returns c =
     let s = k in
     let pays = c.pays-2 in
     record {
-      is = best-missing (given s.before.before.before.before.before.before.before.before.before.before.before.before.before.before.before.before) s.args.mover (rest s.before.before.before.before.before.before.before.before.before.before.before.before.before.before.before.before) _ (least k.before.before.before.before.before.before.before.before) _ (tested t.before.before.before) (paid p.before.before.before.before.before.before) (sym asked.is_allowed.ensures.result_value ∙ refused.if-is_allowed.false) (sym pays.ensures ∙ c.if-pays.false);
+      is = best-missing (given_in s.args.given (numbers s.args.codes.now s.args.figures.now) s.args.distances.now s.args.times.now) s.args.mover (runs_in (runs s.args.calls.now s.args.ends.now s.args.many s.args.count)) _ (least (goal.at.returns k).After-cheapest_place-least) _ (tested (goal.at.returns t).After-best_tested-best) (paid (goal.at.returns p).Else-not-pays) (sym asked.is_allowed.ensures.result_value ∙ refused.if-is_allowed.false) (sym pays.ensures ∙ c.if-pays.false);
       inside = tt;
     }
