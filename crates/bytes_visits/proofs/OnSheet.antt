@@ -3,31 +3,27 @@ use Prim.Native.Nat.{ℕ, zero, suc, ◌≤◌, ◌<◌}
 use native.Mathlib.Omega.{arith}
 use mathlib.Core.Path.{◌≡◌, refl, sym, ap, subst, ◌∙◌}
 use mathlib.Core.Bool.{Bool, cond}
-use mathlib.Core.List.{List, [], ◌∷◌, ◌++◌, map, map-append}
+use mathlib.Core.List.{List, ◌++◌, map, map-append}
 use mathlib.Core.Option
 use mathlib.Core.Option.{Option, none, some}
 use lib.ListN.{length, get_or, length-map, get_or-map}
 use lib.Ieee.{Float, nan}
 use Rattle.basics.specs.Options.{present, value_or}
 use Rattle.basics.specs.Lists.{All}
-use Rattle.basics.proofs.TestLaws.{by-test}
 use Rattle.basics.proofs.ListLaws.{all_get_d}
 use Rattle.definitions.specs.Sheet.{HeadOf, Sheet}
-use Rattle.definitions.specs.Load.{Load}
 use Rattle.definitions.specs.Room.{written}
-use Rattle.definitions.specs.Answers.{Answer, unless_refused}
+use Rattle.definitions.specs.Answers.{unless_refused}
 use Rattle.definitions.specs.Refusals.{WithinCalls}
-use Rattle.definitions.specs.Visits as Whole
 use Rattle.definitions.specs.Visits.{break_not_placeable}
-use Rattle.definitions.specs.Timeline.{Stop, Timeline, rest_of, timeline}
+use Rattle.definitions.specs.Timeline.{Timeline, rest_of, timeline}
 use Rattle.theorems.proofs.Accepted.{present-same}
 use Rattle.bounds.proofs.Inside.{sized, few-calls, calls-inside}
 use Rattle.whole.specs.Whole.{fl}
 use Rattle.models.specs.declared.customer.Customer.{Customer}
 use Rattle.models.specs.declared.head.Head.{Head}
 use Rattle.models.specs.Load.{space_of}
-use Rattle.models.specs.Records.{head_of}
-use Rattle.models.specs.Image.{fl_break, fl_sheet}
+use Rattle.models.specs.Image.{fl_break}
 use Rattle.evaluation.specs.Records.{Tables, lent, LimitsF, limits_of}
 use Rattle.evaluation.specs.Image.{fl_limits}
 use Rattle.evaluation.proofs.Reading.{get_d_of}
@@ -41,7 +37,7 @@ use Rattle.sheet_loaded.specs.Held.{InMemory}
 use Rattle.bytes_visits.specs.declared.run.Visiting.{Visiting}
 use Rattle.bytes_visits.specs.declared.run.Visiting.TheVariants as Visitings
 use Rattle.bytes_visits.specs.Rows.{rows_to, no_stop, times_row, times_of, loads_row, loads_of, numbers_of, figures_row, figures_of, unread, times_row_f, loads_row_f, number_row_f, figures_row_f}
-use Rattle.bytes_visits.specs.Told.{Lists, run_refusal, told_on, told_of, visiting_in, ToldIn, taken_f, began_f, told_f, RowsWritten, TimedBy, RunTimed}
+use Rattle.bytes_visits.specs.Told.{Lists, run_refusal, told_on, told_of, ToldIn, taken_f, began_f, told_f, TimedBy, RunTimed}
 use Rattle.bytes_visits.proofs.Refusing.{run_fits, place-own, place_inside}
 use Rattle.bytes_visits.proofs.Timed.{rows_same}
 use Rattle.bytes_visits.proofs.Figured.{Small, figures-are, all_small}

@@ -1,14 +1,14 @@
 -- The refusal of a run and its break place: each case, and what holds of those that are accepted. Assumes nothing.
 use Prim.Native.Nat.{ℕ, ◌-◌, ◌≤◌, ◌<◌, min}
 use native.Mathlib.Omega.{arith}
-use mathlib.Core.Path.{◌≡◌, refl, sym, ap, ◌∙◌}
+use mathlib.Core.Path.{◌≡◌, refl, sym, ap}
 use mathlib.Core.Bool.{Bool, true, false, cond, ◌||◌}
 use mathlib.Core.List.{List, [], ◌∷◌}
-use mathlib.Core.Option.{Option, none, some}
+use mathlib.Core.Option.{none}
 use lib.ListN.{length, take}
 use lib.Dec.{ltb}
 use borrow.Author.Tests.{lt-ltb, le-ltb, ltb-false}
-use Rattle.basics.specs.Options.{value_or, present}
+use Rattle.basics.specs.Options.{value_or}
 use Rattle.basics.proofs.TestLaws.{by-test, or_left}
 use Rattle.basics.proofs.OptionLaws.{clash}
 use Rattle.definitions.specs.Domain.{most_calls}

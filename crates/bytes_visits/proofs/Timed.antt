@@ -3,7 +3,6 @@ use Prim.Native.Nat.{ℕ, zero, suc, ◌<◌}
 use native.Mathlib.Omega.{arith}
 use native.Mathlib.Nat.{le_refl}
 use mathlib.Core.Path.{◌≡◌, refl, sym, ap, subst, ◌∙◌}
-use mathlib.Core.Bool.{Bool}
 use mathlib.Core.List.{List, ◌++◌}
 use mathlib.Core.Option.{Option, none, some}
 use lib.ListN.{length, take}
@@ -20,7 +19,6 @@ use Rattle.visits.specs.Visiting.{blank_violation}
 use Rattle.timeline.specs.declared.timeline.Timeline.{Timeline}
 use Rattle.timeline.specs.Timing.{TimelineF, timeline_f, timeline_in, Times}
 use Rattle.bytes_visits.specs.declared.told.Told.{Told}
-use Rattle.bytes_visits.specs.declared.run.Visiting.{Visiting}
 use Rattle.bytes_visits.specs.declared.run.Visiting.TheVariants as Visitings
 use Rattle.bytes_visits.specs.Rows.{rows_to, unread, times_row_f, loads_row_f, number_row_f, figures_row_f}
 use Rattle.bytes_visits.specs.Told.{Lists, run_refusal, told_f, LineWritten, RowsWritten, TimedBy, RunTimed}

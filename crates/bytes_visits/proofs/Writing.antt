@@ -5,7 +5,7 @@ use mathlib.Core.Path.{◌≡◌, refl, sym, ap, ◌∙◌}
 use mathlib.Core.List.{List, [], ◌∷◌, ◌++◌, append_assoc}
 use lib.ListN.{length, get_or, set, length-append, length-set}
 use Rattle.definitions.specs.Room.{written}
-use Rattle.sheet_read.proofs.Fitting.{write-more, write-length}
+use Rattle.sheet_read.proofs.Fitting.{write-more}
 use Rattle.evaluation.proofs.Reading.{get_d_of}
 use Rattle.visits.specs.declared.visit.ViolationType.{ViolationType}
 use Rattle.visits.specs.declared.visit.ViolationType.TheVariants.{TimeWindowViolated, BreakNotPlaceable, CapacityExceeded, MaxDistanceExceeded, MaxDurationExceeded, WheelchairsExceeded, ClosedLeg}

@@ -1,4 +1,6 @@
 // The timeline of a run on the sheet that bytes are, in rows of numbers.
+#![tactic(auto)]
+
 pub mod figures;
 pub mod rows;
 pub mod run;

@@ -1,0 +1,12 @@
+-- `rows::write_loads` meets its contract. Assumes nothing.
+use mathlib.Core.Path.{refl}
+use Rattle.bytes_visits.proofs.Writing.{begun, turn_two}
+use Rattle.bytes_visits.proofs.rows.write_loads.Goals as goal
+
+pub loop-i-init : goal.loop-i-init
+loop-i-init c = begun _ _ _ _ c.requires.1
+
+pub loop-i-preserved : goal.loop-i-preserved
+loop-i-preserved c =
+    let x = c.loop-i in
+    turn_two _ _ _ _ _ (λ j. refl) _ _ refl c.loop-i-test.true x.invariant _ c.put_two.ensures
