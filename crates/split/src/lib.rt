@@ -1,2 +1,4 @@
 // The cut of a giant tour into runs by loads and closed legs alone.
+#![tactic(auto)]
+
 pub mod split;
