@@ -57,9 +57,9 @@ pub fn mark_runs(
     requires calls_len_bound { (length calls.now ≤ 128) × (length ends.now ≤ length breaks.now) }
     requires asks { Asks (map customer_of customers) demands.now }
     requires calls_value { ends_fall 0 ends.now (length calls.now) ≡ false }
-    ensures { let ground = ground_of customers distances.now times.now head in
+    ensures { let area = ground_of customers distances.now times.now head in
         let runs = runs_of calls.now ends.now in
-        result ≡ runs_mark_f ground 1 (fl 0) (with_places runs breaks.now) }
+        result ≡ runs_mark_f area 1 (fl 0) (with_places runs breaks.now) }
 {
     let mut total = 0.0;
     let mut p = 0;
@@ -114,8 +114,8 @@ pub fn mark(
 ) -> Verdict
     requires calls_len_bound { (length calls.now ≤ 128) × (length ends.now ≤ length breaks.now) }
     requires calls_value { ends_fall 0 ends.now (length calls.now) ≡ false }
-    ensures { let ground = ground_of customers distances.now times.now head in
-        result ≡ mark_f ground served.now cost calls.now ends.now breaks.now }
+    ensures { let area = ground_of customers distances.now times.now head in
+        result ≡ mark_f area served.now cost calls.now ends.now breaks.now }
 {
     if let Difference::At(position) = differ(calls, served) {
         return Verdict::OtherCalls { position };

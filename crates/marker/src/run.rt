@@ -111,8 +111,8 @@ pub fn mark_run(
 ) -> Marked
     requires calls_len_bound { length calls.now ≤ 128 }
     requires asks { Asks (map customer_of customers) demands.now }
-    ensures { let ground = ground_of customers distances.now times.now head in
-        result ≡ run_mark_f ground run calls.now place }
+    ensures { let area = ground_of customers distances.now times.now head in
+        result ≡ run_mark_f area run calls.now place }
 {
     let leg = first_closed(calls, distances, times, head.places);
     if leg > 0 {
