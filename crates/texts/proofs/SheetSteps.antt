@@ -5,7 +5,7 @@ use native.Mathlib.Omega.{arith}
 use mathlib.Core.Path.{◌≡◌, refl, sym, ap, subst, ◌∙◌}
 use mathlib.Core.Bool.{Bool, true, false, cond, ◌&&◌, ◌||◌, not, false≢true}
 use mathlib.Core.List.{List, [], ◌∷◌, ◌++◌, append_assoc, append-nil}
-use mathlib.Core.Option.{none, some}
+use mathlib.Core.Option.{some}
 use lib.ListN.{length}
 use lib.Dec.{ltb, leb, eqb}
 use borrow.Author.Tests.{eqb-true, eqb-false, ne_eqb, leb-true, le-leb}
@@ -16,7 +16,7 @@ use Rattle.definitions.specs.Words.{Word, word}
 use Rattle.definitions.specs.Reader.{State, next, among}
 use Rattle.definitions.specs.Listing.{text, digits_in, decimal, is_digit}
 use Rattle.texts.specs.CuttingText.{is_blank, is_line_end}
-use Rattle.texts.specs.SheetText.{row_ends, number_text, Item, say, number, rows, numbers, value_in, value_of, Spelling, Step, on, bad, ◌then◌, makes, of_table, ended, step}
+use Rattle.texts.specs.SheetText.{row_ends, number_text, Item, say, number, rows, numbers, value_in, value_of, Spelling, Step, on, bad, ◌then◌, of_table, ended, step}
 use Rattle.round_trip.proofs.ByKind.{no_other, ◌or◌, by_kind}
 use Rattle.theorems.proofs.Decimal.{value_from, decimal-value, decimal-digits}
 

@@ -1,7 +1,7 @@
 -- `plan::run_lines` meets its contract. The loop's invariant: the lines of the first k runs are put. Assumes nothing.
 use Rattle.std.proofs.Common.{arith, rules}
 use lib.Ieee.{nan}
-use Rattle.listing_lines.proofs.RunWalk.{begins, rises, inside}
+use Rattle.listing_lines.proofs.RunWalk.{begins, inside}
 use Rattle.listing_lines.proofs.RunTurns.{run_list, set_out, kept, room, turn, ended, short-end}
 use Rattle.listing_lines.proofs.plan.run_lines.Goals as goal
 

@@ -1,6 +1,6 @@
 -- `check::check` meets its contract. Assumes nothing.
 -- What is known where the word has been read and tried.
-use Prim.Native.Nat.{ℕ, ◌-◌, ◌<◌}
+use Prim.Native.Nat.{ℕ, ◌<◌}
 use native.Mathlib.Numerals.{add-one}
 use native.Mathlib.Omega.{arith}
 use mathlib.Core.Path.{◌≡◌, sym, ap, ◌∙◌}
@@ -15,7 +15,7 @@ use Rattle.definitions.specs.Reader.{State, fault_at}
 use Rattle.sheet_words.specs.Held.{held_word, fault_of}
 use Rattle.sheet_words.specs.declared.state.Fault.TheVariants.{Sound, Number}
 use Rattle.sheet_words.proofs.Facing.{faces}
-use Rattle.sheet_words.proofs.Walking.{Reached, state_at, set_out, turn, walk-bad, walk-last, walk_ends}
+use Rattle.sheet_words.proofs.Walking.{state_at, set_out, turn, walk-bad, walk-last, walk_ends}
 use Rattle.sheet_words.proofs.check.check.Goals as goal
 use Rattle.sheet_words.proofs.check.check.Goals.{After-fault_at}
 

@@ -1,8 +1,7 @@
 -- `state::State::fault_at` meets its contract. Assumes nothing.
 use mathlib.Core.Path.{refl, sym, ◌∙◌}
-use borrow.Author.Rules.{rules}
 use Rattle.definitions.specs.Reader.{faults, fault_at}
-use Rattle.theorems.proofs.InOrder.{zero-none, number-given}
+use Rattle.theorems.proofs.InOrder.{zero-none}
 use Rattle.sheet_words.specs.Held.{held_word, state_with}
 use Rattle.sheet_words.proofs.state.State.fault_at.Goals as goal
 

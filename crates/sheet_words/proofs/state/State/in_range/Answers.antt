@@ -1,7 +1,6 @@
 -- `state::State::in_range` meets its contract. Assumes nothing.
 use native.Mathlib.Omega.{arith}
 use borrow.Author.Tests.{ne_eqb}
-use borrow.Author.Rules.{rules}
 use Rattle.definitions.specs.Reader.{in_range}
 use Rattle.sheet_words.proofs.state.State.in_range.Goals as goal
 

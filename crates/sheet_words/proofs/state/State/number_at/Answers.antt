@@ -2,7 +2,6 @@
 use mathlib.Core.Path.{refl, ◌∙◌}
 use mathlib.Core.Bool.{not}
 use mathlib.Core.List.{[], ◌∷◌}
-use borrow.Author.Rules.{rules}
 use Rattle.basics.proofs.TestLaws.{by-test}
 use Rattle.definitions.specs.Reader.{may_stand, in_range, pair_falls, among, faults, fault_at}
 use Rattle.refuse_lists.specs.First.{in_order}
