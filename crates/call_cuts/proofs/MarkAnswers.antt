@@ -6,7 +6,6 @@ use mathlib.Core.Bool.{false}
 use mathlib.Core.List.{List, []}
 use lib.ListN.{length, take, length-take}
 use borrow.Author.Tests.{ltb-false}
-use lib.Ieee.{Float}
 use Rattle.cut_theory.specs.Tab.{most_cut}
 use Rattle.definitions.specs.Domain.{most_calls}
 use Rattle.definitions.specs.Lent.{marking}
