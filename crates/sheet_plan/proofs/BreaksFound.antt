@@ -22,7 +22,7 @@ use Rattle.definitions.specs.Clock.{start_of}
 use Rattle.definitions.specs.Cutting.{calls_in, joined, legal_cutting}
 use Rattle.definitions.specs.Placement as Whole
 use Rattle.definitions.specs.Placement.{by_clock, by_pay, totals_by}
-use Rattle.definitions.specs.Evaluation.{Evaluation, eval_of, route_eval, least_eval, eval_by}
+use Rattle.definitions.specs.Evaluation.{eval_of, route_eval, least_eval, eval_by}
 use Rattle.definitions.specs.Drop.{Result, split_by}
 use Rattle.theorems.proofs.Legality.{with, legal-has}
 use Rattle.theorems.proofs.Placing.{placed_by, totals-own}
