@@ -17,7 +17,8 @@ use Rattle.definitions.specs.Domain.{no_road, is_number, is_closed, is_leg}
 use Rattle.definitions.specs.Sheet.{WindowOf, BreakOf, CustomerOf, SheetOf, records, own, map_window, map_break, map_customer}
 use Rattle.definitions.specs.Lent.{Lent, whole, whole_sheet, Call}
 use Rattle.definitions.specs.Refusals.{unfit, bad_optional, bad_break, bad_window, bad_customer, bad_sheet, refusals, refusal_of}
-use Rattle.theorems.proofs.Ranges.{break-in-range, window-in-range, customer-in-range, in-range, lent-in-range, not-refused}
+use Rattle.theorems.proofs.InOrder.{none-fits}
+use Rattle.theorems.proofs.Ranges.{break-in-range, window-in-range, customer-in-range, in-range, lent-in-range}
 use Rattle.theorems.proofs.Accepted.{held}
 use Rattle.models.specs.Image.{fl_window, fl_break, fl_customer, fl_sheet}
 use Rattle.whole.specs.Whole.{fl, limit}
@@ -137,5 +138,5 @@ sheet-image s f h =
 
 -- and so is what an accepted call is lent
 pub accepted-image : (k : Call) (l : Lent Float) → FitSheet l.sheet → refusal_of value k l ≡ none → own l.sheet ≡ fl_sheet (whole_sheet value l.sheet)
-unfolding refusals
-accepted-image k l f h = sheet-image l.sheet f (lent-in-range value l (not-refused value k l h 1)).sheet
+unfolding refusal_of refusals
+accepted-image k l f h = sheet-image l.sheet f (lent-in-range value l (none-fits (refusals value k l) h 1)).sheet
