@@ -1,5 +1,7 @@
 // Replays recorded answers of the Rust planner: reads records on standard input, computes each answer anew, and says
 // whether all are alike but those that are wrong on purpose.
+#![tactic(auto)]
+
 ghost use Rattle.std.specs.Prelude.{◌≡◌};
 ghost use Rattle.definitions.specs.Listing.{listing};
 ghost use Rattle.test_runs.specs.Alike.{same_list};
