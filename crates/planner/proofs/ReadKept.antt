@@ -3,8 +3,6 @@ use Prim.Native.Nat.{ℕ}
 use mathlib.Core.Path.{◌≡◌, refl, sym, ap, subst, ◌∙◌}
 use mathlib.Core.Bool.{Bool, true, false, cond}
 use mathlib.Core.List.{List, map}
-use mathlib.Core.Option.{Option}
-use lib.Ieee.{Float}
 use Rattle.definitions.specs.Sheet.{Sheet}
 use Rattle.definitions.specs.Answers.{read_customers, read_distances, read_times, read_tour}
 use Rattle.definitions.specs.Words.{words_of, left_over}

@@ -2,7 +2,7 @@ use Rattle.call_shared.proofs.Padded.{padded-gathered}
 use Rattle.placements.specs.Chosen.{placement_of}
 use Rattle.planner.specs.Calls.{lent_sheet}
 use Rattle.planner.specs.Cutting.{cut_output}
-use Rattle.planner.proofs.CutKept.{plainly, timed, kept}
+use Rattle.planner.proofs.CutKept.{timed, kept}
 use Rattle.planner.proofs.cutting.split_tw.Goals as goal
 
 pub returns : goal.returns
