@@ -8,7 +8,6 @@ use lib.ListN.{length, set}
 use lib.Ieee.{Float}
 use denote.Enum.Declared.{tag_of}
 use types.Run.{OneOf}
-use Rattle.definitions.specs.Marker.{Verdict}
 use Rattle.definitions.specs.Room.{written}
 use Rattle.marker.specs.declared.verdict.Verdict as Code
 use Rattle.marker.specs.declared.verdict.Verdict.TheVariants.{OtherCalls, Overload, BreakTooLate, WindowMissed, BreakMissing, TooFar, TooLong, Best, Dearer, Cheaper, WheelchairOverload, RoadClosed}
