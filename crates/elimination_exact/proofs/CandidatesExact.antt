@@ -100,7 +100,7 @@ module _ (s : Sheet) (S : Sized s) (T : GivenF) (I : Image s T) (c : ℕ) (p : P
 
     later-are : (x : Spot) → Within (leg_f T) c (suc k) rs x → put_from k c (r ∷ rs) x ≡ beyond r (put_from (suc k) c rs x)
     later-are x W =
-        let e : x.run - k ≡ suc (x.run - suc k) = omega (arith, W.at_least_lem) in
+        let e : x.run - k ≡ suc (x.run - suc k) = omega (arith, W.at_least) in
         ap (λ (m : ℕ). record { grown = run_at (put_in m x.pos c (r ∷ rs)) m; runs = put_in m x.pos c (r ∷ rs) }) e
 
   candidates-from : (k : ℕ) (rs : List (List ℕ)) → All (All (Place s)) rs → map (put_from k c rs) (each_from (places_of (leg_f T) fits c) k rs) ≡ candidates (given_of s) c rs
@@ -140,7 +140,7 @@ module _ (s : Sheet) (S : Sized s) (T : GivenF) (I : Image s T) (c : ℕ) (p : P
     priced x Q =
         let z = sub-zero x.run in
         let run = run_at rs x.run in
-        let inside : x.run < length rs = rw z at Q.run_Inside in
+        let inside : x.run < length rs = rw z at Q.run_inside in
         let pos : x.pos ≤ length run = rw z at Q.pos-inside in
         let cost = Q.cost-is ∙ ap (λ (m : ℕ). adds_f (leg_f T) (run_at rs m) x.pos c) z in
         let prev = place_before run x.pos in

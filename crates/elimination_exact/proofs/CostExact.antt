@@ -119,6 +119,8 @@ module _ (s : Sheet) where
 
 below-infinity : (x : Float) (n : ℕ) → Is x n → Ieee.lt (inf true) x ≡ true
 unfolding Ieee.lt
+below-infinity Ieee.nan n p = elim p [ ]
+below-infinity (inf _) n p = elim p [ ]
 below-infinity (fin b m e) n p = refl
 
 pub finite-exact : (n : ℕ) → n ≤ limit → finite_f (fl n) ≡ true

@@ -79,7 +79,7 @@ module _ (s : Sheet) (D : Within s) (T : GivenF) (I : Image s T) where
     room = omega (arith, sort-length (by_seats (given_of s).demand) p.run, P.few)
 
     moving-inside : All (Place s) moving
-    moving-inside = sort-all (by_seats (given_of s).demand) (Place s) p.run P.run_Inside
+    moving-inside = sort-all (by_seats (given_of s).demand) (Place s) p.run P.run_inside
 
     -- what the others come to, with its customers
     abbrev left : Option (List (List ℕ))
@@ -87,7 +87,7 @@ module _ (s : Sheet) (D : Within s) (T : GivenF) (I : Image s T) where
 
     placed-exact : place_all_f T (fl 0) (fl saved) (sort (by_seats (demand_f T)) p.run) p.rest ≡ map (answered s D T I base saved base-small (omega (arith, saved-small))) left
     placed-exact =
-        ap₂ (λ (z : Float) (l : List ℕ). place_all_f T z (fl saved) l p.rest) (sym (diff-none base)) (moving-exact p.run P.run_Inside)
+        ap₂ (λ (z : Float) (l : List ℕ). place_all_f T z (fl saved) l p.rest) (sym (diff-none base)) (moving-exact p.run P.run_inside)
         ∙ all-exact s D T I base saved base-small (omega (arith, saved-small)) moving p.rest (calls p.rest) room moving-inside P.others
 
     left-good : Holds (Good s most_calls) left
@@ -128,7 +128,7 @@ module _ (s : Sheet) (D : Within s) (T : GivenF) (I : Image s T) where
         let bound : saved + base ≡ distance_of (given_of s) p.run + base + s.head.fixed = omega arith in
         let by : Float → Option (List (List ℕ)) =
         λ x. cond (finite_f x) (map (λ (q : PlacedF). q.runs) (place_all_f T (fl 0) x (sort (by_seats (demand_f T)) p.run) p.rest)) none in
-        ap by (saved-exact s S T I p.run P.run_Inside (omega (arith, P.few)))
+        ap by (saved-exact s S T I p.run P.run_inside (omega (arith, P.few)))
         ∙ rw (finite-exact saved (omega (arith, saved-small))) (ap (map (λ (q : PlacedF). q.runs)) placed-exact ∙ runs-exact left)
         ∙ ap (λ (b : ℕ). placed_all (given_of s) b moving p.rest) bound
 
