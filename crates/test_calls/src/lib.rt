@@ -1,4 +1,6 @@
 // The public calls on customers that the caller owns as an array: the array is lent as a slice. For test programs.
+#![tactic(auto)]
+
 ghost use Rattle.definitions.specs.Bytes.{numbers_of};
 ghost use Rattle.placements.specs.Chosen.{placement_of};
 ghost use Rattle.planner.specs.Calls.{lent_sheet};
