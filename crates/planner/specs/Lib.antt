@@ -6,5 +6,4 @@ pub mod Evaluating
 pub mod Visiting
 pub mod Marking
 pub mod Reversing
-pub mod Eliminating
 pub mod Reading

@@ -2,7 +2,6 @@
 #![tactic(auto)]
 
 pub mod cutting;
-pub mod eliminating;
 pub mod evaluating;
 pub mod marking;
 pub mod reading;

@@ -1,0 +1,13 @@
+-- `lines::visit_lines` meets its contract. Assumes nothing.
+use Prim.Native.Nat.{◌-◌}
+use mathlib.Core.Path.{◌≡◌}
+use lib.ListN.{take, drop}
+use Rattle.test_runs.specs.Along.{follows}
+use Rattle.test_runs.specs.Words.{each, visit_line}
+use Rattle.test_runs.proofs.lines.visit_lines.Given as goal
+
+abbrev pub invariant-loop-k : goal.invariant-loop-k
+invariant-loop-k l = follows l.recorded l.end (each visit_line (drop l.k (take l.count l.visits))) ≡ follows l.recorded l.at (each visit_line (take l.count l.visits))
+
+abbrev pub decreases-loop-k : goal.decreases-loop-k
+decreases-loop-k l = l.n - l.k

@@ -1,0 +1,6 @@
+-- `runs::listed` meets its contract. Assumes nothing.
+use Rattle.test_runs.proofs.Along.{headed}
+use Rattle.test_runs.proofs.runs.listed.Goals as goal
+
+pub returns : goal.returns
+returns c = headed _ _ _ _ c.word-end.ensures c.calls.ensures
