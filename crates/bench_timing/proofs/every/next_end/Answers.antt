@@ -1,5 +1,5 @@
 -- `every::next_end` meets its contract. Assumes nothing.
-use Rattle.std.proofs.Common.{◌-◌, rules, le-leb}
+use Rattle.std.proofs.Common.{◌-◌, le-leb}
 use borrow.Author.Tests.{lt-leb}
 use Rattle.bench_timing.specs.Every.{next_end}
 use Rattle.bench_timing.proofs.every.next_end.Goals as goal

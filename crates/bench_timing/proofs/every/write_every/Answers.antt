@@ -1,6 +1,6 @@
 -- `every::write_every` meets its contract. The loop's invariant: the first k ends are written. Assumes nothing.
-use Rattle.std.proofs.Common.{◌-◌, arith}
-use Rattle.bench_timing.proofs.Ends.{rises, EndsTo, set_out, kept, place, turn, ends-ended, count-ended}
+use Rattle.std.proofs.Common.{arith}
+use Rattle.bench_timing.proofs.Ends.{rises, set_out, turn, ends-ended, count-ended}
 use Rattle.bench_timing.proofs.every.write_every.Goals as goal
 
 pub loop-end-init : goal.loop-end-init

@@ -1,5 +1,5 @@
 -- `reading::read_calls` meets its contract. Assumes nothing.
-use Rattle.std.proofs.Common.{length, sym, ap, ◌∙◌, rules}
+use Rattle.std.proofs.Common.{length, sym, ap, ◌∙◌}
 use Rattle.sheet_read.specs.Summary.{held_summary}
 use Rattle.sheet_loaded.proofs.Reading.{refused-is}
 use Rattle.whole.specs.Whole.{fl}

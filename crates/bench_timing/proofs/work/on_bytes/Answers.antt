@@ -1,5 +1,5 @@
 -- `work::on_bytes` meets its contract. Assumes nothing.
-use Rattle.std.proofs.Common.{sym, ap, ◌∙◌, rules}
+use Rattle.std.proofs.Common.{sym, ap, ◌∙◌}
 use Rattle.sheet_read.specs.Summary.{held_summary}
 use Rattle.sheet_loaded.proofs.Reading.{refused-is}
 use Rattle.bench_timing.proofs.Sheets.{timed-refused}

@@ -4,7 +4,6 @@ use Rattle.sheet_loaded.specs.Held.{Accepted}
 use Rattle.sheet_loaded.proofs.Reading.{is-accepted}
 use Rattle.sheet_loaded.proofs.Loading.{far-inside, far-counted, long-inside, long-counted, calls-inside, calls-counted}
 use Rattle.bench_timing.proofs.Sheets.{callable, rounds-on}
-use Rattle.std.proofs.Common.{rules}
 use Rattle.bench_timing.proofs.work.on_sheet.Goals as goal
 use Rattle.bench_timing.proofs.work.on_sheet.Goals.{After-load-held}
 

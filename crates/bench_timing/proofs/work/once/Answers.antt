@@ -1,7 +1,7 @@
 -- `work::once` meets its contract. Assumes nothing.
 use Rattle.std.proofs.Common.{◌≡◌, rules}
 use Rattle.improve_base.proofs.OpenLegs.{both-open}
-use Rattle.bench_timing.specs.declared.work.Work.TheVariants.{SplitTw, Eliminate}
+use Rattle.bench_timing.specs.declared.work.Work.TheVariants.{Eliminate}
 use Rattle.bench_timing.proofs.work.once.Goals as goal
 
 pub reversed_distance-requires : goal.reversed_distance-requires

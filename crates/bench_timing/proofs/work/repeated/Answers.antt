@@ -1,8 +1,6 @@
 -- `work::repeated` meets its contract. Assumes nothing.
-use Rattle.std.proofs.Common.{◌≡◌, ◌-◌, ◌≤◌, sym, ◌∙◌, arith}
+use Rattle.std.proofs.Common.{sym, arith}
 use Rattle.whole.proofs.Bits.{fl-zero}
-use Rattle.bench_timing.specs.Work.{instance_in, work_f, last_of}
-use Rattle.bench_timing.proofs.Sheets.{last_more}
 use Rattle.bench_timing.proofs.work.repeated.Goals as goal
 
 pub loop-k-init : goal.loop-k-init

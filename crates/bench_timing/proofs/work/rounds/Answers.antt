@@ -1,5 +1,5 @@
 -- `work::rounds` meets its contract. Assumes nothing.
-use Rattle.std.proofs.Common.{sym, ◌∙◌, rules}
+use Rattle.std.proofs.Common.{sym, ◌∙◌}
 use Rattle.whole.proofs.Bits.{fl-zero}
 use Rattle.bench_timing.proofs.Sheets.{last_none}
 use Rattle.bench_timing.proofs.work.rounds.Goals as goal

@@ -1,6 +1,6 @@
 -- `work::runs_left` meets its contract. Assumes nothing.
-use Rattle.std.proofs.Common.{◌≤◌, length, replicate, arith, rules}
-use Rattle.cut_table.proofs.Fronts.{front, inside, counted}
+use Rattle.std.proofs.Common.{◌≤◌, length, replicate, arith}
+use Rattle.cut_table.proofs.Fronts.{front}
 use Rattle.bench_timing.specs.Every.{every_ends}
 use Rattle.bench_timing.proofs.Ends.{ends-rise}
 use Rattle.bench_timing.proofs.Left.{ends-room, left_is}
