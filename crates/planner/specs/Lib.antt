@@ -6,4 +6,5 @@ pub mod Evaluating
 pub mod Visiting
 pub mod Marking
 pub mod Reversing
+pub mod Eliminating
 pub mod Reading

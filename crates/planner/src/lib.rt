@@ -2,6 +2,7 @@
 #![tactic(auto)]
 
 pub mod cutting;
+pub mod eliminating;
 pub mod evaluating;
 pub mod marking;
 pub mod reading;
