@@ -1,5 +1,5 @@
 -- `lines::break_figures` meets its contract. Assumes nothing.
-use mathlib.Core.Path.{◌≡◌, refl}
+use mathlib.Core.Path.{◌≡◌}
 use Rattle.evaluation.specs.declared.route.Start.TheVariants.{At}
 use Rattle.test_runs.specs.Along.{follows}
 use borrow.Author.Rules.{rules}
@@ -7,11 +7,11 @@ use Rattle.test_runs.proofs.lines.break_figures.Goals as goal
 
 pub returns-in-Unbroken : goal.returns-in-Unbroken
 unfolding follows
-returns-in-Unbroken c = rw c.in-Unbroken.enum_told.given.1 refl
+returns-in-Unbroken c = rw c.in-Unbroken.is
 
 pub returns-in-At : goal.returns-in-At
 unfolding follows
 returns-in-At c =
     let known = c in
-    let e : known.args.start ≡ At known.in-At.start = search rules in
+    let e : known.args.start ≡ At known.in-At.time = search rules in
     rw (e, c.figure.ensures, c.number-end.ensures)

@@ -1,6 +1,5 @@
 -- `lines::built_lines` meets its contract. Assumes nothing.
 use Rattle.test_runs.proofs.Along.{headed, joined, lasted}
-use borrow.Author.Rules.{rules}
 use Rattle.test_runs.proofs.lines.built_lines.Goals as goal
 
 pub returns : goal.returns

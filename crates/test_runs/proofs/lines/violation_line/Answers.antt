@@ -1,6 +1,5 @@
 -- `lines::violation_line` meets its contract. Assumes nothing.
 use Rattle.test_runs.proofs.Along.{headed, lasted}
-use borrow.Author.Rules.{rules}
 use Rattle.test_runs.proofs.lines.violation_line.Goals as goal
 
 pub returns : goal.returns

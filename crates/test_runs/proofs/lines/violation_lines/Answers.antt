@@ -1,12 +1,8 @@
 -- `lines::violation_lines` meets its contract. Assumes nothing.
-use Prim.Native.Nat.{◌-◌}
 use native.Mathlib.Omega.{arith}
-use mathlib.Core.Path.{◌≡◌, refl, sym, ◌∙◌}
-use lib.ListN.{take, drop}
-use Rattle.test_runs.specs.Along.{follows}
-use Rattle.test_runs.specs.Words.{each, violation_line}
+use mathlib.Core.Path.{sym, ◌∙◌}
+use Rattle.test_runs.specs.Words.{violation_line}
 use Rattle.test_runs.proofs.Along.{first_more, first_done}
-use borrow.Author.Rules.{rules}
 use Rattle.test_runs.proofs.lines.violation_lines.Goals as goal
 
 pub loop-k-preserved : goal.loop-k-preserved

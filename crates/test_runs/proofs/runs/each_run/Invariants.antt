@@ -1,10 +1,8 @@
 -- `runs::each_run` meets its contract. Assumes nothing.
 use Prim.Native.Nat.{◌-◌}
-use native.Mathlib.Omega.{arith}
 use lib.ListN.{length}
 use Rattle.test_runs.specs.Runs.{given_in, run_words}
-use Rattle.test_runs.proofs.Turns.{RunsTo, set_out, ended, run-begins, run_ends, run_short, turn}
-use borrow.Author.Rules.{rules}
+use Rattle.test_runs.proofs.Turns.{RunsTo}
 use Rattle.test_runs.proofs.runs.each_run.Given as goal
 
 abbrev pub invariant-loop-k : goal.invariant-loop-k

@@ -10,7 +10,7 @@ use Rattle.test_runs.specs.declared.runs.Topic.TheVariants.{Calls}
 use Rattle.test_runs.specs.Along.{follows}
 use Rattle.test_runs.specs.Words.{each}
 use Rattle.test_runs.specs.Runs.{given_in, run_words}
-use Rattle.test_runs.proofs.Left.{calls-inside, calls-counted, ends-inside, ends-counted, few-calls, ends-rise, runs-are}
+use Rattle.test_runs.proofs.Left.{ends-inside, ends-counted, few-calls, ends-rise, runs-are}
 use borrow.Author.Rules.{rules}
 use Rattle.test_runs.proofs.runs.left_lines.Goals as goal
 
@@ -23,7 +23,7 @@ slice_bounds-each_run-end-2 c = ends-counted c.eliminated-left.ensures
 pub each_run-requires : goal.each_run-requires
 each_run-requires c =
     let x = c in
-    let long : length x.eliminated-left.last.1.1.1.1.1.0 ≡ 128 = search rules in
+    let long : length x.eliminated-left.new.left_calls ≡ 128 = search rules in
     record { all_len_bound = (omega (arith, few-calls x.eliminated-left.ensures, long), ends-rise x.eliminated-left.ensures); drivable = tt }
 
 pub returns : goal.returns

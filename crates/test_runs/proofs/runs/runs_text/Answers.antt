@@ -5,7 +5,6 @@ use Rattle.test_runs.specs.Runs.{given_in}
 use Rattle.test_runs.proofs.Along.{joined, done}
 use Rattle.test_runs.proofs.Turns.{walkable}
 use Rattle.test_runs.proofs.Open.{taken-open}
-use borrow.Author.Rules.{rules}
 use Rattle.test_runs.proofs.runs.runs_text.Goals as goal
 
 pub each_run-end-requires : goal.each_run-end-requires
@@ -32,3 +31,6 @@ returns c =
     let second = test in
     let e = sym test.is_unimproved.ensures ∙ c.if-is_unimproved.false in
     rw e (joined _ _ _ _ (joined _ _ _ _ second.each_run-end.ensures second.each_run-end-2.ensures) c.improved_text.ensures)
+
+pub each_run-end-requires-2-clause-all_len_bound : goal.each_run-end-requires-2-clause-all_len_bound
+each_run-end-requires-2-clause-all_len_bound c = walkable c.requires

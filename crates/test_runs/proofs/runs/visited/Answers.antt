@@ -6,7 +6,6 @@ use mathlib.Core.Path.{ap, ◌∙◌}
 use Rattle.visits.specs.Building.{RouteF}
 use Rattle.test_runs.specs.Along.{follows}
 use Rattle.test_runs.specs.Words.{built_lines}
-use borrow.Author.Rules.{rules}
 use Rattle.test_runs.proofs.runs.visited.Goals as goal
 
 pub returns : goal.returns
