@@ -1,2 +1,0 @@
--- The improvers on the sheet in memory.
-pub mod Improved

@@ -1,2 +1,0 @@
--- What the improvers leave on a sheet.
-pub mod Improve

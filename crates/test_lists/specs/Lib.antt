@@ -1,2 +1,0 @@
--- What the contracts of the answers on run lists cite.
-pub mod Answers

@@ -1,2 +1,0 @@
--- A question by its kind.
-pub mod Asked

@@ -1,2 +1,0 @@
--- What a record shows, by its kind.
-pub mod Replayed

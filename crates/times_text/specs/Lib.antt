@@ -1,2 +1,0 @@
--- What the contracts of the timelines' text cite.
-pub mod Runs
