@@ -1,0 +1,2 @@
+-- The improvers on the sheet in memory.
+pub mod Improved

@@ -1,0 +1,2 @@
+-- What the improvers leave on a sheet.
+pub mod Improve

@@ -1,0 +1,60 @@
+// The program mark: `mark SHEET CUTTING` prints what the cutting in the second file is worth beside the plan of the
+// sheet in the first. What keeps it from marking at all is said on standard error.
+#![tactic(auto)]
+
+use failures::fail;
+use mark_text::text::text;
+use std::env::{Env, FillError};
+use std::io::Read;
+use std::rt::Files;
+use std::{fs, io};
+
+// Opens the file that argument i names, or says why there is none.
+fn open_named<R: Env + Files + Eprint + Alloc>(rt: &R, i: usize) -> io::Result<Option<R::File>> {
+    let mut path = [0u8; 4096];
+    let length = match rt.arg(i, &mut path) {
+        Ok(length) => length,
+        Err(FillError::NotPresent) => {
+            eprintln!(rt; "usage: mark SHEET CUTTING")?;
+            return Ok(None);
+        }
+        Err(FillError::TooLong) => {
+            eprintln!(rt; "mark: a file name: File name too long")?;
+            return Ok(None);
+        }
+    };
+    let Ok(path) = str::from_utf8(&path[..length]) else {
+        eprintln!(rt; "mark: a file name: not UTF-8")?;
+        return Ok(None);
+    };
+    match fs::open(rt, path) {
+        Ok(file) => Ok(Some(file)),
+        Err(error) => {
+            fail(rt, path, &error)?;
+            Ok(None)
+        }
+    }
+}
+
+// One byte more than the longest sheet that is accepted is enough to answer for any sheet; a cutting may have 16,384.
+fn main(rt: HostRuntime) -> io::Result<()> {
+    let Some(sheet) = open_named(&rt, 1)? else {
+        return Ok(());
+    };
+    let Some(cutting) = open_named(&rt, 2)? else {
+        return Ok(());
+    };
+    let mut bytes = Vec::new(rt.alloc());
+    sheet.take(34573).read_to_end(&mut bytes)?;
+    let mut lines = Vec::new(rt.alloc());
+    cutting.take(16385).read_to_end(&mut lines)?;
+    if lines.len() > 16384 {
+        return eprintln!(rt; "mark: the cutting is longer than 16384 bytes");
+    }
+    let mut out = [0u8; 4096];
+    let end = text(&mut out, bytes.as_slice(), lines.as_slice());
+    match rt.write_all(&out[..end]) {
+        Ok(()) => Ok(()),
+        Err(error) => fail(&rt, "mark: standard output", &error),
+    }
+}

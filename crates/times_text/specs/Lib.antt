@@ -1,0 +1,2 @@
+-- What the contracts of the timelines' text cite.
+pub mod Runs
