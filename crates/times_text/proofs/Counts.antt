@@ -1,7 +1,6 @@
 -- How many visits and violations a timeline has at the most. Assumes nothing.
 use Prim.Native.Nat.{ℕ, suc, ◌+◌, ◌≤◌}
 use native.Mathlib.Omega.{arith}
-use mathlib.Core.Path.{◌≡◌, refl}
 use mathlib.Core.Bool.{Bool, true, false, not, ◌&&◌}
 use mathlib.Core.List.{List, [], ◌∷◌, ◌++◌}
 use mathlib.Core.Option.{Option, none, some}
@@ -16,7 +15,7 @@ use Rattle.evaluation.specs.Way.{closed_f}
 use Rattle.models.specs.Limits.{limit_f}
 use Rattle.visits.specs.declared.visit.ViolationType.TheVariants.{BreakNotPlaceable, MaxDistanceExceeded, MaxDurationExceeded}
 use Rattle.visits.specs.declared.visit.Violation.{Violation}
-use Rattle.visits.specs.Visiting.{RestF, TripF, start_trip, visit_at_f, visits_f, windows_f, trip_f}
+use Rattle.visits.specs.Visiting.{RestF, TripF, start_trip, visit_at_f, windows_f, trip_f}
 use Rattle.visits.specs.Violations.{when, over_f, over_capacity_f, over_wheelchairs_f, overloads_f, checked_f}
 use Rattle.visits.specs.Building.{home_f}
 use Rattle.visits.proofs.Assembling.{visits-counted}

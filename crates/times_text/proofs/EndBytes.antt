@@ -20,7 +20,7 @@ use Rattle.definitions.specs.RunList.{runs_of}
 use Rattle.definitions.specs.Marker.{with_places}
 use Rattle.definitions.specs.Lent.{marking}
 use Rattle.definitions.specs.Refusal.{Refusal, refusal, first_fit}
-use Rattle.definitions.specs.Refusals.{too_short, tables_odd, bad_tour, bad_run_list, repeats, bad_sheet, out_of_range, pairs_fall, closures_differ, any_closed, runs_odd, refusals, refusal_of}
+use Rattle.definitions.specs.Refusals.{too_short, tables_odd, bad_tour, repeats, bad_sheet, out_of_range, pairs_fall, closures_differ, any_closed, runs_odd, refusals, refusal_of}
 use Rattle.definitions.specs.Answers.{unless_refused}
 use Rattle.bounds.proofs.InBytes.{bytes_same}
 use Rattle.cut_table.proofs.Fronts.{front}

@@ -1,9 +1,9 @@
 -- The loop over a run list: one run's lines at each turn. Assumes nothing.
-use Prim.Native.Nat.{ℕ, suc, ◌+◌, ◌-◌, ◌*◌, ◌≤◌, ◌<◌}
+use Prim.Native.Nat.{ℕ, ◌+◌, ◌-◌, ◌*◌, ◌≤◌, ◌<◌}
 use native.Mathlib.Omega.{arith}
 use native.Mathlib.Numerals.{add-one}
-use mathlib.Core.Path.{◌≡◌, refl, sym, ap, subst, ◌∙◌}
-use mathlib.Core.List.{List, [], ◌∷◌, ◌++◌}
+use mathlib.Core.Path.{◌≡◌, sym, ap, subst, ◌∙◌}
+use mathlib.Core.List.{List, ◌∷◌, ◌++◌}
 use lib.ListN.{length, take, drop, get_or, length-drop}
 use lib.Seq.{length-take-le}
 use Rattle.basics.specs.Lists.{All}
@@ -17,7 +17,7 @@ use Rattle.listing_lines.specs.Put.{Put}
 use Rattle.listing_lines.proofs.Pieces.{next-left}
 use Rattle.listing_lines.proofs.Putting as Putting
 use Rattle.listing_lines.proofs.Putting.{Wrote, begun, same-room}
-use Rattle.listing_lines.proofs.RunWalk.{runs_left, AtRun, begins, none_left, rises, inside, run-next, next}
+use Rattle.listing_lines.proofs.RunWalk.{runs_left, AtRun, none_left, rises, inside, run-next, next}
 use Rattle.times_text.specs.Runs.{Own, run_times_f, times_f}
 
 -- what is told: a run list with the places of its breaks, on these tables

@@ -1,10 +1,10 @@
 -- The runs of a cutting on the sheet in memory: refused as on the sheet of whole numbers, or told as its timelines are. Assumes nothing.
-use Prim.Native.Nat.{ℕ, suc, ◌+◌, ◌≤◌}
+use Prim.Native.Nat.{ℕ, suc, ◌≤◌}
 use native.Mathlib.Omega.{arith}
 use mathlib.Core.Path.{◌≡◌, refl, sym, ap, subst, ◌∙◌}
 use mathlib.Core.Bool.{cond, true≢false}
 use mathlib.Core.List.{List, [], ◌∷◌, ◌++◌}
-use mathlib.Core.Option.{Option, none, some, map}
+use mathlib.Core.Option.{Option, none, some}
 use lib.Ieee.{Float}
 use lib.ListN.{length, take, length-take}
 use borrow.Author.Tests.{ltb-false}
@@ -12,7 +12,6 @@ use Rattle.basics.specs.Options.{present, value_or}
 use Rattle.basics.specs.Lists.{All}
 use Rattle.basics.proofs.ListLaws.{all-imp}
 use Rattle.definitions.specs.Domain.{most_calls}
-use Rattle.definitions.specs.Load.{Load}
 use Rattle.definitions.specs.Sheet.{Break, Sheet}
 use Rattle.definitions.specs.Run.{Run}
 use Rattle.definitions.specs.RunList.{runs_of}
@@ -25,13 +24,13 @@ use Rattle.definitions.specs.Answers.{Answer, refused, gives, unless_refused, an
 use Rattle.theorems.proofs.Accepted.{Accepted, accepted-within}
 use Rattle.theorems.proofs.GivenRuns.{rises, with_first, with_all, runs-many, runs-proper}
 use Rattle.theorems.proofs.RunListLaws.{RiseTo}
-use Rattle.bounds.specs.Sized.{Sized, Place}
+use Rattle.bounds.specs.Sized.{Sized}
 use Rattle.bounds.proofs.Inside.{sized, few-calls, calls-inside}
 use Rattle.whole.specs.Value.{value}
 use Rattle.models.specs.declared.customer.Customer.{Customer}
 use Rattle.models.specs.declared.head.Head.{Head}
 use Rattle.models.specs.Load.{space_of}
-use Rattle.evaluation.specs.Records.{Tables, LimitsF, lent, limits_of}
+use Rattle.evaluation.specs.Records.{Tables, lent, limits_of}
 use Rattle.evaluation.specs.Image.{fl_limits, Image}
 use Rattle.marker.proofs.GivenRuns.{Inside, runs-inside}
 use Rattle.refuse_order.specs.Lent.{sheet_of, lent_of}

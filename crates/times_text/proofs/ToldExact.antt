@@ -1,7 +1,7 @@
 -- On a sheet within the limits, held in floats, the lines of a run tell the timeline of the definitions. Assumes nothing.
-use Prim.Native.Nat.{ℕ, zero, suc, ◌+◌, ◌≤◌, ◌<◌}
+use Prim.Native.Nat.{ℕ, suc, ◌+◌, ◌≤◌, ◌<◌}
 use native.Mathlib.Omega.{arith}
-use mathlib.Core.Path.{◌≡◌, refl, sym, ap, subst, ◌∙◌}
+use mathlib.Core.Path.{◌≡◌, refl, sym, ap, ◌∙◌}
 use mathlib.Core.Bool.{Bool, true, false, not, ◌&&◌}
 use mathlib.Core.List.{List, [], ◌∷◌, ◌++◌, map}
 use mathlib.Core.Option
@@ -16,21 +16,20 @@ use Rattle.basics.proofs.TestLaws.{by-test}
 use Rattle.basics.proofs.ListLaws.{all_append}
 use Rattle.definitions.specs.Domain.{most_calls}
 use Rattle.definitions.specs.Load.{Load, no_load, plus, seated, wheeled}
-use Rattle.definitions.specs.Sheet.{WindowOf, Window, Break, Sheet, customer}
+use Rattle.definitions.specs.Sheet.{Window, Break, Sheet, customer}
 use Rattle.definitions.specs.Window.{begins, due_of}
 use Rattle.definitions.specs.Limits.{within}
 use Rattle.definitions.specs.Run.{break_start, too_late, ready, Label, start, Run, break_at, first_closed, Totals, home, load}
-use Rattle.definitions.specs.Visits.{Visit, Violation, window_shut, break_not_placeable, over_capacity, over_distance, over_duration, over_wheelchairs, closed_leg, arrives_at, ready_for, entered, visited, windows_from, last_label, unless, overloads, no_totals, violations_of}
-use Rattle.definitions.specs.Timeline.{Stop, rest_start, stops_from, rest_of, Timeline, untaken, closed_timeline, open_timeline, timeline, route_of}
+use Rattle.definitions.specs.Visits.{Violation, window_shut, break_not_placeable, over_capacity, over_distance, over_duration, over_wheelchairs, closed_leg, arrives_at, ready_for, entered, visited, windows_from, last_label, unless, no_totals, violations_of}
+use Rattle.definitions.specs.Timeline.{rest_start, stops_from, rest_of, Timeline, untaken, closed_timeline, open_timeline, timeline}
 use Rattle.bounds.specs.Sized.{SmallWindow, SmallBreak, SmallCustomer, Sized, Place}
 use Rattle.bounds.specs.Bounds.{Early, ready_by, TotalsFit}
 use Rattle.bounds.proofs.Inside.{customer-small, break-small}
 use Rattle.bounds.proofs.BoundLaws.{start-early, begins-most, readiness-most, visited-early, last-most, home-most, totals-fit, or-zero}
 use Rattle.whole.specs.Whole.{fl, limit}
 use Rattle.whole.proofs.WholeLaws.{fl-sum}
-use Rattle.listing_lines.specs.Number.{whole_part}
 use Rattle.listing_lines.proofs.WholePart.{whole-part-fl}
-use Rattle.models.specs.Image.{fl_window, fl_break, fl_customer}
+use Rattle.models.specs.Image.{fl_window, fl_break}
 use Rattle.clock.specs.Image.{fl_totals}
 use Rattle.evaluation.specs.Records.{Tables}
 use Rattle.evaluation.specs.Image.{Image}
@@ -41,8 +40,8 @@ use Rattle.visits.specs.Image.{fl_visit, fl_violation}
 use Rattle.timeline.specs.Image.{fl_timeline}
 use Rattle.timeline.proofs.Stops.{rest-here, rest-later}
 use Rattle.timeline.proofs.AtTheClock.{timeline-closed, timeline-open}
-use Rattle.texts.specs.TimesText.{Pause, Told, pause_of, told_of, run_lines, timeline_text}
-use Rattle.times_lines.specs.Told.{start_at, pause_in, window_in, stop_in, told_at, stops_in, violation_in, totals_in, run_text_f}
+use Rattle.texts.specs.TimesText.{Told, pause_of, told_of, run_lines, timeline_text}
+use Rattle.times_lines.specs.Told.{start_at, pause_in, window_in, stops_in, violation_in, totals_in, run_text_f}
 
 -- ---- a call
 

@@ -1,12 +1,9 @@
 -- `runs::runs_text` meets its contract. The loop's invariant: the lines of the first k runs are put. Assumes nothing.
 use Prim.Native.Nat.{◌-◌}
-use native.Mathlib.Omega.{arith}
 use lib.ListN.{length}
-use borrow.Author.Rules.{rules}
 use Rattle.models.specs.Load.{space_of}
 use Rattle.evaluation.specs.Records.{lent, limits_of}
-use Rattle.listing_lines.proofs.RunWalk.{begins, rises, inside}
-use Rattle.times_text.proofs.RunTurns.{RunList, RunsTo, set_out, kept, ended, run_length, its_own, room, turn}
+use Rattle.times_text.proofs.RunTurns.{RunsTo}
 use Rattle.times_text.proofs.runs.runs_text.Given as goal
 
 abbrev pub invariant-loop-k : goal.invariant-loop-k
