@@ -1,0 +1,38 @@
+-- `alike::runs_alike` meets its contract. Assumes nothing.
+-- the bytes that were found to begin with a list
+use Prim.Native.Nat.{ℕ}
+use mathlib.Core.Path.{◌≡◌, sym, ◌∙◌}
+use mathlib.Core.Bool.{true}
+use mathlib.Core.List.{List}
+use Rattle.basics.proofs.TestLaws.{not-false, not-true}
+use Rattle.test_lists.specs.Answers.{is_counted, calls_alike, runs_alike}
+use Rattle.test_lists.proofs.Asked.{uncounted, list-few, asked}
+use borrow.Author.Rules.{rules}
+use Rattle.test_lists.proofs.alike.runs_alike.Goals as goal
+use Rattle.test_lists.proofs.alike.runs_alike.Goals.{Else-not-is_counted}
+
+abbrev bytes : Else-not-is_counted → List ℕ
+bytes x = x.args.question.now
+
+begin : (x : Else-not-is_counted) → is_counted (bytes x) ≡ true
+begin x = sym x.is_counted.ensures ∙ not-false x.is_counted.result x.if-not-is_counted.false
+
+pub returns-then-not-is_counted : goal.returns-then-not-is_counted
+unfolding runs_alike
+returns-then-not-is_counted c = uncounted c.args.question.now _ (sym c.is_counted.ensures ∙ not-true c.is_counted.result c.if-not-is_counted.true)
+
+pub calls_alike-requires : goal.calls_alike-requires
+calls_alike-requires c =
+    let e = c in
+    let x = e in
+    let few = list-few (bytes x) (begin x) e.list_end-end.result e.list_end-end.ensures in
+    let p = x.requires in
+    (few, p)
+
+pub returns : goal.returns
+unfolding runs_alike
+returns c =
+    let e = c in
+    let x = e in
+    let a = x.args in
+    asked (bytes x) (begin x) e.list_end-end.result e.list_end-end.ensures (λ (list rest : List ℕ). calls_alike list rest a.recorded.now) c.calls_alike.result c.calls_alike.ensures
