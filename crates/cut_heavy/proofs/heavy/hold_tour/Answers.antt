@@ -8,7 +8,6 @@ use native.Mathlib.Omega.{arith}
 use mathlib.Core.Path.{sym, subst, ◌∙◌}
 use mathlib.Core.List.{List}
 use lib.ListN.{length}
-use borrow.Author.Rules.{rules}
 use Rattle.cut_stops.specs.Stops.{Below64}
 use Rattle.cut_table.specs.Table.{table}
 use Rattle.cut_drops.specs.Refill.{Given, given, SomeLists}
