@@ -1,8 +1,4 @@
 -- `heavy::hold_tour` meets its contract: what is held of the calls that fit alone is what is held of the tour, and where all do nothing is left to write. Assumes nothing.
--- ---- the places of the code that the needs look back to
--- the calls that fit alone are written
--- what is lent to `hold`
--- it has given back its lists
 use Prim.Native.Nat.{ℕ, ◌≤◌}
 use native.Mathlib.Omega.{arith}
 use mathlib.Core.Path.{sym, subst, ◌∙◌}

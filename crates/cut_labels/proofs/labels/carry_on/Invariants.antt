@@ -1,5 +1,4 @@
 -- `labels::carry_on` meets its contract. The loop's invariant is `Carrying`: the first k labels have served the call or are left out, and those behind stand as they did. Assumes nothing.
--- the turn in which a call is served
 use Prim.Native.Nat.{◌-◌, ◌≤◌}
 use mathlib.Core.Option.{none}
 use Rattle.models.specs.Records.{customer_of}

@@ -1,6 +1,5 @@
 -- `stops::work_out_calls` meets its contract. The loop's invariant is `StopsTo`: the places of the first k calls stand in the lists. The
 -- measure is how many calls are left. Assumes nothing.
--- ---- a turn, and the call that it is at
 use Prim.Native.Nat.{◌-◌}
 use lib.ListN.{length}
 use Rattle.evaluation.specs.Records.{lent}
