@@ -24,7 +24,6 @@ use Rattle.whole.proofs.LargerLaws.{larger-fl}
 use Rattle.models.specs.Image.{fl_window, fl_break, fl_customer}
 use Rattle.models.specs.Window.{waiting_f}
 use Rattle.models.proofs.Exact.{late-exact, waiting-exact, lateness-exact}
-use Rattle.clock.specs.declared.schedule.Label.{Label}
 use Rattle.clock.specs.Serving.{ready_f, place_after_f, charge_f, enter_f, leave_f, serve_f, smaller_f, earlier_f}
 use Rattle.clock.specs.Image.{fl_label}
 

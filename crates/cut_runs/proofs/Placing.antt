@@ -31,7 +31,7 @@ use Rattle.cut_labels.specs.Labels.{listed, kept, best_from, best_f}
 use Rattle.cut_labels.proofs.LabelLaws.{kept_append, kept-listed, best-append}
 use Rattle.cut_runs.specs.Stretch.{way_of}
 use Rattle.cut_runs.specs.Places.{here_f, home_by, label_of, home_of, least_to, least_of}
-use Rattle.cut_runs.specs.Runs.{Instance, End, end_of, kept_of, least_end, end_by, end_in}
+use Rattle.cut_runs.specs.Runs.{Instance, End, kept_of, least_end, end_by, end_in}
 use Rattle.cut_runs.proofs.Clocks.{end-closed}
 
 -- what there is keeps the limits

@@ -1,6 +1,6 @@
 -- The runs along a stretch with the break at each of their places in turn, on floats as the code has them: the label of each place, its way
 -- home, and the best of these. Definitions only.
-use Rattle.std.specs.Prelude.{ℕ, zero, suc, ◌≡◌, List, get_or, eqb, Float}
+use Rattle.std.specs.Prelude.{ℕ, zero, suc, List, get_or, eqb, Float}
 use Rattle.std.proofs.Math.Option.{Option, some}
 use Rattle.basics.specs.Options.{◌>>=◌, given}
 use Rattle.definitions.specs.Sheet.{BreakOf}

@@ -8,12 +8,10 @@ use mathlib.Core.Option.{Option, none, some}
 use lib.Ieee.{Float, inf}
 use lib.ListN.{get_or}
 use borrow.Author.Tests.{lt-ltb}
-use lib.Ieee as Ieee
 use Rattle.basics.proofs.TestLaws.{by-test}
 use Rattle.basics.proofs.OptionLaws.{same, clash, bound}
 use Rattle.definitions.specs.Domain.{no_road}
 use Rattle.definitions.specs.Sheet.{time_table}
-use Rattle.whole.specs.Whole.{fl}
 use Rattle.distance.specs.declared.leg.Leg.{Leg}
 use Rattle.distance.specs.Lookup.{is_closed_f, number_f, road_f, lookup_f, drive_f}
 use Rattle.distance.proofs.Exact.{road-exact}

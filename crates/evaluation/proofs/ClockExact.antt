@@ -31,7 +31,6 @@ use Rattle.whole.specs.Whole.{fl, limit}
 use Rattle.whole.proofs.WholeLaws.{fl-add}
 use Rattle.distance.proofs.Exact.{lookup-exact, times-exact, fl_leg, drive-exact}
 use Rattle.models.specs.Image.{fl_break, fl_customer}
-use Rattle.clock.specs.declared.schedule.Label.{Label}
 use Rattle.clock.specs.Records.{ClockF}
 use Rattle.clock.specs.Serving.{carry_f}
 use Rattle.clock.specs.Clock.{push_f}

@@ -1,6 +1,5 @@
 -- `schedule::charge` meets its contract, by whether it is late and has a penalty. Assumes nothing.
 use mathlib.Core.Path.{◌≡◌, sym, ◌∙◌}
-use borrow.Author.Tests.{not-true, not-false}
 use Rattle.models.specs.declared.customer.Penalty.TheVariants.{Hard, Soft}
 use Rattle.clock.specs.Serving.{charge_f}
 use borrow.Author.Rules.{rules}

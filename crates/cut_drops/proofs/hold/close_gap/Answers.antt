@@ -1,7 +1,4 @@
 -- `hold::close_gap` meets its contract. Assumes nothing.
--- ---- the places of the code that the needs look back to
--- the legs are written: the start, and what is lent
--- what is lent to `refill`
 use Rattle.cut_stops.specs.Stops.{leg_lists}
 use Rattle.cut_runs.specs.Runs.{over}
 use Rattle.cut_drops.specs.Refill.{Given, given, tables_with}

@@ -1,10 +1,5 @@
 -- `hold::drop_stuck` meets its contract. The loop's invariant is `Turn`: the table of the rows below i is filled, each beginning up to i has a cutting, and the drops from the calls held on
 -- are those of the tour. It is said of any customers that the lists are worked out from, since the loop has only the lists. The measure is how many calls are left. Assumes nothing.
--- ---- the places of the code that the needs look back to
--- the loop is entered: the start, and what is lent
--- a turn begins
--- what is lent to `row_or_drop`
--- its answer, once the lists are given back
 use Prim.Native.Nat.{◌-◌}
 use lib.ListN.{take}
 use Rattle.cut_stops.specs.Stops.{leg_lists}

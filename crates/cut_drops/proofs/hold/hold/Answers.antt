@@ -1,6 +1,4 @@
 -- `hold::hold` meets its contract: the calls are numbered, their legs written, and the rest is `drop_stuck`. Assumes nothing.
--- ---- the places of the code that the needs look back to
--- what is lent to `drop_stuck`, after the legs are written
 use native.Mathlib.Omega.{arith}
 use mathlib.Core.Path.{refl}
 use Rattle.distance.specs.Lookup.{drive_f}

@@ -1,10 +1,4 @@
 -- `hold::row_or_drop` meets its contract: `row_stays` where the row's cell says that the calls have a cutting, and else `row_drops`. Assumes nothing.
--- ---- the places of the code that the needs look back to
--- the top of the costs is known: the start, and what is lent
--- what is lent to `noted_row`
--- the call is dropped
--- its lists are given back
--- what is lent to `close_gap`
 use native.Mathlib.Omega.{arith}
 use lib.Seq.{length-take-le}
 use Rattle.cut_stops.specs.Stops.{leg_lists}

@@ -1,7 +1,4 @@
 -- `refill::refill` meets its contract. The loop's invariant is `Again`: after s rows the cells behind q are those of the table of the rows below s. The measure is what is left of q. Assumes nothing.
--- ---- the places of the code that the needs look back to
--- the cells are cleared: the start, and what is lent
--- a row is filled again
 use Prim.Native.Nat.{ℕ}
 use native.Mathlib.Omega.{arith}
 use mathlib.Core.List.{List}

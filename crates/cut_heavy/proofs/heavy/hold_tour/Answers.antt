@@ -1,14 +1,9 @@
 -- `heavy::hold_tour` meets its contract: what is held of the calls that fit alone is what is held of the tour, and where all do nothing is left to write. Assumes nothing.
--- ---- the places of the code that the needs look back to
--- the calls that fit alone are written
--- what is lent to `hold`
--- it has given back its lists
 use Prim.Native.Nat.{ℕ, ◌≤◌}
 use native.Mathlib.Omega.{arith}
 use mathlib.Core.Path.{sym, subst, ◌∙◌}
 use mathlib.Core.List.{List}
 use lib.ListN.{length}
-use borrow.Author.Rules.{rules}
 use Rattle.cut_stops.specs.Stops.{Below64}
 use Rattle.cut_table.specs.Table.{table}
 use Rattle.cut_drops.specs.Refill.{Given, given, SomeLists}

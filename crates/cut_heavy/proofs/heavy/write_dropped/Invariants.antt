@@ -1,6 +1,5 @@
 -- `heavy::write_dropped` meets its contract. The loop's invariant: of the positions dropped those of the first k calls are written; q of these calls fit alone, and a of their numbers are
 -- passed. Assumes nothing.
--- ---- the places of the code that the needs look back to
 use Prim.Native.Nat.{◌+◌, ◌-◌, ◌≤◌}
 use lib.ListN.{length, drop}
 use Rattle.models.specs.Load.{space_of}

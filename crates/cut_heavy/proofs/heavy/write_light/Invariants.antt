@@ -1,5 +1,4 @@
 -- `heavy::write_light` meets its contract. The loop's invariant: of the calls that fit alone those among the first k are written. Assumes nothing.
--- ---- the places of the code that the needs look back to
 use Prim.Native.Nat.{◌-◌, ◌≤◌}
 use lib.ListN.{length, drop}
 use Rattle.basics.specs.Lists.{only}

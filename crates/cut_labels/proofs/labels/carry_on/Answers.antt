@@ -1,13 +1,6 @@
 -- `labels::carry_on` meets its contract. The loop's invariant is `Carrying`: the first k labels have served the call or are left out, and those behind stand as they did. Assumes nothing.
--- the turn in which a call is served
-use Prim.Native.Nat.{◌-◌, ◌≤◌}
 use native.Mathlib.Omega.{arith}
-use mathlib.Core.Option.{none}
-use Rattle.models.specs.Records.{customer_of}
-use Rattle.clock.specs.Serving.{serve_f}
-use Rattle.cut_labels.specs.Labels.{lists}
-use Rattle.cut_labels.proofs.LabelLaws.{Carrying, carry-none, carry-one, carry-all}
-use borrow.Author.Rules.{rules}
+use Rattle.cut_labels.proofs.LabelLaws.{carry-none, carry-one}
 use Rattle.cut_labels.proofs.labels.carry_on.Goals as goal
 
 pub loop-k-init : goal.loop-k-init

@@ -1,13 +1,5 @@
 -- `load_row::load_row` meets its contract. The loop's invariant is `LoadAlong` for whatever tables the lists are worked out from: after m calls of the row, load and way are those of these calls,
 -- nothing is late, and the cells up to i + m are as the row leaves them. The measure is how many calls are left. Assumes nothing.
--- ---- the places of the code that the needs look back to
--- where the loop is entered: the start of the row, and what it is lent
--- the next run
--- its last call
--- its load fits
--- the leg to it is read
--- the way to it is added
--- the run is offered
 use Prim.Native.Nat.{◌-◌}
 use lib.ListN.{drop}
 use Rattle.models.specs.Load.{load_of}

@@ -1,6 +1,4 @@
 -- `visit::enter` meets its contract: without a window, in time, late without a penalty, or late with one. Assumes nothing.
--- ---- the places of the code that the needs look back to
--- ---- late at a window that is shut then
 use mathlib.Core.Path.{◌≡◌, sym, ◌∙◌}
 use mathlib.Core.Bool.{true}
 use mathlib.Core.Option.{none, some}

@@ -1,15 +1,13 @@
 -- `stops::work_out_calls` meets its contract. The loop's invariant is `StopsTo`: the places of the first k calls stand in the lists. The
 -- measure is how many calls are left. Assumes nothing.
--- ---- a turn, and the call that it is at
 use Prim.Native.Nat.{ℕ, ◌<◌}
 use mathlib.Core.List.{List}
 use native.Mathlib.Omega.{arith}
 use lib.ListN.{length, get_or}
-use borrow.Author.Rules.{rules}
 use Rattle.distance.specs.Lookup.{drive_f}
 use Rattle.evaluation.specs.Records.{lent}
-use Rattle.cut_stops.specs.Stops.{numbers, StopsTo, Below64}
-use Rattle.cut_stops.proofs.Places.{place-put, stops-more, stops-all, looked-up}
+use Rattle.cut_stops.specs.Stops.{numbers, Below64}
+use Rattle.cut_stops.proofs.Places.{place-put, stops-more, looked-up}
 use Rattle.cut_stops.proofs.stops.work_out_calls.Goals as goal
 
 below : (calls : List ℕ) (k : ℕ) → Below64 calls → k < length calls → get_or calls k 0 < 64

@@ -1,12 +1,10 @@
 -- `checks::has_time_windows` meets its contract. The loop's invariant: a window is among those from k on exactly when one is among all. Assumes nothing.
 use Prim.Native.Nat.{◌-◌}
-use mathlib.Core.Path.{◌≡◌, refl, sym, ◌∙◌}
+use mathlib.Core.Path.{◌≡◌}
 use mathlib.Core.List.{map}
 use lib.ListN.{take, drop}
 use Rattle.models.specs.Records.{customer_of}
 use Rattle.evaluation.specs.Checks.{windowed_any}
-use Rattle.evaluation.proofs.Asking.{some-window, no-window, windows-end}
-use borrow.Author.Rules.{rules}
 use Rattle.evaluation.proofs.checks.has_time_windows.Given as goal
 
 abbrev pub invariant-loop-k : goal.invariant-loop-k

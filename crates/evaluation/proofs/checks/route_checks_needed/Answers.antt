@@ -1,7 +1,6 @@
 -- `checks::route_checks_needed` meets its contract. Assumes nothing.
 use mathlib.Core.Path.{sym, ◌∙◌}
 use Rattle.evaluation.specs.Checks.{checks_needed_f}
-use borrow.Author.Rules.{rules}
 use Rattle.evaluation.proofs.checks.route_checks_needed.Goals as goal
 
 pub returns-then-has_time_windows : goal.returns-then-has_time_windows

@@ -1,11 +1,7 @@
 -- `load::demands_of` meets its contract. The loop's invariant: the demands of the first i customers are in. Assumes nothing.
-use Prim.Native.Nat.{◌-◌, ◌≤◌}
-use native.Mathlib.Omega.{arith}
-use mathlib.Core.Path.{refl}
 use mathlib.Core.List.{map}
 use Rattle.models.specs.Records.{customer_of}
-use Rattle.evaluation.proofs.Demands.{AsksTo, asks_none, asks-more, asks-all}
-use borrow.Author.Rules.{rules}
+use Rattle.evaluation.proofs.Demands.{asks-all}
 use Rattle.evaluation.proofs.load.demands_of.Goals as goal
 
 pub returns : goal.returns

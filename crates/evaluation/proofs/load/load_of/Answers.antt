@@ -1,13 +1,7 @@
 -- `load::load_of` meets its contract. The loop's invariant: the load so far and that of the calls left is the whole load. Assumes nothing.
-use mathlib.Core.Path.{◌≡◌, sym, ap, subst, ◌∙◌}
-use Prim.Native.Nat.{◌+◌, ◌-◌, ◌≤◌}
 use native.Mathlib.Omega.{arith}
-use lib.ListN.{length, drop}
-use Rattle.definitions.specs.Load.{Load, plus}
-use Rattle.models.specs.Load.{load_of, UpTo, none-up-to, up-to-more}
-use Rattle.evaluation.specs.Tables.{load_f}
-use Rattle.evaluation.proofs.Loading.{load-on, load-end, load-begins}
-use borrow.Author.Rules.{rules}
+use Rattle.models.specs.Load.{load_of, up-to-more}
+use Rattle.evaluation.proofs.Loading.{load-on, load-end}
 use Rattle.evaluation.proofs.load.load_of.Goals as goal
 
 pub loop-i-preserved : goal.loop-i-preserved

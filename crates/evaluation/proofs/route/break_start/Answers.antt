@@ -1,7 +1,5 @@
 -- `route::break_start` meets its contract: the calls before the break fail, or are served without it. Assumes nothing.
 use mathlib.Core.Path.{◌≡◌, sym, ap₂, ◌∙◌}
-use native.Mathlib.Omega.{arith}
-use lib.ListN.{length-take}
 use Rattle.distance.specs.declared.leg.Drive.TheVariants.{Open, Closed}
 use Rattle.evaluation.specs.declared.way.Driven.TheVariants.{Failed, To}
 use Rattle.evaluation.specs.Records.{lent}

@@ -1,15 +1,9 @@
 -- `way::first_closed` meets its contract. The loop's invariant: the first closed leg from here on is that of the run. Assumes nothing.
-use mathlib.Core.Path.{◌≡◌, refl, sym, ap, ◌∙◌}
-use mathlib.Core.Option.{Option}
-use Prim.Native.Nat.{ℕ, ◌+◌, ◌-◌, ◌≤◌}
-use native.Mathlib.Omega.{arith}
+use mathlib.Core.Path.{◌≡◌}
+use Prim.Native.Nat.{◌+◌, ◌-◌, ◌≤◌}
 use lib.ListN.{length, drop}
-use borrow.Author.Rules.{rules}
-use Rattle.basics.specs.Options.{value_or}
-use Rattle.distance.specs.declared.leg.Drive.TheVariants.{Open, Closed}
-use Rattle.distance.specs.Lookup.{drive_f, drive_of}
+use Rattle.distance.specs.Lookup.{drive_f}
 use Rattle.evaluation.specs.Way.{closed_f}
-use Rattle.evaluation.proofs.Driving.{closed-here, open-here, closed-home, open-home}
 use Rattle.evaluation.proofs.way.first_closed.Given as goal
 
 abbrev pub invariant-loop-i : goal.invariant-loop-i

@@ -1,7 +1,4 @@
 -- `plan::plan_held` meets its contract. Assumes nothing.
--- ---- points on the way
--- the entry, before the eight lent lists and three that are lent on
--- ---- the needs
 use native.Mathlib.Omega.{arith}
 use mathlib.Core.Path.{refl}
 use Rattle.sheet_plan.specs.Plan.{plan_lists}

@@ -1,9 +1,4 @@
 -- `split_tw::cut` meets its contract: what is settled is written at the front of the lent lists. Assumes nothing.
--- ---- the places of the code that the needs look back to
--- the calls that stay are settled
--- the lists are given back
--- the served calls are written
--- and the ends
 use Prim.Native.Nat.{ℕ, ◌+◌}
 use native.Mathlib.Omega.{arith}
 use mathlib.Core.Path.{◌≡◌, refl, ap, ◌∙◌}

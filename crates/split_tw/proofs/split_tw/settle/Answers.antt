@@ -1,8 +1,4 @@
 -- `split_tw::settle` meets its contract: the calls that stay, and their cut as it is read back from the table. Assumes nothing.
--- ---- the places of the code that the needs look back to
--- the numbers of the calls are worked out
--- what is lent to `hold_tour`
--- its lists are given back
 use native.Mathlib.Omega.{arith}
 use mathlib.Core.Path.{sym}
 use Rattle.whole.proofs.Bits.{fl-zero}

@@ -1,6 +1,5 @@
 -- `BreakClock::push` meets its contract. Assumes nothing.
 use Rattle.clock.specs.Clock.{push_f}
-use borrow.Author.Rules.{rules}
 use Rattle.clock.proofs.schedule.BreakClock.push.Goals as goal
 
 pub returns : goal.returns
