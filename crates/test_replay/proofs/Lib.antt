@@ -1,0 +1,2 @@
+-- A question by its kind.
+pub mod Asked

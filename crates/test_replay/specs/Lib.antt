@@ -1,0 +1,2 @@
+-- What a record shows, by its kind.
+pub mod Replayed
