@@ -22,7 +22,9 @@ pub fn begin_of(visit: Visit, index: usize, customers: [Customer; 64], rest: Res
     service_start(opening, ready)
 }
 
-// The first `count` are those of the first visits.
+// The first `count` are those of the first visits. Inlined, its lists would take stack in a caller that walks a run
+// besides.
+#[inline(never)]
 pub fn begins_of(
     visits: [Visit; 128],
     count: usize,

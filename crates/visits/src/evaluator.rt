@@ -114,7 +114,9 @@ pub fn walk(
     }
 }
 
-// A run with a closed leg: nothing is visited, and its first closed leg is the one violation.
+// A run with a closed leg: nothing is visited, and its first closed leg is the one violation. Inlined, its lists would
+// take stack in a caller that walks a run besides.
+#[inline(never)]
 pub fn closed_route(leg: usize) -> Built
     ensures { (built_of result ≡ closed_route_f leg) × (result.count ≡ 0) × (result.found ≡ 1) }
 {

@@ -1,4 +1,5 @@
 -- `run::mark_run` meets its contract. Assumes nothing.
+use native.Mathlib.Omega.{arith}
 use mathlib.Core.Path.{◌≡◌, sym, ap, ◌∙◌}
 use lib.ListN.{length}
 use Rattle.evaluation.specs.Tables.{leg_f}
@@ -14,7 +15,7 @@ pub returns-then-leg-gt0 : goal.returns-then-leg-gt0
 returns-then-leg-gt0 c =
     let a = c.args in
     let ground = ground_of a.customers a.distances.now a.times.now a.head in
-    closed-first ground a.run a.place a.calls.now _ (found-closed (leg_f ground.tables) a.calls.now _ c.first_closed-leg.ensures c.if-leg-gt0.true)
+    closed-first ground a.run a.place a.calls.now _ (found-closed (leg_f ground.tables) a.calls.now _ c.first_closed-leg.ensures (omega (arith, c.if-leg-gt0.true)))
 
 pub returns-then-not-fits : goal.returns-then-not-fits
 returns-then-not-fits c =
