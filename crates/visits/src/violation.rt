@@ -77,8 +77,8 @@ impl Violations {
         )
     }
 
-    // The windows violated, and after them what else the run violates. Inlined, its lists would take stack in a caller that
-    // walks a run besides.
+    // The windows violated, and after them what else the run violates. Inlined, its lists would take stack in a caller
+    // that walks a run besides.
     #[inline(never)]
     pub fn checked(
         self,
