@@ -3,9 +3,9 @@
 #![tactic(auto)]
 
 use failures::fail;
+use filling::fill;
 use mark_text::text::text;
 use std::env::{Env, FillError};
-use std::io::Read;
 use std::rt::Files;
 use std::{fs, io};
 
@@ -38,21 +38,21 @@ fn open_named<R: Env + Files + Eprint + Alloc>(rt: &R, i: usize) -> io::Result<O
 
 // One byte more than the longest sheet that is accepted is enough to answer for any sheet; a cutting may have 16,384.
 fn main(rt: HostRuntime) -> io::Result<()> {
-    let Some(sheet) = open_named(&rt, 1)? else {
+    let Some(mut sheet) = open_named(&rt, 1)? else {
         return Ok(());
     };
-    let Some(cutting) = open_named(&rt, 2)? else {
+    let Some(mut cutting) = open_named(&rt, 2)? else {
         return Ok(());
     };
-    let mut bytes = Vec::new(rt.alloc());
-    sheet.take(34573).read_to_end(&mut bytes)?;
-    let mut lines = Vec::new(rt.alloc());
-    cutting.take(16385).read_to_end(&mut lines)?;
-    if lines.len() > 16384 {
+    let mut bytes = [0u8; 34573];
+    let n = fill(&mut sheet, &mut bytes)?;
+    let mut lines = [0u8; 16385];
+    let m = fill(&mut cutting, &mut lines)?;
+    if m > 16384 {
         return eprintln!(rt; "mark: the cutting is longer than 16384 bytes");
     }
     let mut out = [0u8; 4096];
-    let end = text(&mut out, bytes.as_slice(), lines.as_slice());
+    let end = text(&mut out, &bytes[..n], &lines[..m]);
     match rt.write_all(&out[..end]) {
         Ok(()) => Ok(()),
         Err(error) => fail(&rt, "mark: standard output", &error),

@@ -4,6 +4,7 @@
 ghost use Rattle.std.specs.Prelude.{◌≡◌, length};
 
 use failures::fail;
+use filling::fill;
 use sheet_text::file::show_file;
 use std::env::Env;
 use std::io::Read;
@@ -18,13 +19,11 @@ fn text_room() -> [u8; 553168]
 }
 
 // One byte more than the longest sheet that is accepted is enough to answer for any file.
-fn show(rt: &(impl Print + Alloc), file: impl Read + Drop) -> io::Result<()> {
-    let mut bytes = Vec::new(rt.alloc());
-    file.take(34573).read_to_end(&mut bytes)?;
-    // No contract says that no more is taken.
-    bytes.truncate(34573);
+fn show(rt: &impl Print, file: &mut impl Read) -> io::Result<()> {
+    let mut bytes = [0u8; 34573];
+    let n = fill(&mut *file, &mut bytes)?;
     let mut out = text_room();
-    let end = show_file(&mut out, bytes.as_slice());
+    let end = show_file(&mut out, &bytes[..n]);
     rt.write_all(&out[..end])
 }
 
@@ -33,7 +32,7 @@ fn show_named<R: Files + Print + Eprint + Alloc>(rt: &R, path: &[u8]) -> io::Res
         return eprintln!(rt; "sheet: a file name: not UTF-8");
     };
     match fs::open(rt, path) {
-        Ok(file) => show(rt, file),
+        Ok(mut file) => show(rt, &mut file),
         Err(error) => fail(rt, path, &error),
     }
 }
