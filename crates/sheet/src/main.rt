@@ -27,7 +27,7 @@ fn show(rt: &impl Print, file: &mut impl Read) -> io::Result<()> {
     rt.write_all(&out[..end])
 }
 
-fn show_named<R: Files + Print + Eprint + Alloc>(rt: &R, path: &[u8]) -> io::Result<()> {
+fn show_named<R: Files + Print + Eprint>(rt: &R, path: &[u8]) -> io::Result<()> {
     let Ok(path) = str::from_utf8(path) else {
         return eprintln!(rt; "sheet: a file name: not UTF-8");
     };

@@ -10,7 +10,7 @@ use std::{fs, io};
 use times_text::text::text;
 
 // Opens the file that argument i names, or says why there is none.
-fn open_named<R: Env + Files + Eprint + Alloc>(rt: &R, i: usize) -> io::Result<Option<R::File>> {
+fn open_named<R: Env + Files + Eprint>(rt: &R, i: usize) -> io::Result<Option<R::File>> {
     let mut path = [0u8; 4096];
     let length = match rt.arg(i, &mut path) {
         Ok(length) => length,
