@@ -50,10 +50,8 @@ pub extern "C" fn timing_read(sheet: &[u8], rounds: u32) -> f64
     let mut times = [0.0; 4096];
     let mut tour = [0usize; MOST_CUT];
     let mut calls = 0.0;
-    let mut k: u32 = 0;
-    while k < rounds {
+    for _ in 0..rounds {
         calls = read_calls(sheet, &mut distances, &mut times, &mut tour);
-        k += 1;
     }
     calls
 }

@@ -223,8 +223,7 @@ fn repeated(
     let mut second = [0usize; 128];
     let mut third = [0usize; 128];
     let mut given = 0.0;
-    let mut k: u32 = 0;
-    while k < n {
+    for _ in 0..n {
         given = once(
             work,
             tour,
@@ -235,7 +234,6 @@ fn repeated(
             &mut second,
             &mut third,
         );
-        k += 1;
     }
     given
 }

@@ -4,7 +4,7 @@ use native.Mathlib.Omega.{arith}
 use native.Mathlib.Nat.{mul-le-mul}
 use mathlib.Core.Path.{◌≡◌, refl, subst}
 use mathlib.Core.List.{List, [], ◌∷◌}
-use mathlib.Core.Option.{Option, none, some}
+use Rattle.std.specs.Prelude.{Option, None, Some}
 use lib.ListN.{length, take, get_or, length-take}
 use Rattle.basics.proofs.TestLaws.{by-test}
 use Rattle.basics.specs.Options.{◌>>=◌, holds, Holds, value_or}
@@ -33,30 +33,30 @@ start-early = omega arith
 pub more-calls : {l : Label} (j k : ℕ) → j ≤ k → Early j l → Early k l
 more-calls j k h E = omega arith
 
-pub ready-most : (here : Option Break) → Holds SmallBreak here → (k t : ℕ) → t ≤ arrive_by k → (r : ℕ) → ready here t ≡ some r → r ≤ ready_by k
+pub ready-most : (here : Option Break) → Holds SmallBreak here → (k t : ℕ) → t ≤ arrive_by k → (r : ℕ) → ready here t ≡ Some r → r ≤ ready_by k
 unfolding ready
-ready-most none H k t h r q = let z = same q in omega arith
-ready-most (some b) H k t h r q = by-test (too_late b t) (λ e. clash (rw e at q)) (λ f. let z = same (rw f at q) in omega arith)
+ready-most None H k t h r q = let z = same q in omega arith
+ready-most (Some b) H k t h r q = by-test (too_late b t) (λ e. clash (rw e at q)) (λ f. let z = same (rw f at q) in omega arith)
 
 pub begins-most : (w : Option Window) → Holds SmallWindow w → (k r : ℕ) → r ≤ ready_by k → begins w r ≤ ready_by k
-begins-most none W k r h = h
-begins-most (some w) W k r h = omega arith
+begins-most None W k r h = h
+begins-most (Some w) W k r h = omega arith
 
 pub late-pay-most : (w : Window) (p k r : ℕ) → k < most_calls → p ≤ most_penalty → r ≤ ready_by k → p * lateness w r ≤ most_pay
 late-pay-most w p k r few h i = mul-le-mul {n₂ = most_penalty} {m₂ = most_late} h (omega arith)
 
 module _ (k : ℕ) (few : k < most_calls) where
   pub enter-most : (w : Option Window) (p : Option ℕ) → Holds SmallWindow w → Holds (λ (n : ℕ). n ≤ most_penalty) p
-      → (r : ℕ) → r ≤ ready_by k → (e : Entry) → enter w p r ≡ some e → SmallEntry k e
+      → (r : ℕ) → r ≤ ready_by k → (e : Entry) → enter w p r ≡ Some e → SmallEntry k e
   unfolding enter
-  enter-most none p W P r h e q = subst (SmallEntry k) (same q) (omega arith)
-  enter-most (some w) none W P r h e q = by-test (late w r) (λ t. clash (rw t at q)) (λ f. subst (SmallEntry k) (same (rw f at q)) (omega arith))
-  enter-most (some w) (some p) W P r h e q =
+  enter-most None p W P r h e q = subst (SmallEntry k) (same q) (omega arith)
+  enter-most (Some w) None W P r h e q = by-test (late w r) (λ t. clash (rw t at q)) (λ f. subst (SmallEntry k) (same (rw f at q)) (omega arith))
+  enter-most (Some w) (Some p) W P r h e q =
       subst (SmallEntry k) (same q) (record { start-most = omega arith; late-most = omega arith; due-most = late-pay-most w p k r few P h })
 
   -- one call more
   pub serve-early : (c : Customer) → SmallCustomer c → (here : Option Break) → Holds SmallBreak here → (j travel : ℕ) → Small travel
-      → (l : Label) → Early k l → (m : Label) → serve_at c here j travel l ≡ some m → Early (suc k) m
+      → (l : Label) → Early k l → (m : Label) → serve_at c here j travel l ≡ Some m → Early (suc k) m
   unfolding serve_at
   serve-early c C here H j travel near l E m q =
       let x = bound (ready here (l.time + travel)) _ m q in
@@ -67,18 +67,18 @@ module _ (k : ℕ) (few : k < most_calls) where
 
 -- the smaller label is one of the two
 sooner-is : (P : Label → Type 0) (x y : Option Label) → Holds P x → Holds P y → Holds P (sooner x y)
-sooner-is P none y p q = q
-sooner-is P (some x) none p q = p
-sooner-is P (some x) (some y) p q = by-test (smaller y x) (λ t. rw t q) (λ f. rw f p)
+sooner-is P None y p q = q
+sooner-is P (Some x) None p q = p
+sooner-is P (Some x) (Some y) p q = by-test (smaller y x) (λ t. rw t q) (λ f. rw f p)
 
 later-calls : (o : Option Label) (j k : ℕ) → j ≤ k → Holds (Early j) o → Holds (Early k) o
-later-calls none j k h E = tt
-later-calls (some l) j k h E = more-calls j k h E
+later-calls None j k h E = tt
+later-calls (Some l) j k h E = more-calls j k h E
 
 -- a length, or the 0 that stands for none
 pub or-zero : (o : Option ℕ) → Holds Small o → Small (value_or 0 o)
-or-zero none h = omega arith
-or-zero (some n) h = h
+or-zero None h = omega arith
+or-zero (Some n) h = h
 
 -- the legs from p through the calls and home
 pub legs-most : (leg : ℕ → ℕ → ℕ) → ((a b : ℕ) → Small (leg a b)) → (p : ℕ) (calls : List ℕ) → legs_from leg p calls ≤ (length calls + 1) * most_number
@@ -90,12 +90,12 @@ legs-most leg near p (c ∷ cs) = omega (arith, near p c, legs-most leg near c c
 module _ (s : Sheet) (S : Sized s) where
   module _ (k : ℕ) (few : k < most_calls) (here : Option Break) (H : Holds SmallBreak here) (j a c : ℕ) where
     served-early : (o : Option Label) → Holds (Early k) o → Holds (Early (suc k)) (o >>= serve s here j a c)
-    served-early none E = tt
-    served-early (some l) E = go (serve s here j a c l) refl
+    served-early None E = tt
+    served-early (Some l) E = go (serve s here j a c l) refl
       where
         go : (o : Option Label) → serve s here j a c l ≡ o → Holds (Early (suc k)) o
-        go none e = tt
-        go (some m) e =
+        go None e = tt
+        go (Some m) e =
             let x = serve-leg s here j a c l m e in
             serve-early k few (customer s c) (customer-small s S c) here H j x.0.travel (leg-small s S a c x.0 x.1).1 l E m x.2
 
@@ -107,8 +107,8 @@ module _ (s : Sheet) (S : Sized s) where
         arrival = omega (arith, or-zero (time s a c) (time-small s S a c))
 
         go : (o : Option ℕ) → ready here (arrives_at s a c l) ≡ o → value_or (arrives_at s a c l) o ≤ ready_by k
-        go none e = omega (arith, arrival)
-        go (some r) e = ready-most here H k (arrives_at s a c l) arrival r e
+        go None e = omega (arith, arrival)
+        go (Some r) e = ready-most here H k (arrives_at s a c l) arrival r e
 
     pub visited-early : (l : Label) → Early k l → Early (suc k) (visited s here j a c l)
     unfolding visited
@@ -127,21 +127,21 @@ module _ (s : Sheet) (S : Sized s) where
         go : (o : Option Entry) → entered s c r ≡ o
             → Early (suc k) (let e = value_or (record { start = begins (customer s c).window r; lateness = 0; pay = 0 }) o in
             record { time = e.start + (customer s c).service; lateness = l.lateness + e.lateness; pay = l.pay + e.pay; place = place_after here j l.place })
-        go none e = leaves _ (record { start-most = begins-most (customer s c).window C.window-small k r (readiness-most l E); late-most = omega arith; due-most = omega arith })
-        go (some n) e = leaves n (enter-most k few (customer s c).window (customer s c).penalty C.window-small C.penalty-small r (readiness-most l E) n e)
+        go None e = leaves _ (record { start-most = begins-most (customer s c).window C.window-small k r (readiness-most l E); late-most = omega arith; due-most = omega arith })
+        go (Some n) e = leaves n (enter-most k few (customer s c).window (customer s c).penalty C.window-small C.penalty-small r (readiness-most l E) n e)
 
   tick-early : (k : ℕ) → k < most_calls → (j a c : ℕ) (x : Clock) → EarlyClock k x → EarlyClock (suc k) (tick s j a c x)
   tick-early k few j a c x E =
       record {
-        before-early = served-early k few none tt j a c x.before E.before-early;
+        before-early = served-early k few None tt j a c x.before E.before-early;
         after-early =
-            sooner-is (Early (suc k)) (x.after >>= serve s none j a c) (s.head.rest >>= λ b. x.before >>= serve s (some b) j a c)
-            (served-early k few none tt j a c x.after E.after-early) (broken s.head.rest S.rest-small);
+            sooner-is (Early (suc k)) (x.after >>= serve s None j a c) (s.head.rest >>= λ b. x.before >>= serve s (Some b) j a c)
+            (served-early k few None tt j a c x.after E.after-early) (broken s.head.rest S.rest-small);
       }
     where
-      broken : (o : Option Break) → Holds SmallBreak o → Holds (Early (suc k)) (o >>= λ b. x.before >>= serve s (some b) j a c)
-      broken none B = tt
-      broken (some b) B = served-early k few (some b) B j a c x.before E.before-early
+      broken : (o : Option Break) → Holds SmallBreak o → Holds (Early (suc k)) (o >>= λ b. x.before >>= serve s (Some b) j a c)
+      broken None B = tt
+      broken (Some b) B = served-early k few (Some b) B j a c x.before E.before-early
 
   -- n calls after all, k of them before these
   module _ (n : ℕ) (few : n ≤ most_calls) where
@@ -166,8 +166,8 @@ module _ (s : Sheet) (S : Sized s) where
 
   -- from the start of the run
 
-  pub serve-all-most : (place : ℕ) (calls : List ℕ) → length calls ≤ most_calls → Holds (Early (length calls)) (serve_all s place 1 0 (some start) calls)
-  serve-all-most place calls few = serve-all-early (length calls) few place 0 1 0 (some start) calls (omega arith) start-early
+  pub serve-all-most : (place : ℕ) (calls : List ℕ) → length calls ≤ most_calls → Holds (Early (length calls)) (serve_all s place 1 0 (Some start) calls)
+  serve-all-most place calls few = serve-all-early (length calls) few place 0 1 0 (Some start) calls (omega arith) start-early
 
   pub labels-most : (calls : List ℕ) → length calls ≤ most_calls → EarlyClock (length calls) (clock_from s 1 0 begun calls)
   labels-most calls few = clock-early (length calls) few 0 1 0 begun calls (omega arith) (record { before-early = start-early; after-early = tt })
@@ -177,7 +177,7 @@ module _ (s : Sheet) (S : Sized s) where
 
   -- ---- distance and load
 
-  pub distance_most : (a : ℕ) (calls : List ℕ) (d : ℕ) → distance_from s a calls ≡ some d → d ≤ (length calls + 1) * most_number
+  pub distance_most : (a : ℕ) (calls : List ℕ) (d : ℕ) → distance_from s a calls ≡ Some d → d ≤ (length calls + 1) * most_number
   distance_most a [] d e = let x = distance-last s a d e in omega (arith, (leg-small s S a 0 x.0 x.1).0, x.2)
   distance_most a (c ∷ cs) d e =
       let x = distance-on s a c cs d e in
@@ -188,8 +188,8 @@ module _ (s : Sheet) (S : Sized s) where
   length_most calls = go (distance_from s 0 calls) refl
     where
       go : (o : Option ℕ) → distance_from s 0 calls ≡ o → value_or 0 o ≤ (length calls + 1) * most_number
-      go none e = omega arith
-      go (some d) e = distance_most 0 calls d e
+      go None e = omega arith
+      go (Some d) e = distance_most 0 calls d e
 
   pub open-small : (a b : ℕ) → Small (open_leg s a b)
   open-small a b = or-zero (distance s a b) (distance-small s S a b)
@@ -200,7 +200,7 @@ module _ (s : Sheet) (S : Sized s) where
 
   -- ---- what a run comes to
 
-  pub home-most : (calls : List ℕ) (l : Label) → Early (length calls) l → (t : Totals) → home s calls l ≡ some t → SmallTotals (length calls) t
+  pub home-most : (calls : List ℕ) (l : Label) → Early (length calls) l → (t : Totals) → home s calls l ≡ Some t → SmallTotals (length calls) t
   home-most calls l E t e =
       let (d, r, b, w, h) = home-has s calls l t e in
       subst (SmallTotals (length calls)) h
@@ -212,32 +212,32 @@ module _ (s : Sheet) (S : Sized s) where
       })
 
   -- a label that is there
-  labelled : (n : ℕ) (o : Option Label) (l : Label) → o ≡ some l → Holds (Early n) o → Early n l
+  labelled : (n : ℕ) (o : Option Label) (l : Label) → o ≡ Some l → Holds (Early n) o → Early n l
   labelled n o l e E = subst (Holds (Early n)) e E
 
-  pub ride-most : (r : Run) → length r.calls ≤ most_calls → (t : Totals) → ride s r ≡ some t → SmallTotals (length r.calls) t
+  pub ride-most : (r : Run) → length r.calls ≤ most_calls → (t : Totals) → ride s r ≡ Some t → SmallTotals (length r.calls) t
   ride-most r few t e =
       let (l, q, h) = ridden s r.calls r.place t e in
       home-most r.calls l (labelled (length r.calls) _ l q (serve-all-most r.place r.calls few)) t h
 
   counts-early : (b : Option Break) (back n : ℕ) (x : Clock) → EarlyClock n x → Holds (Early n) (counts b back x)
-  counts-early none back n x E = E.before-early
-  counts-early (some b) back n x E = by-test (holds x.before (λ l. excused b (l.time + back))) (λ t. rw t E.before-early) (λ f. rw f E.after-early)
+  counts-early None back n x E = E.before-early
+  counts-early (Some b) back n x E = by-test (holds x.before (λ l. excused b (l.time + back))) (λ t. rw t E.before-early) (λ f. rw f E.after-early)
 
-  pub clock-most : (calls : List ℕ) → length calls ≤ most_calls → (t : Totals) → clock s calls ≡ some t → SmallTotals (length calls) t
+  pub clock-most : (calls : List ℕ) → length calls ≤ most_calls → (t : Totals) → clock s calls ≡ Some t → SmallTotals (length calls) t
   clock-most calls few t e =
       let x = clock_from s 1 0 begun calls in
       let (b, w, l, c, h) = ticked s calls t e in
       home-most calls l (labelled (length calls) _ l c (counts-early s.head.rest b.travel (length calls) x (labels-most calls few))) t h
 
   -- when the break starts
-  pub start-most : (calls : List ℕ) (place : ℕ) → length calls ≤ most_calls → (t : ℕ) → start_of s (record { calls = calls; place = place }) ≡ some t → t ≤ arrive_by (length calls)
+  pub start-most : (calls : List ℕ) (place : ℕ) → length calls ≤ most_calls → (t : ℕ) → start_of s (record { calls = calls; place = place }) ≡ Some t → t ≤ arrive_by (length calls)
   unfolding start_of
   start-most calls zero few t e = clash e
   start-most calls (suc k) few t e =
       let x = bound s.head.rest _ t e in
       let done = take k calls in
-      let y = bound (serve_all s 0 1 0 (some start) done) _ t x.2 in
+      let y = bound (serve_all s 0 1 0 (Some start) done) _ t x.2 in
       let z : length done ≤ length calls = simp length-take (omega arith) in
       let B : SmallBreak x.0 = subst (λ (o : Option Break). Holds SmallBreak o) x.1 S.rest-small in
       let E : Early (length done) y.0 = subst (λ (o : Option Label). Holds (Early (length done)) o) y.1 (serve-all-most 0 done (omega arith)) in

@@ -4,7 +4,7 @@ use native.Mathlib.Omega.{arith}
 use mathlib.Core.Path.{◌≡◌, refl, sym, ap, subst, ◌∙◌}
 use mathlib.Core.Bool.{true, not, ◌&&◌, false≢true}
 use mathlib.Core.List.{List, [], ◌∷◌}
-use mathlib.Core.Option.{Option, none, some}
+use Rattle.std.specs.Prelude.{Option, None, Some}
 use lib.ListN.{length, length-append, length-map}
 use Rattle.basics.proofs.TestLaws.{and_left}
 use Rattle.basics.specs.Options.{value_or}
@@ -57,7 +57,7 @@ module _ (s : Sheet) (S : Sized s) where
   pub arcs-priced : (p : Placement) → Priced (arc_by p s)
   arcs-priced p = record { no_run = no-empty s (arc_by p s) (pricing s p); run-most = most }
     where
-      most : (calls : List ℕ) (a : Arc) → length calls ≤ most_calls → arc_by p s calls ≡ some a → a.cost ≤ length calls * most_cost
+      most : (calls : List ℕ) (a : Arc) → length calls ≤ most_calls → arc_by p s calls ≡ Some a → a.cost ≤ length calls * most_cost
       most calls a few e =
           let (t, _, L, is) = arc-has s p calls a e in
           let T = ride-most s S (record { calls = calls; place = t.place }) few t L.rode in
@@ -72,7 +72,7 @@ module _ (s : Sheet) (S : Sized s) where
   unfolding plain_arc
   plain-priced = record { no_run = unbound (distance_from s 0 []) _ (λ d. refl); run-most = most }
     where
-      most : (calls : List ℕ) (a : Arc) → length calls ≤ most_calls → plain_arc s calls ≡ some a → a.cost ≤ length calls * most_cost
+      most : (calls : List ℕ) (a : Arc) → length calls ≤ most_calls → plain_arc s calls ≡ Some a → a.cost ≤ length calls * most_cost
       most calls a few e =
           let (d, r, q) = bound (distance_from s 0 calls) _ a e in
           let g = granted (not (is_empty calls) && fits s calls) (record { place = 0; cost = price s d 0 }) a q in
@@ -86,8 +86,8 @@ module _ (s : Sheet) (S : Sized s) where
       price-most (length r.calls) (length_of s r.calls) (pay_of (ride s r)) (some-length r.calls h) (length_most s S r.calls) (paid (ride s r) refl)
     where
       paid : (o : Option Totals) → ride s r ≡ o → pay_of o ≤ length r.calls * most_pay
-      paid none e = omega arith
-      paid (some t) e = (ride-most s S r few t e).pay-most
+      paid None e = omega arith
+      paid (Some t) e = (ride-most s S r few t e).pay-most
 
   pub run-distance-most : (r : Run) → Called r → length r.calls ≤ most_calls → length_of s r.calls ≤ length r.calls * most_far
   run-distance-most r h few = omega (arith, length_most s S r.calls, some-length r.calls h)
@@ -123,19 +123,19 @@ module _ (arc : List ℕ → Option Arc) (P : Priced arc) where
       omega arith
 
   -- the best of them
-  pub best-most : (calls : List ℕ) → length calls ≤ most_calls → (b : Best) → cheapest arc calls ≡ some b → b.cost ≤ length calls * most_cost
+  pub best-most : (calls : List ℕ) → length calls ≤ most_calls → (b : Best) → cheapest arc calls ≡ Some b → b.cost ≤ length calls * most_cost
   best-most calls few b e = reach-most (best-reach arc calls (cheapest arc calls) (best_of arc P.no_run calls) b e) few
 
   made-called : (runs : List Run) → Made arc runs → All Called runs
   made-called [] m = tt
   made-called (r ∷ rs) m = (go r.calls m.0.1, made-called rs m.1)
     where
-      go : (calls : List ℕ) → arc calls ≡ some m.0.0 → not (is_empty calls) ≡ true
+      go : (calls : List ℕ) → arc calls ≡ Some m.0.0 → not (is_empty calls) ≡ true
       go [] e = clash (sym P.no_run ∙ e)
       go (c ∷ cs) e = refl
 
   -- and its distance
-  pub best-distance-most : (s : Sheet) → Sized s → (calls : List ℕ) → length calls ≤ most_calls → (b : Best) → cheapest arc calls ≡ some b
+  pub best-distance-most : (s : Sheet) → Sized s → (calls : List ℕ) → length calls ≤ most_calls → (b : Best) → cheapest arc calls ≡ Some b
       → sum (λ r. length_of s r.calls) b.runs ≤ length calls * most_far
   best-distance-most s S calls few b e =
       let c = (best_of arc P.no_run calls).cuts b e in
@@ -169,8 +169,8 @@ module _ (arc : List ℕ → Option Arc) (P : Priced arc) (tour : List ℕ) (few
 
       go : (o : Option Best) → cheapest arc held ≡ o
           → ((value_or nothing o).cost ≤ limit) × (sum (λ r. length_of s r.calls) (value_or nothing o).runs ≤ limit)
-      go none e = (omega arith, omega arith)
-      go (some b) e = (
+      go None e = (omega arith, omega arith)
+      go (Some b) e = (
         cost-fits (length held) b.cost held-few (best-most arc P held held-few b e),
         far-fits (length held) (sum (λ r. length_of s r.calls) b.runs) held-few (best-distance-most arc P s S held held-few b e),
       )

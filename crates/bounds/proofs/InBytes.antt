@@ -5,7 +5,7 @@ use native.Mathlib.Nat.{zero-add}
 use mathlib.Core.Path.{◌≡◌, refl, sym, ap, ap₂, subst, ◌∙◌}
 use mathlib.Core.Bool.{false}
 use mathlib.Core.List.{List, [], ◌∷◌, map}
-use mathlib.Core.Option.{Option, none, some}
+use Rattle.std.specs.Prelude.{Option, None, Some}
 use lib.ListN.{length, length-map, length-append, drop}
 use lib.Seq.{take-append_seam}
 use Rattle.basics.specs.Lists.{All, Same, count, sum}
@@ -208,8 +208,8 @@ module _ {F : Type 0} (value : F → Option ℕ) (l : Lent F) where
   front-in-bytes k result list h = go (refusal_of value k l) refl
     where
       go : (o : Option ℕ) → refusal_of value k l ≡ o → InBytes (front list (unless_refused o (result s)))
-      go (some number) e = tt
-      go none e = h (accepted-within value k l e)
+      go (Some number) e = tt
+      go None e = h (accepted-within value k l e)
 
   module _ (cut : Sheet → List ℕ → Result)
       (small : (tour : List ℕ) → InBytes tour → length tour ≤ most_calls → (s : Sheet) → CutInBytes (cut s tour)) where

@@ -5,7 +5,7 @@ use native.Mathlib.Nat.{mul-le-mul_right, zero-add}
 use mathlib.Core.Path.{◌≡◌, refl, sym, ap, subst, ◌∙◌}
 use mathlib.Core.Bool.{Bool, true, false, cond, not, ◌||◌, or-false}
 use mathlib.Core.List.{List, [], ◌∷◌}
-use mathlib.Core.Option.{Option, none, some}
+use Rattle.std.specs.Prelude.{Option, None, Some}
 use lib.ListN.{length, get_or, take}
 use lib.Seq.{take-length}
 use lib.Dec.{leb, ltb, eqb}
@@ -31,27 +31,27 @@ use Rattle.bounds.specs.Sized.{Small, LegNumber, SmallWindow, SmallBreak, SmallC
 kept : (n m : ℕ) → not (leb n m) ≡ false → n ≤ m
 kept n m e = leb-true n m (not-false (leb n m) e)
 
-limit-kept : (m : ℕ) (o : Option ℕ) → bad_optional some (λ (n : ℕ). leb n m) o ≡ false → Holds (λ (n : ℕ). n ≤ m) o
-limit-kept m none e = tt
-limit-kept m (some n) e = kept n m e
+limit-kept : (m : ℕ) (o : Option ℕ) → bad_optional Some (λ (n : ℕ). leb n m) o ≡ false → Holds (λ (n : ℕ). n ≤ m) o
+limit-kept m None e = tt
+limit-kept m (Some n) e = kept n m e
 
-break-kept : (o : Option Break) → bad_break some o ≡ false → Holds SmallBreak o
-break-kept none e = tt
-break-kept (some b) e =
-    let R = break-in-range some b e in
+break-kept : (o : Option Break) → bad_break Some o ≡ false → Holds SmallBreak o
+break-kept None e = tt
+break-kept (Some b) e =
+    let R = break-in-range Some b e in
     record {
       earliest-small = kept b.earliest most_number R.earliest;
       latest-small = kept b.latest most_number R.latest;
       duration-small = kept b.duration most_number R.duration;
     }
 
-window-kept : (o : Option Window) → bad_window some o ≡ false → Holds SmallWindow o
-window-kept none e = tt
-window-kept (some w) e = let R = window-in-range some w e in record { ready-small = kept w.ready most_number R.ready; due-small = kept w.due most_number R.due }
+window-kept : (o : Option Window) → bad_window Some o ≡ false → Holds SmallWindow o
+window-kept None e = tt
+window-kept (Some w) e = let R = window-in-range Some w e in record { ready-small = kept w.ready most_number R.ready; due-small = kept w.due most_number R.due }
 
-customer-kept : (c : Customer) → bad_customer some c ≡ false → SmallCustomer c
+customer-kept : (c : Customer) → bad_customer Some c ≡ false → SmallCustomer c
 customer-kept c e =
-    let R = customer-in-range some c e in
+    let R = customer-in-range Some c e in
     record {
       demand-small = tested-most most_demand c.demand (not-false (each_of is_demand c.demand) R.demand);
       service-small = kept c.service most_number R.service;
@@ -59,13 +59,13 @@ customer-kept c e =
       penalty-small = limit-kept most_penalty c.penalty R.penalty;
     }
 
-legs-kept : (l : List ℕ) → any (unfit some is_leg) l ≡ false → All LegNumber l
-legs-kept l e = all-imp (λ (n : ℕ). unfit some is_leg n ≡ false) LegNumber (λ n h. not-false (is_leg n) h) l (any-fails (unfit some is_leg) l e)
+legs-kept : (l : List ℕ) → any (unfit Some is_leg) l ≡ false → All LegNumber l
+legs-kept l e = all-imp (λ (n : ℕ). unfit Some is_leg n ≡ false) LegNumber (λ n h. not-false (is_leg n) h) l (any-fails (unfit Some is_leg) l e)
 
-records-kept : (s : Sheet) → length s.customers ≡ s.head.places → any (bad_customer some) (records s) ≡ false → All SmallCustomer s.customers
+records-kept : (s : Sheet) → length s.customers ≡ s.head.places → any (bad_customer Some) (records s) ≡ false → All SmallCustomer s.customers
 records-kept s z e =
     subst (All SmallCustomer) (ap (λ (n : ℕ). take n s.customers) (sym z) ∙ take-length s.customers)
-    (all-imp (λ (c : Customer). bad_customer some c ≡ false) SmallCustomer customer-kept (records s) (any-fails (bad_customer some) (records s) e))
+    (all-imp (λ (c : Customer). bad_customer Some c ≡ false) SmallCustomer customer-kept (records s) (any-fails (bad_customer Some) (records s) e))
 
 times_long : (full : ℕ) (distances times : List ℕ) → length distances ≡ full → is_empty times || eqb (length times) full ≡ true → length (time_table distances times) ≡ full
 times_long full distances [] z e = z
@@ -77,7 +77,7 @@ times-kept distances (t ∷ ts) a b = b
 
 pub sized : (s : Sheet) → Within s → Sized s
 sized s W =
-    let R = in-range some s W.ranged in
+    let R = in-range Some s W.ranged in
     let T = tables-even s W.tables in
     let full = s.head.places * s.head.places in
     let places = not-false (is_places s.head.places) R.places in
@@ -127,7 +127,7 @@ module _ (s : Sheet) where
   -- those of a tour are fewer, since it has each customer at most once
   pub few-tour : Within s → (tour : List ℕ) → WithinCalls s tour → repeats tour ≡ false → length tour ≤ 63
   few-tour W tour e o =
-      tour-few s.head.places tour (not-false (is_places s.head.places) (in-range some s W.ranged).places) (are-calls tour e) o
+      tour-few s.head.places tour (not-false (is_places s.head.places) (in-range Some s W.ranged).places) (are-calls tour e) o
 
   pub calls-inside : (calls : List ℕ) → WithinCalls s calls → All (Place s) calls
   calls-inside calls e =
@@ -186,7 +186,7 @@ module _ (s : Sheet) where
     time-small a b = road-small (get_or (times_of s) (a * s.head.places + b) 0) (all_get_d LegNumber (times_of s) (a * s.head.places + b) 0 S.times-legs refl)
 
     -- so is a leg that can be driven, in both
-    pub leg-small : (a b : ℕ) (l : Leg) → drive s a b ≡ some l → Small l.length × Small l.travel
+    pub leg-small : (a b : ℕ) (l : Leg) → drive s a b ≡ Some l → Small l.length × Small l.travel
     leg-small a b l e =
         let x = drive-has s a b l e in
         (subst (Holds Small) x.0 (distance-small a b), subst (Holds Small) x.1 (time-small a b))

@@ -1,6 +1,5 @@
 -- The bound of each kind of sum of a plan on a sheet within the limits.
-use Rattle.std.specs.Prelude.{ℕ, ◌+◌, ◌*◌, ◌≤◌}
-use Rattle.std.proofs.Math.Option.{none, some}
+use Rattle.std.specs.Prelude.{ℕ, ◌+◌, ◌*◌, ◌≤◌, None, Some}
 use Rattle.basics.specs.Options.{Holds}
 use Rattle.definitions.specs.Domain.{most_calls, most_number, most_penalty}
 use Rattle.definitions.specs.Window.{Entry}
@@ -50,7 +49,7 @@ pub record EarlyClock (k : ℕ) (x : Clock) : Type 0 where
 
 -- before the first call
 abbrev pub begun : Clock
-begun = record { before = some start; after = none }
+begun = record { before = Some start; after = None }
 
 -- what a run of n calls comes to
 pub record SmallTotals (n : ℕ) (t : Totals) : Type 0 where

@@ -1,6 +1,5 @@
 -- The bound of the cost of runs and cuttings, and of the distances that the improvers sum up.
-use Rattle.std.specs.Prelude.{ℕ, ◌+◌, ◌*◌, ◌≤◌, ◌≡◌, true, not, List, [], length}
-use Rattle.std.proofs.Math.Option.{Option, none, some}
+use Rattle.std.specs.Prelude.{ℕ, ◌+◌, ◌*◌, ◌≤◌, ◌≡◌, true, not, List, [], length, Option, None, Some}
 use Rattle.basics.specs.Lists.{is_empty}
 use Rattle.definitions.specs.Domain.{most_calls, most_number}
 use Rattle.definitions.specs.Run.{Run}
@@ -23,5 +22,5 @@ Called r = not (is_empty r.calls) ≡ true
 
 -- a way to price runs by which no call costs more than `most_cost`
 pub record Priced (arc : List ℕ → Option Arc) : Type 0 where
-  pub no_run : arc [] ≡ none
-  pub run-most : (calls : List ℕ) (a : Arc) → length calls ≤ most_calls → arc calls ≡ some a → a.cost ≤ length calls * most_cost
+  pub no_run : arc [] ≡ None
+  pub run-most : (calls : List ℕ) (a : Arc) → length calls ≤ most_calls → arc calls ≡ Some a → a.cost ≤ length calls * most_cost

@@ -1,5 +1,3 @@
--- Lists at the front of lent ones.
-mod Fronts
 -- What stands in an array after `widen`, and what `narrow` stores of one.
 pub mod Widened
 pub mod Narrowed

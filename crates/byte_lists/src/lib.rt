@@ -16,10 +16,8 @@ pub fn widen(bytes: &[u8], numbers: &mut [usize]) -> usize
         numbers.new ≡ written (take (length old) (numbers_of bytes.now)) old }
 {
     let n = fewer(bytes.len(), numbers.len());
-    let mut k = 0;
-    while k < n {
-        numbers[k] = number_of(bytes[k]);
-        k += 1;
+    for (k, &byte) in bytes[..n].iter().enumerate() {
+        numbers[k] = number_of(byte);
     }
     n
 }
@@ -30,9 +28,7 @@ pub fn narrow(numbers: &[usize], n: usize, bytes: &mut [u8])
         bytes.new ≡ stored (take (min n (length old)) numbers.now) old }
 {
     let m = fitting(n, numbers.len(), bytes.len());
-    let mut k = 0;
-    while k < m {
-        bytes[k] = byte_of(numbers[k]);
-        k += 1;
+    for (k, &number) in numbers[..m].iter().enumerate() {
+        bytes[k] = byte_of(number);
     }
 }

@@ -2,7 +2,7 @@
 use Prim.Native.Nat.{ℕ}
 use mathlib.Core.Path.{◌≡◌, ap, ◌∙◌}
 use mathlib.Core.List.{List, [], ◌∷◌}
-use mathlib.Core.Option.{some}
+use Rattle.std.specs.Prelude.{Some}
 use lib.ListN.{length}
 use lib.Ieee.{Float}
 use Rattle.definitions.specs.Sheet.{Sheet}
@@ -73,13 +73,13 @@ module _ (s : Sheet) (tour : List ℕ) (head : Head) (array : List Customer) (di
 
 pub reversed-in-bytes : (s : Sheet) (run lent : List ℕ) → InBytes (front (λ x. x.calls) (reversed_on s run lent))
 unfolding reversed_on
-reversed-in-bytes s run lent = reversal-in-bytes some (lent_with s [] run [] [] (length lent ∷ []))
+reversed-in-bytes s run lent = reversal-in-bytes Some (lent_with s [] run [] [] (length lent ∷ []))
 
 module _ (s : Sheet) (given lent : Runs) where
   pub left-calls-in-bytes : InBytes (front (λ x. x.calls) (eliminated_on s given lent))
   unfolding eliminated_on
-  left-calls-in-bytes = elimination-calls-in-bytes some (lent_with s [] given.calls given.ends [] (length lent.calls ∷ length lent.ends ∷ []))
+  left-calls-in-bytes = elimination-calls-in-bytes Some (lent_with s [] given.calls given.ends [] (length lent.calls ∷ length lent.ends ∷ []))
 
   pub left-ends-in-bytes : InBytes (front (λ x. x.ends) (eliminated_on s given lent))
   unfolding eliminated_on
-  left-ends-in-bytes = elimination-ends-in-bytes some (lent_with s [] given.calls given.ends [] (length lent.calls ∷ length lent.ends ∷ []))
+  left-ends-in-bytes = elimination-ends-in-bytes Some (lent_with s [] given.calls given.ends [] (length lent.calls ∷ length lent.ends ∷ []))

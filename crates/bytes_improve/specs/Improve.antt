@@ -1,6 +1,5 @@
 -- What the improvers leave on a sheet of whole numbers, as the code has it. Definitions only.
-use Rattle.std.specs.Prelude.{ℕ, ◌≡◌, List, [], ◌∷◌, length}
-use Rattle.std.proofs.Math.Option.{some}
+use Rattle.std.specs.Prelude.{ℕ, ◌≡◌, List, [], ◌∷◌, length, Some}
 use Rattle.definitions.specs.Sheet.{Sheet}
 use Rattle.definitions.specs.Reader.{sheet, read}
 use Rattle.definitions.specs.Answers.{Answer, front, Improved, Eliminated, two_opt_of, eliminate_of}
@@ -23,12 +22,12 @@ runs calls ends = record { calls = calls; ends = ends }
 
 -- stretches of the run reversed on the sheet; the list lent for its calls counts by its length
 unfoldable pub reversed_on : Sheet → (run lent : List ℕ) → Answer Improved
-reversed_on s run lent = two_opt_of some (lent_with s [] run [] [] (length lent ∷ []))
+reversed_on s run lent = two_opt_of Some (lent_with s [] run [] [] (length lent ∷ []))
 
 -- runs emptied into the others on the sheet; the lists lent for what is left count by their lengths
 unfoldable pub eliminated_on : Sheet → (given lent : Runs) → Answer Eliminated
 eliminated_on s given lent =
-    eliminate_of some (lent_with s [] given.calls given.ends [] (length lent.calls ∷ length lent.ends ∷ []))
+    eliminate_of Some (lent_with s [] given.calls given.ends [] (length lent.calls ∷ length lent.ends ∷ []))
 
 -- ---- the code's answer, and the lent lists as they are left
 

@@ -2,7 +2,7 @@
 use Prim.Native.Nat.{ℕ}
 use mathlib.Core.Path.{◌≡◌, ap, ◌∙◌}
 use mathlib.Core.List.{List, []}
-use mathlib.Core.Option.{some}
+use Rattle.std.specs.Prelude.{Some}
 use lib.Ieee.{Float}
 use Rattle.whole.specs.Value.{value}
 use Rattle.definitions.specs.Sheet.{Sheet}
@@ -43,4 +43,4 @@ module _ (p : Placement) (s : Sheet) (tour : List ℕ) (head : Head) (array : Li
 -- against the plan that pays the least for lateness nothing is Cheaper
 pub never-cheaper : (s : Sheet) (tour : List ℕ) (given : GivenRuns) (by : ℕ) → marked_on by_pay s tour given ≡ gives (Whole.cheaper by) → ⊥
 unfolding marked_on
-never-cheaper s tour given by e = given-never-cheaper some (lent_with s tour given.calls given.ends given.breaks []) by e
+never-cheaper s tour given by e = given-never-cheaper Some (lent_with s tour given.calls given.ends given.breaks []) by e

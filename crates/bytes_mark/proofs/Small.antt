@@ -5,7 +5,7 @@ use native.Mathlib.Nat.{zero-add}
 use mathlib.Core.Path.{◌≡◌, refl, ap, subst, ◌∙◌}
 use mathlib.Core.Bool.{Bool, true, false, not}
 use mathlib.Core.List.{List, [], ◌∷◌}
-use mathlib.Core.Option.{Option, none, some, map}
+use Rattle.std.specs.Prelude.{Option, None, Some, option_map}
 use lib.ListN.{length, drop}
 use lib.Dec.{ltb, eqb}
 use borrow.Author.Tests.{ltb-false}
@@ -47,47 +47,47 @@ Fits v = Small (fl_verdict v)
 -- ---- where there may be a verdict
 
 or-small : (a b : Option Verdict) → Holds Fits a → Holds Fits b → Holds Fits (or_else a b)
-or-small none b p q = q
-or-small (some v) b p q = p
+or-small None b p q = q
+or-small (Some v) b p q = p
 
 given-small : (t : Bool) (v : Verdict) → Fits v → Holds Fits (given t v)
 given-small true v p = p
 given-small false v p = tt
 
 value-small : (v : Verdict) (o : Option Verdict) → Fits v → Holds Fits o → Fits (value_or v o)
-value-small v none p q = p
-value-small v (some w) p q = q
+value-small v None p q = p
+value-small v (Some w) p q = q
 
 -- ---- the faults
 
-differ-small : (k : ℕ) (xs ys : List ℕ) (p : ℕ) → differ k xs ys ≡ some p → p ≤ k + length xs
+differ-small : (k : ℕ) (xs ys : List ℕ) (p : ℕ) → differ k xs ys ≡ Some p → p ≤ k + length xs
 differ-small k [] [] p h = clash h
 differ-small k [] (y ∷ ys) p h = omega (arith, same h)
 differ-small k (x ∷ xs) [] p h = omega (arith, same h)
 differ-small k (x ∷ xs) (y ∷ ys) p h =
     by-test (eqb x y)
     (λ t. omega (arith, differ-small (suc k) xs ys p (rw t at h)))
-    (λ f. let e : some k ≡ some p = (rw f at h) in omega (arith, same e))
+    (λ f. let e : Some k ≡ Some p = (rw f at h) in omega (arith, same e))
 
 module _ (s : Sheet) (S : Sized s) (n : ℕ) (few : n ≤ limit) where
   arrival-small : (here : Option Break) (k c arrival : ℕ) → k ≤ limit → c ≤ limit → Fits (arrival_fault s n here k c arrival)
   arrival-small here k c arrival p q = go (ready here arrival) refl
     where
       go : (o : Option ℕ) → ready here arrival ≡ o → Fits (arrival_fault s n here k c arrival)
-      go none e = rw (e, arrival_fault) (few, p, q)
-      go (some r) e = rw (e, arrival_fault) (few, p, q)
+      go None e = rw (e, arrival_fault) (few, p, q)
+      go (Some r) e = rw (e, arrival_fault) (few, p, q)
 
   call-small : (here : Option Break) (k a c : ℕ) (l : Label) → k ≤ limit → c ≤ limit → Fits (call_fault s n here k a c l)
   call-small here k a c l p q =
       by-leg s a c (λ e. rw (e, call_fault) (few, p)) (λ g e. rw (e, call_fault) (arrival-small here k c (l.time + g.travel) p q))
 
   -- a leg has a number up to one more than the run has calls
-  closed-small : (calls : List ℕ) → length calls ≤ most_calls → Holds Fits (map (road_closed n) (first_closed s calls))
+  closed-small : (calls : List ℕ) → length calls ≤ most_calls → Holds Fits (option_map (road_closed n) (first_closed s calls))
   closed-small calls h = go (first_closed s calls) refl
     where
-      go : (o : Option ℕ) → first_closed s calls ≡ o → Holds Fits (map (road_closed n) o)
-      go none e = tt
-      go (some leg) e = let x = closed_is s calls leg e in (few, omega (arith, x.number, x.inside))
+      go : (o : Option ℕ) → first_closed s calls ≡ o → Holds Fits (option_map (road_closed n) o)
+      go None e = tt
+      go (Some leg) e = let x = closed_is s calls leg e in (few, omega (arith, x.number, x.inside))
 
   walk-small : (place k a : ℕ) (l : Label) (calls : List ℕ) → k + length calls ≤ limit → All (Place s) calls → Holds Fits (walk_fault s n place k a l calls)
   unfolding walk_fault
@@ -95,8 +95,8 @@ module _ (s : Sheet) (S : Sized s) (n : ℕ) (few : n ≤ limit) where
   walk-small place k a l (c ∷ cs) p i = go (serve s (break_at s place k) k a c l) refl (λ m. walk-small place (suc k) c m cs (omega arith) i.1)
     where
       go : (o : Option Label) → serve s (break_at s place k) k a c l ≡ o → ((m : Label) → Holds Fits (walk_fault s n place (suc k) c m cs)) → Holds Fits (walk_fault s n place k a l (c ∷ cs))
-      go none e on = rw (e, walk_fault) (call-small (break_at s place k) k a c l (omega arith) (omega (arith, i.0, S.few-places)))
-      go (some m) e on = rw (e, walk_fault) (on m)
+      go None e on = rw (e, walk_fault) (call-small (break_at s place k) k a c l (omega arith) (omega (arith, i.0, S.few-places)))
+      go (Some m) e on = rw (e, walk_fault) (on m)
 
   total-small : (r : Run) (t : Totals) → Holds Fits (total_fault s n r t)
   total-small r t =
@@ -122,13 +122,13 @@ module _ (s : Sheet) (S : Sized s) (n : ℕ) (few : n ≤ limit) where
       let heavy = overload_of n (load s r.calls) s.head.capacity in
       let walked = walk_fault s n r.place 1 0 start r.calls in
       let home = ride s r >>= total_fault s n r in
-      or-small (map (road_closed n) (first_closed s r.calls)) (or_else (given unfit heavy) (or_else walked home)) (closed-small r.calls i.0)
+      or-small (option_map (road_closed n) (first_closed s r.calls)) (or_else (given unfit heavy) (or_else walked home)) (closed-small r.calls i.0)
       (or-small (given unfit heavy) (or_else walked home) (given-small unfit heavy (load-small r.calls i))
       (or-small walked home (walk-small r.place 1 0 start r.calls (omega (arith, i.0)) i.1) (go (ride s r))))
     where
       go : (o : Option Totals) → Holds Fits (o >>= total_fault s n r)
-      go none = tt
-      go (some t) = total-small r t
+      go None = tt
+      go (Some t) = total-small r t
 
 -- ---- the mark
 
@@ -145,8 +145,8 @@ module _ (s : Sheet) (S : Sized s) where
   mark-small plan runs few long i = go (differ 1 (joined runs) plan.served) refl
     where
       go : (o : Option ℕ) → differ 1 (joined runs) plan.served ≡ o → Fits (mark_against s plan runs)
-      go (some p) e = rw (e, mark_against) (omega (arith, differ-small 1 (joined runs) plan.served p e, long))
-      go none e =
+      go (Some p) e = rw (e, mark_against) (omega (arith, differ-small 1 (joined runs) plan.served p e, long))
+      go None e =
           let cost = cutting_cost s runs in
           rw (e, mark_against)
           (value-small (against plan.cost cost) (first_fault s 1 runs) (against-small plan.cost cost) (first_small 1 runs (omega (arith, few)) i))
@@ -163,12 +163,12 @@ with-many [] breaks = refl
 with-many (r ∷ rs) [] = ap suc (with-many rs [])
 with-many (r ∷ rs) (b ∷ breaks) = ap suc (with-many rs breaks)
 
-module _ (p : Placement) (l : Lent ℕ) (h : refusal_of some marking l ≡ none) where
+module _ (p : Placement) (l : Lent ℕ) (h : refusal_of Some marking l ≡ None) where
   abbrev s : Sheet
-  s = whole_sheet some l.sheet
+  s = whole_sheet Some l.sheet
 
-  A : Accepted some marking l
-  A = accepted-within some marking l h
+  A : Accepted Some marking l
+  A = accepted-within Some marking l h
 
   -- the calls of the runs are those lent
   same-calls : joined (with_places (runs_of l.calls l.ends) l.breaks) ≡ l.calls
@@ -186,15 +186,15 @@ module _ (p : Placement) (l : Lent ℕ) (h : refusal_of some marking l ≡ none)
       (with_all (Inside s) (runs_of l.calls l.ends) l.breaks (runs-inside s 0 l.calls l.ends (few-calls s l.calls A.calls, calls-inside s l.calls A.calls)))
 
 -- the verdict that is given
-given-fits : (p : Placement) (l : Lent ℕ) (v : Verdict) → mark_by_of some p l ≡ gives v → Fits v
+given-fits : (p : Placement) (l : Lent ℕ) (v : Verdict) → mark_by_of Some p l ≡ gives v → Fits v
 unfolding answer
-given-fits p l v e = go (refusal_of some marking l) refl e
+given-fits p l v e = go (refusal_of Some marking l) refl e
   where
-    go : (o : Option ℕ) → refusal_of some marking l ≡ o → unless_refused o (mark_by p (whole_sheet some l.sheet) l.tour (with_places (runs_of l.calls l.ends) l.breaks)) ≡ gives v → Fits v
-    go none h g =
-        let same : mark_by p (whole_sheet some l.sheet) l.tour (with_places (runs_of l.calls l.ends) l.breaks) ≡ v = cc in
+    go : (o : Option ℕ) → refusal_of Some marking l ≡ o → unless_refused o (mark_by p (whole_sheet Some l.sheet) l.tour (with_places (runs_of l.calls l.ends) l.breaks)) ≡ gives v → Fits v
+    go None h g =
+        let same : mark_by p (whole_sheet Some l.sheet) l.tour (with_places (runs_of l.calls l.ends) l.breaks) ≡ v = cc in
         subst Fits same (accepted-small p l h)
-    go (some n) h g = let z : ◌≡◌ {A = ℕ} 0 1 = cc in absurd (omega arith)
+    go (Some n) h g = let z : ◌≡◌ {A = ℕ} 0 1 = cc in absurd (omega arith)
 
 pub marked-fits : (p : Placement) (s : Sheet) (tour : List ℕ) (runs : GivenRuns) (v : Verdict) → marked_on p s tour runs ≡ gives v → Fits v
 unfolding marked_on

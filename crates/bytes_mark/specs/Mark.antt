@@ -1,6 +1,5 @@
 -- The marker's answer on a sheet of whole numbers. Definitions only.
-use Rattle.std.specs.Prelude.{ℕ, ◌≡◌, List, []}
-use Rattle.std.proofs.Math.Option.{some}
+use Rattle.std.specs.Prelude.{ℕ, ◌≡◌, List, [], Some}
 use Rattle.definitions.specs.Sheet.{Sheet}
 use Rattle.definitions.specs.Reader.{sheet, read}
 use Rattle.definitions.specs.Placement.{Placement}
@@ -21,7 +20,7 @@ given_runs calls ends breaks = record { calls = calls; ends = ends; breaks = bre
 
 -- their mark against the plan of the sheet's tour, for either placement of its breaks
 unfoldable pub marked_on : Placement → Sheet → (tour : List ℕ) → GivenRuns → Answer Verdict
-marked_on p s tour given = mark_by_of some p (lent_with s tour given.calls given.ends given.breaks [])
+marked_on p s tour given = mark_by_of Some p (lent_with s tour given.calls given.ends given.breaks [])
 
 -- the code's answer is that, on the sheet that the bytes are
 abbrev pub SheetMarked : Placement → (bytes : List ℕ) → GivenRuns → Marking → Type 0

@@ -3,8 +3,7 @@ use Prim.Native.Nat.{ℕ}
 use mathlib.Core.Path.{◌≡◌, refl, ap, ap₂, ◌∙◌}
 use mathlib.Core.Bool.{Bool, ◌||◌}
 use mathlib.Core.List.{List, [], ◌∷◌, map}
-use mathlib.Core.Option
-use mathlib.Core.Option.{Option, none, some}
+use Rattle.std.specs.Prelude.{Option, None, Some, option_map}
 use lib.ListN.{length-map}
 use Rattle.basics.specs.Options.{present}
 use Rattle.basics.specs.Lists.{is_empty, any}
@@ -26,13 +25,13 @@ module _ {A B : Type 0} (g : A → B) where
   map-map f h e [] = refl
   map-map f h e (x ∷ l) = ap₂ (λ (y : _) (r : List _). y ∷ r) (e x) (map-map f h e l)
 
-  map-held : {C : Type 0} (f : B → C) (h : A → C) → ((x : A) → f (g x) ≡ h x) → (o : Option A) → Option.map f (Option.map g o) ≡ Option.map h o
-  map-held f h e none = refl
-  map-held f h e (some x) = ap some (e x)
+  map-held : {C : Type 0} (f : B → C) (h : A → C) → ((x : A) → f (g x) ≡ h x) → (o : Option A) → option_map f (option_map g o) ≡ option_map h o
+  map-held f h e None = refl
+  map-held f h e (Some x) = ap Some (e x)
 
-  present-map : (o : Option A) → present (Option.map g o) ≡ present o
-  present-map none = refl
-  present-map (some x) = refl
+  present-map : (o : Option A) → present (option_map g o) ≡ present o
+  present-map None = refl
+  present-map (Some x) = refl
 
   empty-map : (l : List A) → is_empty (map g l) ≡ is_empty l
   empty-map [] = refl
@@ -49,17 +48,17 @@ module _ {F : Type 0} (value : F → Option ℕ) where
 
   -- ---- the tests
 
-  limit-meant : (p : ℕ → Bool) (o : Option F) → bad_optional itself p (Option.map value o) ≡ bad_optional value p o
-  limit-meant p none = refl
-  limit-meant p (some x) = refl
+  limit-meant : (p : ℕ → Bool) (o : Option F) → bad_optional itself p (option_map value o) ≡ bad_optional value p o
+  limit-meant p None = refl
+  limit-meant p (Some x) = refl
 
-  break-meant : (b : Option (BreakOf F)) → bad_break itself (Option.map (map_break value) b) ≡ bad_break value b
-  break-meant none = refl
-  break-meant (some b) = refl
+  break-meant : (b : Option (BreakOf F)) → bad_break itself (option_map (map_break value) b) ≡ bad_break value b
+  break-meant None = refl
+  break-meant (Some b) = refl
 
-  window-meant : (w : Option (WindowOf F)) → bad_window itself (Option.map (map_window value) w) ≡ bad_window value w
-  window-meant none = refl
-  window-meant (some w) = refl
+  window-meant : (w : Option (WindowOf F)) → bad_window itself (option_map (map_window value) w) ≡ bad_window value w
+  window-meant None = refl
+  window-meant (Some w) = refl
 
   customer-meant : (c : CustomerOf F) → bad_customer itself (map_customer value c) ≡ bad_customer value c
   customer-meant c = rw (window-meant c.window, limit-meant is_penalty c.penalty) refl
@@ -68,16 +67,16 @@ module _ {F : Type 0} (value : F → Option ℕ) where
   depot-meant [] = refl
   depot-meant (c ∷ cs) = rw (present-map (map_window value) c.window, present-map value c.penalty) refl
 
-  break-falls : (b : Option (BreakOf F)) → break_falls itself (Option.map (map_break value) b) ≡ break_falls value b
-  break-falls none = refl
-  break-falls (some b) = refl
+  break-falls : (b : Option (BreakOf F)) → break_falls itself (option_map (map_break value) b) ≡ break_falls value b
+  break-falls None = refl
+  break-falls (Some b) = refl
 
   window-falls : (c : CustomerOf F) → window_falls itself (map_customer value c).window ≡ window_falls value c.window
   window-falls c = go c.window
     where
-      go : (w : Option (WindowOf F)) → window_falls itself (Option.map (map_window value) w) ≡ window_falls value w
-      go none = refl
-      go (some w) = refl
+      go : (w : Option (WindowOf F)) → window_falls itself (option_map (map_window value) w) ≡ window_falls value w
+      go None = refl
+      go (Some w) = refl
 
   disagree-meant : (ds ts : List F) → disagree itself (map value ds) (map value ts) ≡ disagree value ds ts
   disagree-meant [] ts = refl

@@ -3,7 +3,7 @@ use Prim.Native.Nat.{ℕ}
 use native.Mathlib.Omega.{arith}
 use mathlib.Core.Path.{◌≡◌, sym, ap, ◌∙◌}
 use mathlib.Core.List.{List, map}
-use mathlib.Core.Option.{some}
+use Rattle.std.specs.Prelude.{Some}
 use lib.ListN.{length, length-map, take}
 use lib.Seq.{take_all}
 use lib.Ieee.{Float}
@@ -54,7 +54,7 @@ module _ (s : Sheet) (tour : List ℕ) (head : Head) (array : List Customer) (di
       }
 
   pub answered : {A : Type 0} (k : Call) (result : Sheet → A) (visited calls ends breaks rooms : List ℕ)
-      → answer value k result (lent_of (sheet_of head first distances times) visited calls ends breaks rooms) ≡ answer some k result (lent_with s visited calls ends breaks rooms)
+      → answer value k result (lent_of (sheet_of head first distances times) visited calls ends breaks rooms) ≡ answer Some k result (lent_with s visited calls ends breaks rooms)
   answered k result visited calls ends breaks rooms =
       ap (λ (x : SheetOf Float). answer value k result (lent_of x visited calls ends breaks rooms)) sheet-is
       ∙ whole-answer s H.within k result visited calls ends breaks rooms

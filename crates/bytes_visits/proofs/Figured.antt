@@ -4,7 +4,7 @@ use native.Mathlib.Omega.{arith}
 use mathlib.Core.Path.{◌≡◌, refl, sym, subst}
 use mathlib.Core.Bool.{Bool, true, false, not, ◌&&◌}
 use mathlib.Core.List.{List, [], ◌∷◌, ◌++◌, map}
-use mathlib.Core.Option.{Option, none, some}
+use Rattle.std.specs.Prelude.{Option, None, Some}
 use lib.ListN.{length}
 use borrow.Author.Tests.{le-leb}
 use Rattle.basics.specs.Options.{present, value_or}
@@ -101,7 +101,7 @@ module _ (s : Sheet) (S : Sized s) where
     all_small = go (first_closed s r.calls) refl
       where
         go : (o : Option ℕ) → first_closed s r.calls ≡ o → All Small (timeline s r).violations
-        go none e = subst (λ (t : Timeline). All Small t.violations) (sym (timeline-open s r e)) open-small
-        go (some leg) e =
+        go None e = subst (λ (t : Timeline). All Small t.violations) (sym (timeline-open s r e)) open-small
+        go (Some leg) e =
             let x = closed_is s r.calls leg e in
             subst (λ (t : Timeline). All Small t.violations) (sym (timeline-closed s r leg e)) (omega (arith, x.number, x.inside), tt)

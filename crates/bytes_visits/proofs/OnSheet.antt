@@ -4,8 +4,7 @@ use native.Mathlib.Omega.{arith}
 use mathlib.Core.Path.{◌≡◌, refl, sym, ap, subst, ◌∙◌}
 use mathlib.Core.Bool.{Bool, cond}
 use mathlib.Core.List.{List, ◌++◌, map, map-append}
-use mathlib.Core.Option
-use mathlib.Core.Option.{Option, none, some}
+use Rattle.std.specs.Prelude.{Option, None, Some, option_map}
 use lib.ListN.{length, get_or, length-map, get_or-map}
 use lib.Ieee.{Float, nan}
 use Rattle.basics.specs.Options.{present, value_or}
@@ -99,13 +98,13 @@ module _ (t : Timeline) where
 
   -- ---- what it comes to
 
-  taken_is : (o : Option ℕ) (place : ℕ) → taken_f (Option.map fl o) place ≡ cond (present o) place 0
-  taken_is none place = refl
-  taken_is (some n) place = refl
+  taken_is : (o : Option ℕ) (place : ℕ) → taken_f (option_map fl o) place ≡ cond (present o) place 0
+  taken_is None place = refl
+  taken_is (Some n) place = refl
 
-  began-is : (o : Option ℕ) → began_f (Option.map fl o) ≡ fl (value_or 0 o)
-  began-is none = refl
-  began-is (some n) = refl
+  began-is : (o : Option ℕ) → began_f (option_map fl o) ≡ fl (value_or 0 o)
+  began-is None = refl
+  began-is (Some n) = refl
 
   told_is : told_f (length visited) (length (map fl_violation t.violations)) (fl_timeline t) ≡ told_of t
   told_is = rw (many, found, taken_is (rest_of t.stops) t.totals.place, began-is (rest_of t.stops)) refl
@@ -139,7 +138,7 @@ module _ (s : Sheet) (tour : List ℕ) (head : Head) (array : List Customer) (di
   line = timeline s (record { calls = run; place = place })
 
   -- the place is one that the run may be given
-  given-place : refusal ≡ none → Given s run place
+  given-place : refusal ≡ None → Given s run place
   given-place e =
       record {
         own = place_inside s.head.places (present s.head.rest) run place e;
@@ -148,19 +147,19 @@ module _ (s : Sheet) (tour : List ℕ) (head : Head) (array : List Customer) (di
             omega (arith, last);
       }
 
-  exactly : refusal ≡ none → timeline_f tables (space_of head.capacity) (limits_of head.limits) place run ≡ fl_timeline line
+  exactly : refusal ≡ None → timeline_f tables (space_of head.capacity) (limits_of head.limits) place run ≡ fl_timeline line
   exactly e =
       (λ i. timeline_f tables (capacity-is i) (limits-are i) place run)
       ∙ timeline-exact s H.within tables H.tables run (run_fits s.head.places (present s.head.rest) run place e) place (given-place e)
 
-  small : refusal ≡ none → All Small line.violations
+  small : refusal ≡ None → All Small line.violations
   small e =
       let fits : WithinCalls s run = run_fits s.head.places (present s.head.rest) run place e in
       all_small s (sized s H.within) (record { calls = run; place = place }) (few-calls s run fits) (calls-inside s run fits)
 
   -- by the refusal
   told-by : (o : Option ℕ) → refusal ≡ o → TimedBy o (timeline_f tables (space_of head.capacity) (limits_of head.limits) place run) old r new → ToldIn (unless_refused o line) old r new
-  told-by (some number) e (answer, same) =
+  told-by (Some number) e (answer, same) =
       record {
         answer = answer;
         times-left = ap (λ (l : Lists). l.times) same;
@@ -168,8 +167,8 @@ module _ (s : Sheet) (tour : List ℕ) (head : Head) (array : List Customer) (di
         numbers-left = ap (λ (l : Lists). l.numbers) same;
         figures-left = ap (λ (l : Lists). l.figures) same;
       }
-  told-by none e T =
-      let (answer, rows) = subst (λ (x : TimelineF). TimedBy none x old r new) (exactly e) T in
+  told-by None e T =
+      let (answer, rows) = subst (λ (x : TimelineF). TimedBy None x old r new) (exactly e) T in
       record {
         answer = answer ∙ ap Visitings.Told (told_is line);
         times-left = rows.times-are ∙ ap (λ (l : List Float). written l old.times) (times-are line);

@@ -4,7 +4,7 @@ use native.Mathlib.Omega.{arith}
 use mathlib.Core.Path.{◌≡◌, refl, sym, ap}
 use mathlib.Core.Bool.{Bool, true, false, cond, ◌||◌}
 use mathlib.Core.List.{List, [], ◌∷◌}
-use mathlib.Core.Option.{none}
+use Rattle.std.specs.Prelude.{None}
 use lib.ListN.{length, take}
 use lib.Dec.{ltb}
 use borrow.Author.Tests.{lt-ltb, le-ltb, ltb-false}
@@ -39,7 +39,7 @@ module _ (places : ℕ) (rest : Bool) (run : List ℕ) (place : ℕ) where
 
   -- ---- what is accepted
 
-  pub no-refusal : 0 ≡ value_or 0 (run_refusal places rest run place) → run_refusal places rest run place ≡ none
+  pub no-refusal : 0 ≡ value_or 0 (run_refusal places rest run place) → run_refusal places rest run place ≡ None
   unfolding run_refusal
   no-refusal e =
       by-test (bad_run_list places run) (λ y. absurd (never1 (rw y at e)))
@@ -51,7 +51,7 @@ module _ (places : ℕ) (rest : Bool) (run : List ℕ) (place : ℕ) where
       never5 : ◌≡◌ {A = ℕ} 0 5 → ⊥
       never5 h = omega arith
 
-  module _ (accepted : run_refusal places rest run place ≡ none) where
+  module _ (accepted : run_refusal places rest run place ≡ None) where
     pub run_fits : bad_run_list places run ≡ false
     unfolding run_refusal
     run_fits = by-test (bad_run_list places run) (λ y. clash (sym (rw y at accepted))) (λ f. f)
@@ -73,7 +73,7 @@ pub record RunRead (run held : List ℕ) (place n : ℕ) : Type 0 where
   pub few-calls : length (take n held) ≤ 128
   pub own-place : place ≤ length (take n held)
 
-pub run-read : (places : ℕ) (rest : Bool) (run : List ℕ) (place : ℕ) → run_refusal places rest run place ≡ none
+pub run-read : (places : ℕ) (rest : Bool) (run : List ℕ) (place : ℕ) → run_refusal places rest run place ≡ None
     → (held : List ℕ) (n : ℕ) → n ≡ min (length run) (length zeros) → held ≡ written (take (length zeros) run) zeros → RunRead run held place n
 run-read places rest run place accepted held n counted read =
     let all = all_there run zeros held n counted read (few places rest run place accepted) in

@@ -4,7 +4,7 @@ use native.Mathlib.Omega.{arith}
 use native.Mathlib.Nat.{le_refl}
 use mathlib.Core.Path.{◌≡◌, refl, sym, ap, subst, ◌∙◌}
 use mathlib.Core.List.{List, ◌++◌}
-use mathlib.Core.Option.{Option, none, some}
+use Rattle.std.specs.Prelude.{Option, None, Some}
 use lib.ListN.{length, take}
 use lib.Seq.{get_or-take}
 use lib.Ieee.{Float, nan}
@@ -73,10 +73,10 @@ module _ (t : Tables) (head : Head) (run : List ℕ) (place : ℕ) (old : Lists)
   timed-refused number e h = go refusal e
     where
       go : (o : Option ℕ) → number ≡ value_or 0 o → TimedBy o told old (Visitings.Refused number) old
-      go none q = absurd (h q)
-      go (some m) q = (ap Visitings.Refused q, refl)
+      go None q = absurd (h q)
+      go (Some m) q = (ap Visitings.Refused q, refl)
 
-  pub timed-told : refusal ≡ none → (line : Timeline) → Times t (space_of head.capacity) (limits_of head.limits) place run line
+  pub timed-told : refusal ≡ None → (line : Timeline) → Times t (space_of head.capacity) (limits_of head.limits) place run line
       → (new : Lists) → LineWritten line old new → (r : Told) → r ≡ told_f line.run.count line.run.found (timeline_in line)
       → RunTimed t head run place old (Visitings.Told r) new
   timed-told accepted line T new L r e =

@@ -3,7 +3,8 @@ use Prim.Native.Nat.{ℕ, zero, suc, ◌+◌, ◌*◌, ◌≤◌, ◌<◌}
 use native.Mathlib.Omega.{arith}
 use mathlib.Core.Path.{◌≡◌, refl, sym, ap, ◌∙◌}
 use mathlib.Core.List.{List, [], ◌∷◌, ◌++◌, append_assoc}
-use lib.ListN.{length, get_or, set, length-append, length-set}
+use lib.ListN.{length, get_or, set, take, length-take, length-append, length-set}
+use lib.Seq.{get_or-take}
 use Rattle.definitions.specs.Room.{written}
 use Rattle.sheet_read.proofs.Fitting.{write-more}
 use Rattle.evaluation.proofs.Reading.{get_d_of}
@@ -11,9 +12,11 @@ use Rattle.visits.specs.declared.visit.ViolationType.{ViolationType}
 use Rattle.visits.specs.declared.visit.ViolationType.TheVariants.{TimeWindowViolated, BreakNotPlaceable, CapacityExceeded, MaxDistanceExceeded, MaxDurationExceeded, WheelchairsExceeded, ClosedLeg}
 use Rattle.bytes_visits.specs.Rows.{rows_to, figures_in}
 
--- what is read of an element that is there does not go by what stands beyond
-pub read_same : {A B : Type 0} (f : A → B) (e : B) (l : List A) (i : ℕ) (d d' : A) → i < length l → f (get_or l i d) ≡ f (get_or l i d')
-read_same f e l i d d' h = get_d_of f l i d e h ∙ sym (get_d_of f l i d' e h)
+-- what is read of one of the first n elements does not go by what stands beyond
+pub read_front : {A B : Type 0} (f : A → B) (e : B) (n : ℕ) (l : List A) (i : ℕ) (d d' : A) → i < length (take n l) → f (get_or (take n l) i d) ≡ f (get_or l i d')
+read_front f e n l i d d' h =
+    let more : i < n = omega (arith, length-take n l) in
+    let inside : i < length l = omega (arith, length-take n l) in ap f (get_or-take n l i d more) ∙ get_d_of f l i d e inside ∙ sym (get_d_of f l i d' e inside)
 
 -- so many elements as the rows before have, where each has `wide`
 pub rows-length : {A : Type 0} (row : ℕ → List A) (wide : ℕ) → ((i : ℕ) → length (row i) ≡ wide) → ((n : ℕ) → wide * n + wide ≡ wide * suc n) → wide * 0 ≡ 0

@@ -1,6 +1,5 @@
 -- A timeline in rows of numbers: three times and two loads for each visit, a number and three figures for each violation. Definitions only.
-use Rattle.std.specs.Prelude.{ℕ, zero, suc, cond, List, [], ◌∷◌, ◌++◌, leb, length, get_or, take, Float}
-use Rattle.std.proofs.Math.Option.{none}
+use Rattle.std.specs.Prelude.{ℕ, zero, suc, cond, List, [], ◌∷◌, ◌++◌, leb, length, get_or, take, Float, None}
 use Rattle.std.specs.Float.{nan}
 use Rattle.definitions.specs.Load.{no_load}
 use Rattle.definitions.specs.Visits as Whole
@@ -26,7 +25,7 @@ abbrev pub rows_of : {A B : Type 0} → (A → List B) → A → List A → List
 rows_of row d l = rows_to (λ i. row (get_or l i d)) (length l)
 
 abbrev pub no_stop : Stop
-no_stop = record { visit = record { customer = 0; arrival = 0; departure = 0; load = no_load }; rest = none; begin = 0 }
+no_stop = record { visit = record { customer = 0; arrival = 0; departure = 0; load = no_load }; rest = None; begin = 0 }
 
 -- arrival, service start and departure of each call
 abbrev pub times_row : Stop → List ℕ

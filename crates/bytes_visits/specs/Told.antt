@@ -1,7 +1,6 @@
 -- The answer of a call that tells the timeline of a run: refused by number, or the timeline in rows of numbers with what it comes to.
 -- Definitions only.
-use Rattle.std.specs.Prelude.{ℕ, ◌≤◌, ◌≡◌, Bool, cond, List, [], ◌∷◌, map, length, Float}
-use Rattle.std.proofs.Math.Option.{Option, none, some}
+use Rattle.std.specs.Prelude.{ℕ, ◌≤◌, ◌≡◌, Bool, cond, List, [], ◌∷◌, map, length, Float, Option, None, Some}
 use Rattle.basics.specs.Options.{present, value_or}
 use Rattle.definitions.specs.Sheet.{Sheet}
 use Rattle.definitions.specs.Refusal.{refusal, first_fit}
@@ -88,12 +87,12 @@ SheetTold bytes run place old r new = (s : Sheet) (tour : List ℕ) → read byt
 -- ---- on floats, as the code has it
 
 abbrev pub taken_f : Option Float → ℕ → ℕ
-taken_f none place = 0
-taken_f (some time) place = place
+taken_f None place = 0
+taken_f (Some time) place = place
 
 abbrev pub began_f : Option Float → Float
-began_f none = fl 0
-began_f (some time) = time
+began_f None = fl 0
+began_f (Some time) = time
 
 abbrev pub told_f : (visits violations : ℕ) → TimelineF → Told
 told_f visits violations x =
@@ -124,8 +123,8 @@ pub record RowsWritten (x : TimelineF) (old new : Lists) : Type 0 where
 
 -- refused with nothing written, or told
 abbrev pub TimedBy : Option ℕ → TimelineF → (old : Lists) (r : Visiting) (new : Lists) → Type 0
-TimedBy (some number) x old r new = (r ≡ Visitings.Refused number) × (new ≡ old)
-TimedBy none x old r new =
+TimedBy (Some number) x old r new = (r ≡ Visitings.Refused number) × (new ≡ old)
+TimedBy None x old r new =
     (r ≡ Visitings.Told (told_f (length x.route.visits) (length x.route.violations) x)) × RowsWritten x old new
 
 abbrev pub RunTimed : Tables → Head → (run : List ℕ) (place : ℕ) (old : Lists) (r : Visiting) (new : Lists) → Type 0

@@ -30,18 +30,14 @@ pub fn write_times(visits: [Visit; 128], begins: [f64; 128], n: usize, times: &m
     requires { (n ≤ 128) × (3 * n ≤ length times.old) }
     ensures { times.new ≡ written (rows_to (times_row_f visits begins) n) times.old }
 {
-    let mut i = 0;
-    while i < n {
-        let visit = visits[i];
-        let begin = begins[i];
+    for (i, visit) in visits[..n].iter().enumerate() {
         put_three(
             3 * i,
             visit.arrival_time,
-            begin,
+            begins[i],
             visit.departure_time,
             &mut *times,
         );
-        i += 1;
     }
 }
 
@@ -50,12 +46,9 @@ pub fn write_loads(visits: [Visit; 128], n: usize, loads: &mut [u64])
     requires { (n ≤ 128) × (2 * n ≤ length loads.old) }
     ensures { loads.new ≡ written (rows_to (loads_row_f visits) n) loads.old }
 {
-    let mut i = 0;
-    while i < n {
-        let visit = visits[i];
+    for (i, visit) in visits[..n].iter().enumerate() {
         let load = visit.load_after;
         put_two(2 * i, load.seats, load.wheelchairs, &mut *loads);
-        i += 1;
     }
 }
 
@@ -64,12 +57,8 @@ pub fn write_numbers(list: [Violation; MOST_VIOLATIONS], n: usize, numbers: &mut
     requires { (n ≤ 132) × (n ≤ length numbers.old) }
     ensures { numbers.new ≡ written (rows_to (number_row_f list) n) numbers.old }
 {
-    let mut i = 0;
-    while i < n {
-        let violation = list[i];
-        let kind = violation.kind;
-        numbers[i] = number_of(kind);
-        i += 1;
+    for (i, violation) in list[..n].iter().enumerate() {
+        numbers[i] = number_of(violation.kind);
     }
 }
 
@@ -78,12 +67,8 @@ pub fn write_figures(list: [Violation; MOST_VIOLATIONS], n: usize, values: &mut 
     requires { (n ≤ 132) × (3 * n ≤ length values.old) }
     ensures { values.new ≡ written (rows_to (figures_row_f list) n) values.old }
 {
-    let mut i = 0;
-    while i < n {
-        let violation = list[i];
-        let kind = violation.kind;
-        let row = figures_of(kind);
+    for (i, violation) in list[..n].iter().enumerate() {
+        let row = figures_of(violation.kind);
         put_three(3 * i, row.first, row.second, row.third, &mut *values);
-        i += 1;
     }
 }

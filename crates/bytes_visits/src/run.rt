@@ -14,7 +14,7 @@ use byte_lists::widen;
 use models::customer::Customer;
 use models::domain::MOST_CALLS;
 use models::head::Head;
-use models::vehicle::{Rest, has_rest};
+use models::vehicle::{VehicleBreak, has_rest};
 use refuse_numbers::calls::bad_run_list;
 use timeline::timeline::{Timeline, timeline_of};
 
@@ -25,14 +25,14 @@ pub enum Visiting {
 }
 
 // The last call at which a run of so many can have its break: none on a sheet without one.
-pub fn last_place(rest: Rest, calls: usize) -> usize
+pub fn last_place(rest: Option<VehicleBreak>, calls: usize) -> usize
     ensures { result ≡ cond (present (rest_of rest)) calls 0 }
 {
     if has_rest(rest) { calls } else { 0 }
 }
 
 // A run out of range, then a break place beyond it, or on a sheet without a break.
-pub fn refuse_run(places: usize, rest: Rest, run: &[u8], place: usize) -> u32
+pub fn refuse_run(places: usize, rest: Option<VehicleBreak>, run: &[u8], place: usize) -> u32
     ensures { result ≡ value_or 0 (run_refusal places (present (rest_of rest)) (numbers_of run.now) place) }
 {
     if bad_run_list(places, run) {

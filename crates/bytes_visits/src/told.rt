@@ -1,10 +1,8 @@
 // What a timeline comes to, besides its rows.
 ghost use Rattle.std.specs.Prelude.{◌≡◌};
-ghost use Rattle.evaluation.specs.Records.{start_of};
 ghost use Rattle.timeline.specs.Timing.{timeline_in};
 ghost use Rattle.bytes_visits.specs.Told.{taken_f, began_f, told_f};
 
-use evaluation::route::Start;
 use timeline::timeline::Timeline;
 
 // How many visits and violations there are; the number of the call at which the break is taken, from 1, or 0, and when
@@ -22,22 +20,22 @@ pub struct Told {
 }
 
 // The call at which the break is taken: the given one, where it starts.
-pub fn taken_at(start: Start, place: usize) -> usize
-    ensures { result ≡ taken_f (start_of start) place }
+pub fn taken_at(start: Option<f64>, place: usize) -> usize
+    ensures { result ≡ taken_f start place }
 {
     match start {
-        Start::Unbroken => 0,
-        Start::At(_) => place,
+        None => 0,
+        Some(_) => place,
     }
 }
 
 // When it starts, or 0.0.
-pub fn began(start: Start) -> f64
-    ensures { result ≡ began_f (start_of start) }
+pub fn began(start: Option<f64>) -> f64
+    ensures { result ≡ began_f start }
 {
     match start {
-        Start::Unbroken => 0.0,
-        Start::At(time) => time,
+        None => 0.0,
+        Some(time) => time,
     }
 }
 

@@ -3,7 +3,7 @@ use Prim.Native.Nat.{ℕ}
 use mathlib.Core.Path.{◌≡◌, refl, ap}
 use mathlib.Core.Bool.{false}
 use mathlib.Core.List.{List}
-use mathlib.Core.Option.{some}
+use Rattle.std.specs.Prelude.{Some}
 use lib.Ieee.{Float}
 use Rattle.definitions.specs.Sheet.{SheetOf, Sheet}
 use Rattle.definitions.specs.Improver.{given_of}
@@ -36,7 +36,7 @@ module _ (Q : Asked) (cs : List Customer) (held : Matches Q cs) (I : Evaluation.
   given = given_by Q (told s (tables_in Q))
 
   -- what is given holds the sheet that is meant
-  given_holds : any_closed some s.legs ≡ false → Image s given
+  given_holds : any_closed Some s.legs ≡ false → Image s given
   unfolding search_f
   given_holds O =
       record {

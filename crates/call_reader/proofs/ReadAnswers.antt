@@ -17,17 +17,12 @@ use Rattle.definitions.specs.Room.{short, written}
 use Rattle.definitions.specs.Answers.{read_customers, read_distances, read_times, read_tour}
 use Rattle.theorems.proofs.Accepted.{at_least}
 use Rattle.whole.specs.Whole.{fl}
-use Rattle.models.specs.Records.{opening_of, penalty_of, customer_of, limit_of, rest_of, head_of}
+use Rattle.models.specs.Records.{opening_of, customer_of, rest_of, head_of}
 use Rattle.models.specs.Image.{fl_customer, fl_sheet}
-use Rattle.models.specs.declared.customer.Opening.{Opening}
-use Rattle.models.specs.declared.customer.Opening.TheVariants.{Always, Window}
-use Rattle.models.specs.declared.customer.Penalty.{Penalty}
-use Rattle.models.specs.declared.customer.Penalty.TheVariants.{Hard, Soft}
+use Rattle.models.specs.declared.customer.TimeWindow.{TimeWindow}
+use Rattle.std.specs.Prelude.{Option, None, Some}
 use Rattle.models.specs.declared.customer.Customer.{Customer}
-use Rattle.models.specs.declared.vehicle.Rest.{Rest}
-use Rattle.models.specs.declared.vehicle.Rest.TheVariants.{Unbroken, Break}
-use Rattle.models.specs.declared.limits.Limit.{Limit}
-use Rattle.models.specs.declared.limits.Limit.TheVariants.{Unlimited, At}
+use Rattle.models.specs.declared.vehicle.VehicleBreak.{VehicleBreak}
 use Rattle.models.specs.declared.head.Head.{Head}
 use Rattle.lending.proofs.Lists.{written-room}
 use Rattle.sheet_read.specs.Fitting.{fitting}
@@ -42,13 +37,13 @@ use Rattle.call_reader.specs.Reading.{opening_in, penalty_in, customer_in, limit
 
 -- ---- the code's records hold what they are made of
 
-opening-in : (x : Opening) → opening_in (opening_of x) ≡ x
-opening-in Always = refl
-opening-in (Window w) = refl
+opening-in : (x : (Option TimeWindow)) → opening_in (opening_of x) ≡ x
+opening-in None = refl
+opening-in (Some w) = refl
 
-penalty-in : (x : Penalty) → penalty_in (penalty_of x) ≡ x
-penalty-in Hard = refl
-penalty-in (Soft p) = refl
+penalty-in : (x : (Option Float)) → penalty_in x ≡ x
+penalty-in None = refl
+penalty-in (Some p) = refl
 
 customer-in : (c : Customer) → customer_in (customer_of c) ≡ c
 customer-in c =
@@ -60,13 +55,13 @@ customer-in c =
       lateness_penalty = penalty-in c.lateness_penalty i;
     }
 
-limit-in : (x : Limit) → limit_in (limit_of x) ≡ x
-limit-in Unlimited = refl
-limit-in (At max) = refl
+limit-in : (x : (Option Float)) → limit_in x ≡ x
+limit-in None = refl
+limit-in (Some max) = refl
 
-rest_in_lem : (x : Rest) → rest_in (rest_of x) ≡ x
-rest_in_lem Unbroken = refl
-rest_in_lem (Break b) = refl
+rest_in_lem : (x : (Option VehicleBreak)) → rest_in (rest_of x) ≡ x
+rest_in_lem None = refl
+rest_in_lem (Some b) = refl
 
 head_in_lem : (h : Head) → head_in (head_of h) ≡ h
 head_in_lem h =

@@ -1,6 +1,5 @@
 -- What the reader answers and writes: the code's records for those of whole numbers, each number held in a float. Definitions only.
-use Rattle.std.specs.Prelude.{ℕ, ◌≡◌, List, [], ◌∷◌, map, length, Float}
-use Rattle.std.proofs.Math.Option.{Option, none, some}
+use Rattle.std.specs.Prelude.{ℕ, ◌≡◌, List, [], ◌∷◌, map, length, Float, Option, None, Some}
 use Rattle.definitions.specs.Load.{Load}
 use Rattle.definitions.specs.Sheet.{WindowOf, BreakOf, CustomerOf, HeadOf}
 use Rattle.definitions.specs.Reader as Reader
@@ -10,15 +9,9 @@ use Rattle.definitions.specs.Answers.{read_distances, read_times, read_tour}
 use Rattle.whole.specs.Whole.{fl}
 use Rattle.models.specs.Image.{fl_sheet}
 use Rattle.models.specs.declared.load.Space.{Space}
-use Rattle.models.specs.declared.customer.Opening.{Opening}
-use Rattle.models.specs.declared.customer.Opening.TheVariants.{Always, Window}
-use Rattle.models.specs.declared.customer.Penalty.{Penalty}
-use Rattle.models.specs.declared.customer.Penalty.TheVariants.{Hard, Soft}
+use Rattle.models.specs.declared.customer.TimeWindow.{TimeWindow}
 use Rattle.models.specs.declared.customer.Customer.{Customer}
-use Rattle.models.specs.declared.vehicle.Rest.{Rest}
-use Rattle.models.specs.declared.vehicle.Rest.TheVariants.{Unbroken, Break}
-use Rattle.models.specs.declared.limits.Limit.{Limit}
-use Rattle.models.specs.declared.limits.Limit.TheVariants.{Unlimited, At}
+use Rattle.models.specs.declared.vehicle.VehicleBreak.{VehicleBreak}
 use Rattle.models.specs.declared.head.Head.{Head}
 use Rattle.call_reader.specs.declared.reading.Read.{Read}
 use Rattle.call_reader.specs.declared.reading.Read.TheVariants.{Refused, Sheet}
@@ -28,13 +21,13 @@ use Rattle.call_reader.specs.declared.reading.Read.TheVariants.{Refused, Sheet}
 abbrev pub space_in : Load → Space
 space_in x = record { seats = x.seats; wheelchairs = x.wheelchairs }
 
-abbrev pub opening_in : Option (WindowOf Float) → Opening
-opening_in none = Always
-opening_in (some w) = Window (record { ready = w.ready; due = w.due })
+abbrev pub opening_in : Option (WindowOf Float) → Option TimeWindow
+opening_in None = None
+opening_in (Some w) = Some (record { ready = w.ready; due = w.due })
 
-abbrev pub penalty_in : Option Float → Penalty
-penalty_in none = Hard
-penalty_in (some p) = Soft p
+abbrev pub penalty_in : Option Float → Option Float
+penalty_in None = None
+penalty_in (Some p) = Some p
 
 abbrev pub customer_in : CustomerOf Float → Customer
 customer_in c =
@@ -45,13 +38,13 @@ customer_in c =
       lateness_penalty = penalty_in c.penalty;
     }
 
-abbrev pub limit_in : Option Float → Limit
-limit_in none = Unlimited
-limit_in (some max) = At max
+abbrev pub limit_in : Option Float → Option Float
+limit_in None = None
+limit_in (Some max) = Some max
 
-abbrev pub rest_in : Option (BreakOf Float) → Rest
-rest_in none = Unbroken
-rest_in (some b) = Break (record { earliest = b.earliest; latest = b.latest; duration = b.duration })
+abbrev pub rest_in : Option (BreakOf Float) → Option VehicleBreak
+rest_in None = None
+rest_in (Some b) = Some (record { earliest = b.earliest; latest = b.latest; duration = b.duration })
 
 abbrev pub head_in : HeadOf Float → Head
 head_in h =

@@ -7,12 +7,9 @@ use Rattle.definitions.specs.Lent.{evaluating}
 use Rattle.definitions.specs.Evaluation as Whole
 use Rattle.models.specs.declared.customer.Customer.{Customer}
 use Rattle.models.specs.declared.placement.Placement.{Placement}
-use Rattle.evaluation.specs.declared.route.Start.{Start}
-use Rattle.evaluation.specs.declared.route.Start.TheVariants.{Unbroken, At}
+use Rattle.std.specs.Prelude.{Option, None, Some}
 use Rattle.evaluation.specs.declared.route.RouteEval.{RouteEval}
-use Rattle.evaluation.specs.declared.route.Evaluated.{Evaluated}
-use Rattle.evaluation.specs.declared.route.Evaluated.TheVariants as Evaluateds
-use Rattle.evaluation.specs.Records.{lent, limits_of, start_of, evaluation_of, evaluated_of}
+use Rattle.evaluation.specs.Records.{lent, limits_of, evaluation_of, evaluated_of}
 use Rattle.placements.specs.Chosen.{placement_of}
 use Rattle.placements.specs.Placed.{eval_by}
 use Rattle.placements.proofs.PlacedExact.{eval-by-exact}
@@ -27,9 +24,9 @@ use Rattle.call_runs.proofs.RunAnswers.{accepted-run}
 
 -- ---- each case of the code's answer
 
-pub start-in : (x : Start) → start_in (start_of x) ≡ x
-start-in Unbroken = refl
-start-in (At t) = refl
+pub start-in : (x : (Option Float)) → start_in x ≡ x
+start-in None = refl
+start-in (Some t) = refl
 
 eval-in : (e : RouteEval) → eval_in (evaluation_of e) ≡ e
 eval-in e = λ i.
@@ -42,11 +39,11 @@ eval-in e = λ i.
       start = start-in e.start i;
     }
 
-module _ (x : Evaluated) where
-  pub not-allowed-in : x ≡ Evaluateds.NotAllowed → NotAllowed ≡ allowed_in (evaluated_of x)
+module _ (x : (Option RouteEval)) where
+  pub not-allowed-in : x ≡ None → NotAllowed ≡ allowed_in (evaluated_of x)
   not-allowed-in h = rw h refl
 
-  pub allowed-in : (e : RouteEval) → x ≡ Evaluateds.Allowed e → Allowed e ≡ allowed_in (evaluated_of x)
+  pub allowed-in : (e : RouteEval) → x ≡ Some e → Allowed e ≡ allowed_in (evaluated_of x)
   allowed-in e h = rw h (ap Allowed (sym (eval-in e)))
 
 -- ---- on an accepted sheet
@@ -56,7 +53,7 @@ module _
     (refuses : Refuses evaluating (λ cs. run_lent head cs distances times run) count array number)
     (images : Images (λ cs. sheet_of head cs distances times) count array number)
   where
-    pub evaluated-run : number ≡ 0 → (x : Evaluated) → evaluated_of x ≡ eval_by (lent array distances times head.places) (limits_of head.limits) p run
+    pub evaluated-run : number ≡ 0 → (x : (Option RouteEval)) → evaluated_of x ≡ eval_by (lent array distances times head.places) (limits_of head.limits) p run
         → (r : Evaluation) → r ≡ allowed_in (evaluated_of x) → Answers (λ cs. eval_answer head cs distances times run p) count array r
     evaluated-run z x told r case =
         let t = lent array distances times head.places in

@@ -4,7 +4,7 @@ use native.Mathlib.Omega.{arith}
 use native.Mathlib.Nat.{le_refl}
 use mathlib.Core.Path.{◌≡◌, refl, sym, ap, subst, ◌∙◌}
 use mathlib.Core.List.{List, [], ◌∷◌}
-use mathlib.Core.Option.{Option, none, some}
+use Rattle.std.specs.Prelude.{Option, None, Some}
 use lib.ListN.{length, take, length-map}
 use lib.Ieee.{Float}
 use Rattle.basics.proofs.TestLaws.{not-false}
@@ -55,8 +55,8 @@ unfolding open_route
 route-counted s calls = go (first_closed s calls) refl
   where
     go : (o : Option ℕ) → first_closed s calls ≡ o → length (build_route s calls).visits ≤ length calls
-    go (some leg) e = rw (route-closed s calls leg e) zero-le
-    go none e = rw (route-open s calls e, visits-counted s (place_or (clock s calls)) 1 0 start no_load calls) (le_refl (length calls))
+    go (Some leg) e = rw (route-closed s calls leg e) zero-le
+    go None e = rw (route-open s calls e, visits-counted s (place_or (clock s calls)) 1 0 start no_load calls) (le_refl (length calls))
 
 module _ (t : Tables) (capacity : Load) (limits : LimitsF) (s : Sheet) (run : List ℕ) (b : Built) (B : Builds t capacity limits run b)
     (exact : build_route_f t capacity limits run ≡ fl_route (build_route s run)) where

@@ -1,7 +1,6 @@
 -- What the evaluations of a run answer over what they are lent: the enum's case for each case of the complete answer of
 -- crates/definitions, each figure held in a float. Definitions only.
-use Rattle.std.specs.Prelude.{ℕ, Bool, List, [], Float}
-use Rattle.std.proofs.Math.Option.{Option, none, some, map}
+use Rattle.std.specs.Prelude.{ℕ, Bool, List, [], Float, Option, None, Some, option_map}
 use Rattle.definitions.specs.Lent.{Lent}
 use Rattle.definitions.specs.Answers as Whole
 use Rattle.definitions.specs.Evaluation as Evaluated
@@ -9,8 +8,6 @@ use Rattle.definitions.specs.Answers.{refused, gives, route_feasible_of, effecti
 use Rattle.whole.specs.Value.{value}
 use Rattle.models.specs.declared.customer.Customer.{Customer}
 use Rattle.models.specs.declared.placement.Placement.{Placement}
-use Rattle.evaluation.specs.declared.route.Start.{Start}
-use Rattle.evaluation.specs.declared.route.Start.TheVariants.{Unbroken, At}
 use Rattle.evaluation.specs.declared.route.RouteEval.{RouteEval}
 use Rattle.evaluation.specs.Records.{EvaluationF}
 use Rattle.evaluation.specs.Image.{fl_cost, fl_evaluation}
@@ -49,9 +46,9 @@ cost_answer head customers distances times run = cost_in (effective_cost_of valu
 
 -- ---- route_eval
 
-abbrev pub start_in : Option Float → Start
-start_in none = Unbroken
-start_in (some t) = At t
+abbrev pub start_in : Option Float → Option Float
+start_in None = None
+start_in (Some t) = Some t
 
 -- the code's record of totals and the break's start
 abbrev pub eval_in : EvaluationF → RouteEval
@@ -67,12 +64,12 @@ eval_in e =
 
 -- a run that is not allowed, or what it comes to
 abbrev pub allowed_in : Option EvaluationF → Evaluation
-allowed_in none = Evaluations.NotAllowed
-allowed_in (some e) = Evaluations.Allowed (eval_in e)
+allowed_in None = Evaluations.NotAllowed
+allowed_in (Some e) = Evaluations.Allowed (eval_in e)
 
 abbrev pub evaluation_in : Whole.Answer (Option Evaluated.Evaluation) → Evaluation
 evaluation_in (refused number) = Evaluations.Refused number
-evaluation_in (gives e) = allowed_in (map fl_evaluation e)
+evaluation_in (gives e) = allowed_in (option_map fl_evaluation e)
 
 abbrev pub eval_answer : Head → List Customer → List Float → List Float → List ℕ → Placement → Evaluation
 eval_answer head customers distances times run placement =

@@ -1,7 +1,6 @@
 -- What `build_route` answers and writes over what it is lent: the enum's case for each case of the complete answer of
 -- crates/definitions, visits and violations by their counts, each figure held in a float. Definitions only.
-use Rattle.std.specs.Prelude.{ℕ, ◌≤◌, ◌≡◌, List, [], ◌∷◌, map, length, replicate, take, Float}
-use Rattle.std.proofs.Math.Option
+use Rattle.std.specs.Prelude.{ℕ, ◌≤◌, ◌≡◌, List, [], ◌∷◌, map, length, replicate, take, Float, option_map}
 use Rattle.definitions.specs.Lent.{Lent}
 use Rattle.definitions.specs.Visits as Whole
 use Rattle.definitions.specs.Answers.{Answer, refused, gives, front, build_route_of}
@@ -40,7 +39,7 @@ figures_of x =
       lateness_cost = fl x.totals.pay;
       load = load_in x.load;
       place = x.totals.place;
-      start = start_in (Option.map fl x.start);
+      start = start_in (option_map fl x.start);
     }
 
 abbrev pub route_in : Answer Whole.Route → Route

@@ -4,7 +4,7 @@ ghost use Rattle.call_shared.specs.Answers.{Answers};
 
 use byte_lists::widen;
 use evaluation::route;
-use evaluation::route::{Evaluated, RouteEval};
+use evaluation::route::RouteEval;
 use models::customer::Customer;
 use models::domain::MOST_CALLS;
 use models::head::Head;
@@ -114,7 +114,7 @@ pub fn route_eval(
         head.limits,
         placement,
     ) {
-        Evaluated::NotAllowed => Evaluation::NotAllowed,
-        Evaluated::Allowed(e) => Evaluation::Allowed(e),
+        None => Evaluation::NotAllowed,
+        Some(e) => Evaluation::Allowed(e),
     }
 }

@@ -4,7 +4,6 @@ ghost use Rattle.std.specs.Prelude.{◌≡◌};
 ghost use Rattle.call_runs.specs.Visiting.{route_answer, given_by, refused_by, ListsFrom};
 
 use byte_lists::widen;
-use evaluation::route::Start;
 use models::customer::Customer;
 use models::domain::MOST_CALLS;
 use models::head::Head;
@@ -25,7 +24,7 @@ pub struct RouteFigures {
     pub lateness_cost: f64,
     pub load: Load,
     pub place: usize,
-    pub start: Start,
+    pub start: Option<f64>,
 }
 
 #[derive(Clone, Copy)]

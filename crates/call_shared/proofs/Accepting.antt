@@ -5,7 +5,7 @@ use native.Mathlib.Omega.{arith}
 use mathlib.Core.Path.{◌≡◌, refl, sym, ap, ◌∙◌}
 use mathlib.Core.Bool.{true}
 use mathlib.Core.List.{List, map}
-use mathlib.Core.Option.{Option, none, some}
+use Rattle.std.specs.Prelude.{Option, None, Some}
 use lib.ListN.{length, length-map}
 use lib.Ieee.{Float}
 use Rattle.basics.specs.Options.{value_or}
@@ -30,12 +30,12 @@ use Rattle.call_shared.specs.Meant.{sheet_lent}
 -- ---- the number
 
 module _ (k : Call) (l : Lent Float) where
-  pub accepts : 0 ≡ value_or 0 (refusal_of value k l) → refusal_of value k l ≡ none
+  pub accepts : 0 ≡ value_or 0 (refusal_of value k l) → refusal_of value k l ≡ None
   unfolding refusal_of refusals
   accepts h = zero-none (refusals value k l) refl (sym h)
 
   module _ {A : Type 0} (result : Sheet → A) where
-    pub given-exact : refusal_of value k l ≡ none → answer value k result l ≡ gives (result (whole_sheet value l.sheet))
+    pub given-exact : refusal_of value k l ≡ None → answer value k result l ≡ gives (result (whole_sheet value l.sheet))
     unfolding answer
     given-exact e = ap (λ (o : Option ℕ). unless_refused o (result (whole_sheet value l.sheet))) e
 
@@ -44,8 +44,8 @@ module _ (k : Call) (l : Lent Float) where
     refused-by n h z = go (refusal_of value k l) h
       where
         go : (o : Option ℕ) → n ≡ value_or 0 o → unless_refused o (result (whole_sheet value l.sheet)) ≡ refused n
-        go none e = absurd (z e)
-        go (some m) e = ap refused (sym e)
+        go None e = absurd (z e)
+        go (Some m) e = ap refused (sym e)
 
 -- ---- an accepted sheet
 

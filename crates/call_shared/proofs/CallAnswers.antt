@@ -2,7 +2,7 @@
 use Prim.Native.Nat.{ℕ, ◌≤◌, min}
 use mathlib.Core.Path.{◌≡◌, sym, ap, ◌∙◌}
 use mathlib.Core.List.{List}
-use mathlib.Core.Option.{none}
+use Rattle.std.specs.Prelude.{None}
 use lib.ListN.{length, take}
 use lib.Ieee.{Float}
 use borrow.Author.Tests.{ltb-false}
@@ -34,7 +34,7 @@ module _
     abbrev lent_with : List Customer → Lent Float
     lent_with cs = lent_of (sheet_of head cs distances times) tour calls ends breaks rooms
 
-    free : number ≡ 0 → (cs : List Customer) → Gathered cs count array → refusal_of value k (lent_with cs) ≡ none
+    free : number ≡ 0 → (cs : List Customer) → Gathered cs count array → refusal_of value k (lent_with cs) ≡ None
     free z cs G = accepts k (lent_with cs) (sym z ∙ refuses cs G)
 
     pub accepted : number ≡ 0 → (cs : List Customer) → Gathered cs count array → Accepted value k (lent_with cs)

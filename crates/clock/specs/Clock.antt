@@ -1,6 +1,5 @@
 -- The break clock on floats, step by step as the code has it. Definitions only.
-use Rattle.std.specs.Prelude.{ℕ, ◌+◌, Bool, cond, ◌||◌, Float}
-use Rattle.std.proofs.Math.Option.{Option, none, some}
+use Rattle.std.specs.Prelude.{ℕ, ◌+◌, Bool, cond, ◌||◌, Float, Option, None, Some}
 use Rattle.std.specs.Float.Ieee as Ieee
 use Rattle.std.specs.Float.{binary64}
 use Rattle.basics.specs.Options.{◌>>=◌, holds, present}
@@ -19,16 +18,16 @@ is_excused_f b back o = holds o (λ l. excused_f b (Ieee.add binary64 l.time bac
 
 -- before the first call
 abbrev pub begun_f : BreakOf Float → ClockF
-begun_f b = record { rest = b; before = some start_label; after = none; prev = 0; index = 1 }
+begun_f b = record { rest = b; before = Some start_label; after = None; prev = 0; index = 1 }
 
 -- the before-label with one call more
 abbrev pub skipped_f : ClockF → CustomerOf Float → Float → Option Label
-skipped_f x c travel = carry_f c none x.index travel x.before
+skipped_f x c travel = carry_f c None x.index travel x.before
 
 -- the after-label: the smaller of the one carried on and the before-label broken here
 abbrev pub taken_f : ClockF → CustomerOf Float → Float → Option Label
 taken_f x c travel =
-    earlier_f (carry_f c none x.index travel x.after) (carry_f c (some x.rest) x.index travel x.before)
+    earlier_f (carry_f c None x.index travel x.after) (carry_f c (Some x.rest) x.index travel x.before)
 
 -- one call more
 unfoldable pub push_f : ClockF → ℕ → CustomerOf Float → Float → ClockF
@@ -60,4 +59,4 @@ home_f distance back l =
     }
 
 unfoldable pub finish_f : Float → Float → ClockF → Option Scheduled
-finish_f distance back x = counts_f back x >>= λ l. some (home_f distance back l)
+finish_f distance back x = counts_f back x >>= λ l. Some (home_f distance back l)

@@ -1,6 +1,5 @@
 -- Whole-number labels, totals and clocks, each number held in a float. Definitions only.
-use Rattle.std.specs.Prelude.{ℕ}
-use Rattle.std.proofs.Math.Option.{map}
+use Rattle.std.specs.Prelude.{ℕ, option_map}
 use Rattle.definitions.specs.Sheet.{Break}
 use Rattle.definitions.specs.Run as Whole
 use Rattle.definitions.specs.Clock.{Clock}
@@ -28,8 +27,8 @@ abbrev pub fl_clock : Break → ℕ → ℕ → Clock → ClockF
 fl_clock b a k x =
     record {
       rest = fl_break b;
-      before = map fl_label x.before;
-      after = map fl_label x.after;
+      before = option_map fl_label x.before;
+      after = option_map fl_label x.after;
       prev = a;
       index = k;
     }

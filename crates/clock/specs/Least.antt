@@ -1,12 +1,10 @@
 -- The end of a run with one of its break places, and the better of two ends, on floats as the code has them. Definitions only.
-use Rattle.std.specs.Prelude.{Bool, cond, ◌&&◌, ◌||◌, Float}
-use Rattle.std.proofs.Math.Option.{Option, none, some}
+use Rattle.std.specs.Prelude.{Bool, cond, ◌&&◌, ◌||◌, Float, Option, None, Some}
 use Rattle.std.specs.Float.Ieee as Ieee
 use Rattle.std.specs.Float.{binary64}
 use Rattle.basics.specs.Options.{given}
 use Rattle.definitions.specs.Sheet.{BreakOf}
 use Rattle.models.specs.declared.limits.RouteLimits.{RouteLimits}
-use Rattle.models.specs.Records.{limit_of}
 use Rattle.models.specs.Limits.{allow_f}
 use Rattle.clock.specs.declared.schedule.Label.{Label}
 use Rattle.clock.specs.declared.schedule.Scheduled.{Scheduled}
@@ -18,7 +16,7 @@ pub record KeptF : Type 0 where
   pub max_duration : Option Float
 
 abbrev pub limits_on : RouteLimits → KeptF
-limits_on l = record { max_distance = limit_of l.max_distance; max_duration = limit_of l.max_duration }
+limits_on l = record { max_distance = l.max_distance; max_duration = l.max_duration }
 
 -- with the break taken: none where that breaks a limit
 unfoldable pub kept_home_f : KeptF → Float → Float → Label → Option Scheduled
@@ -28,7 +26,7 @@ kept_home_f limits distance back l =
 -- without one: none also where the run needs it
 unfoldable pub excused_home_f : BreakOf Float → KeptF → Float → Float → Label → Option Scheduled
 excused_home_f b limits distance back l =
-    cond (excused_f b (Ieee.add binary64 l.time back)) (kept_home_f limits distance back l) none
+    cond (excused_f b (Ieee.add binary64 l.time back)) (kept_home_f limits distance back l) None
 
 -- better: lower lateness pay or, with the same pay, an earlier return
 abbrev pub better_f : Scheduled → Scheduled → Bool
@@ -36,6 +34,6 @@ better_f y x = Ieee.lt y.cost x.cost || (Ieee.eq y.cost x.cost && Ieee.lt y.dura
 
 -- the better of the two; a tie keeps the first
 unfoldable pub pick_f : Option Scheduled → Option Scheduled → Option Scheduled
-pick_f none y = y
-pick_f (some x) none = some x
-pick_f (some x) (some y) = cond (better_f y x) (some y) (some x)
+pick_f None y = y
+pick_f (Some x) None = Some x
+pick_f (Some x) (Some y) = cond (better_f y x) (Some y) (Some x)

@@ -1,6 +1,5 @@
 -- Serving a call on floats, step by step as the code has it. Definitions only.
-use Rattle.std.specs.Prelude.{ℕ, Bool, cond, ◌&&◌, ◌||◌, Float}
-use Rattle.std.proofs.Math.Option.{Option, none, some}
+use Rattle.std.specs.Prelude.{ℕ, Bool, cond, ◌&&◌, ◌||◌, Float, Option, None, Some}
 use Rattle.std.specs.Float.Ieee as Ieee
 use Rattle.std.specs.Float.{binary64}
 use Rattle.basics.specs.Options.{◌>>=◌}
@@ -26,13 +25,13 @@ break_start_f b arrival = larger_f arrival b.earliest
 
 -- readiness: after the break, if it is here and starts by latest, and else the arrival
 unfoldable pub ready_f : Option (BreakOf Float) → Float → Option Float
-ready_f none arrival = some arrival
-ready_f (some b) arrival =
-    cond (Ieee.lt b.latest (break_start_f b arrival)) none (some (Ieee.add binary64 (break_start_f b arrival) b.duration))
+ready_f None arrival = Some arrival
+ready_f (Some b) arrival =
+    cond (Ieee.lt b.latest (break_start_f b arrival)) None (Some (Ieee.add binary64 (break_start_f b arrival) b.duration))
 
 abbrev pub place_after_f : Option (BreakOf Float) → ℕ → ℕ → ℕ
-place_after_f none k place = place
-place_after_f (some b) k place = k
+place_after_f None k place = place
+place_after_f (Some b) k place = k
 
 -- ---- the window
 
@@ -48,13 +47,13 @@ late_by penalty late l =
 
 -- late fails without a penalty; with one it adds the lateness, and penalty times lateness
 unfoldable pub charge_f : WindowOf Float → Option Float → Float → Label → Option Label
-charge_f w penalty readiness l = cond (late_f w readiness) (penalty >>= λ p. some (late_by p (lateness_f w readiness) l)) (some l)
+charge_f w penalty readiness l = cond (late_f w readiness) (penalty >>= λ p. Some (late_by p (lateness_f w readiness) l)) (Some l)
 
 -- the label as service starts
 unfoldable pub enter_f : Option (WindowOf Float) → Option Float → Float → Label → Option Label
-enter_f none penalty readiness l = some (at_time readiness l)
-enter_f (some w) penalty readiness l =
-    charge_f w penalty readiness l >>= λ m. some (at_time (Ieee.add binary64 readiness (waiting_f w readiness)) m)
+enter_f None penalty readiness l = Some (at_time readiness l)
+enter_f (Some w) penalty readiness l =
+    charge_f w penalty readiness l >>= λ m. Some (at_time (Ieee.add binary64 readiness (waiting_f w readiness)) m)
 
 -- ---- a call
 
@@ -67,7 +66,7 @@ unfoldable pub serve_f : CustomerOf Float → Option (BreakOf Float) → ℕ →
 serve_f c here k travel l = do
   readiness ← ready_f here (Ieee.add binary64 l.time travel)
   m ← enter_f c.window c.penalty readiness l
-  some (leave_f c.service (place_after_f here k l.place) m)
+  Some (leave_f c.service (place_after_f here k l.place) m)
 
 abbrev pub carry_f : CustomerOf Float → Option (BreakOf Float) → ℕ → Float → Option Label → Option Label
 carry_f c here k travel o = o >>= serve_f c here k travel
@@ -80,6 +79,6 @@ smaller_f y x = Ieee.lt y.time x.time || (Ieee.eq y.time x.time && Ieee.lt y.cos
 
 -- the smaller of the two; a tie keeps the first
 unfoldable pub earlier_f : Option Label → Option Label → Option Label
-earlier_f none y = y
-earlier_f (some x) none = some x
-earlier_f (some x) (some y) = cond (smaller_f y x) (some y) (some x)
+earlier_f None y = y
+earlier_f (Some x) None = Some x
+earlier_f (Some x) (Some y) = cond (smaller_f y x) (Some y) (Some x)

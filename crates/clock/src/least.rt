@@ -1,21 +1,20 @@
 // The end of a run with one of its break places, and the better of two: lower lateness pay, then the earlier return.
 ghost use Rattle.std.specs.Prelude.{◌≡◌};
-ghost use Rattle.models.specs.Records.{limit_of, break_of};
-ghost use Rattle.clock.specs.Records.{finished_of};
+ghost use Rattle.models.specs.Records.{break_of};
 ghost use Rattle.clock.specs.Least.{limits_on, kept_home_f, excused_home_f, better_f, pick_f};
 
-use crate::schedule::{Finished, Label, Scheduled, excused};
+use crate::schedule::{Label, Scheduled, excused};
 use models::limits::RouteLimits;
 use models::vehicle::VehicleBreak;
 
 // Home with the break taken, where that keeps the limits.
-pub fn kept_home(label: Label, limits: RouteLimits, distance: f64, back: f64) -> Finished
-    ensures { finished_of result ≡ kept_home_f (limits_on limits) distance back label }
+pub fn kept_home(label: Label, limits: RouteLimits, distance: f64, back: f64) -> Option<Scheduled>
+    ensures { result ≡ kept_home_f (limits_on limits) distance back label }
 {
     if limits.allow(distance, label.time + back) {
-        Finished::Home(label.home(distance, back))
+        Some(label.home(distance, back))
     } else {
-        Finished::Impossible
+        None
     }
 }
 
@@ -26,13 +25,13 @@ pub fn excused_home(
     limits: RouteLimits,
     distance: f64,
     back: f64,
-) -> Finished
-    ensures { finished_of result ≡ excused_home_f (break_of rest) (limits_on limits) distance back label }
+) -> Option<Scheduled>
+    ensures { result ≡ excused_home_f (break_of rest) (limits_on limits) distance back label }
 {
     if excused(rest, label.time + back) {
         kept_home(label, limits, distance, back)
     } else {
-        Finished::Impossible
+        None
     }
 }
 
@@ -50,18 +49,14 @@ pub fn better(y: Scheduled, x: Scheduled) -> bool
 }
 
 // The better of the two, each of which may be none; a tie keeps the first.
-pub fn pick(a: Finished, b: Finished) -> Finished
-    ensures { finished_of result ≡ pick_f (finished_of a) (finished_of b) }
+pub fn pick(a: Option<Scheduled>, b: Option<Scheduled>) -> Option<Scheduled>
+    ensures { result ≡ pick_f a b }
 {
-    let Finished::Home(x) = a else {
+    let Some(x) = a else {
         return b;
     };
-    let Finished::Home(y) = b else {
+    let Some(y) = b else {
         return a;
     };
-    if better(y, x) {
-        Finished::Home(y)
-    } else {
-        Finished::Home(x)
-    }
+    if better(y, x) { Some(y) } else { Some(x) }
 }

@@ -1,13 +1,13 @@
 // The clock of a run that carries a driver's break (evaluation/schedule.rs). It keeps two labels: with the break still
 // to take, and with it taken.
 ghost use Rattle.std.specs.Prelude.{◌≡◌, ◌<◌};
-ghost use Rattle.models.specs.Records.{window_of, penalty_of, customer_of, break_of, rest_of};
-ghost use Rattle.clock.specs.Records.{ready_of, reached_of, clock_of, finished_of};
+ghost use Rattle.models.specs.Records.{window_of, customer_of, break_of, rest_of};
+ghost use Rattle.clock.specs.Records.{clock_of};
 ghost use Rattle.clock.specs.Serving.{start_label, break_start_f, ready_f, place_after_f, charge_f, enter_f, serve_f, carry_f, smaller_f, earlier_f};
 ghost use Rattle.clock.specs.Clock.{excused_f, begun_f, skipped_f, taken_f, push_f, alive_f, is_excused_f, counts_f, home_f, finish_f};
 
-use models::customer::{Customer, Opening, Penalty, TimeWindow};
-use models::vehicle::{Rest, VehicleBreak};
+use models::customer::{Customer, TimeWindow};
+use models::vehicle::VehicleBreak;
 use whole::larger;
 
 // The bus with a call served. The place is the number of the call at which the break was taken, from 1, or 0.
@@ -17,20 +17,6 @@ pub struct Label {
     pub lateness: f64,
     pub cost: f64,
     pub place: usize,
-}
-
-// No label, or one.
-#[derive(Clone, Copy)]
-pub enum Reached {
-    Nowhere,
-    At(Label),
-}
-
-// When a call is ready to be entered; not at all where the break there would start after latest.
-#[derive(Clone, Copy)]
-pub enum Ready {
-    TooLate,
-    From(f64),
 }
 
 // What the clock reports of a run: its totals, with the place of the break.
@@ -43,20 +29,13 @@ pub struct Scheduled {
     pub place: usize,
 }
 
-// A run that can't be had, or what it comes to.
-#[derive(Clone, Copy)]
-pub enum Finished {
-    Impossible,
-    Home(Scheduled),
-}
-
 // The clock of a run that grows one call at a time: the labels before and after the break, the last place, and the
 // number of the next call.
 #[derive(Clone, Copy)]
 pub struct BreakClock {
     pub rest: VehicleBreak,
-    pub before: Reached,
-    pub after: Reached,
+    pub before: Option<Label>,
+    pub after: Option<Label>,
     pub prev: usize,
     pub index: usize,
 }
@@ -68,45 +47,45 @@ pub fn break_start_at(rest: VehicleBreak, arrival: f64) -> f64
     larger(arrival, rest.earliest)
 }
 
-// Ready on arrival or, with the break here, after it; the break starts at latest by latest.
-pub fn ready_at(rest: Rest, arrival: f64) -> Ready
-    ensures { ready_of result ≡ ready_f (rest_of rest) arrival }
+// Ready on arrival or, with the break here, after it; not at all where the break would start after latest.
+pub fn ready_at(rest: Option<VehicleBreak>, arrival: f64) -> Option<f64>
+    ensures { result ≡ ready_f (rest_of rest) arrival }
 {
     match rest {
-        Rest::Unbroken => Ready::From(arrival),
-        Rest::Break(b) => {
+        None => Some(arrival),
+        Some(b) => {
             let start = break_start_at(b, arrival);
             if start > b.latest {
-                Ready::TooLate
+                None
             } else {
-                Ready::From(start + b.duration)
+                Some(start + b.duration)
             }
         }
     }
 }
 
 // The break place after call number `index`, with the break there or without.
-pub fn place_after(rest: Rest, index: usize, place: usize) -> usize
+pub fn place_after(rest: Option<VehicleBreak>, index: usize, place: usize) -> usize
     ensures { result ≡ place_after_f (rest_of rest) index place }
 {
     match rest {
-        Rest::Unbroken => place,
-        Rest::Break(_) => index,
+        None => place,
+        Some(_) => index,
     }
 }
 
 // The label with its lateness at the window added, and the cost of that; late without a penalty fails.
-pub fn charge(window: TimeWindow, penalty: Penalty, ready: f64, label: Label) -> Reached
-    ensures { reached_of result ≡ charge_f (window_of window) (penalty_of penalty) ready label }
+pub fn charge(window: TimeWindow, penalty: Option<f64>, ready: f64, label: Label) -> Option<Label>
+    ensures { result ≡ charge_f (window_of window) penalty ready label }
 {
     if !window.is_violated(ready) {
-        return Reached::At(label);
+        return Some(label);
     }
     match penalty {
-        Penalty::Hard => Reached::Nowhere,
-        Penalty::Soft(p) => {
+        None => None,
+        Some(p) => {
             let late = window.lateness(ready);
-            Reached::At(Label {
+            Some(Label {
                 time: label.time,
                 lateness: label.lateness + late,
                 cost: label.cost + p * late,
@@ -116,25 +95,24 @@ pub fn charge(window: TimeWindow, penalty: Penalty, ready: f64, label: Label) ->
     }
 }
 
-// The label as service starts, from readiness on: lateness is charged, and then the window's opening waited for.
-pub fn enter(customer: Customer, ready: f64, label: Label) -> Reached
-    ensures { reached_of result ≡ enter_f (customer_of customer).window (customer_of customer).penalty ready label }
+// The label as service starts, from readiness on: lateness is charged, and then the window's opening waited for. None
+// where it is late without a penalty.
+pub fn enter(customer: Customer, ready: f64, label: Label) -> Option<Label>
+    ensures { result ≡ enter_f (customer_of customer).window (customer_of customer).penalty ready label }
 {
     let opening = customer.time_window;
     let penalty = customer.lateness_penalty;
     match opening {
-        Opening::Always => Reached::At(Label {
+        None => Some(Label {
             time: ready,
             lateness: label.lateness,
             cost: label.cost,
             place: label.place,
         }),
-        Opening::Window(window) => {
-            let Reached::At(l) = charge(window, penalty, ready, label) else {
-                return Reached::Nowhere;
-            };
+        Some(window) => {
+            let l = charge(window, penalty, ready, label)?;
             let waiting = window.waiting_time(ready);
-            Reached::At(Label {
+            Some(Label {
                 time: ready + waiting,
                 lateness: l.lateness,
                 cost: l.cost,
@@ -145,18 +123,20 @@ pub fn enter(customer: Customer, ready: f64, label: Label) -> Reached
 }
 
 // Call number `index`, `travel` away: the way there, the break if it is here, the wait for the window, and service.
-pub fn serve(label: Label, travel: f64, customer: Customer, index: usize, rest: Rest) -> Reached
-    ensures { reached_of result ≡ serve_f (customer_of customer) (rest_of rest) index travel label }
+pub fn serve(
+    label: Label,
+    travel: f64,
+    customer: Customer,
+    index: usize,
+    rest: Option<VehicleBreak>,
+) -> Option<Label>
+    ensures { result ≡ serve_f (customer_of customer) (rest_of rest) index travel label }
 {
     let arrival = label.time + travel;
-    let Ready::From(ready) = ready_at(rest, arrival) else {
-        return Reached::Nowhere;
-    };
+    let ready = ready_at(rest, arrival)?;
     let place = place_after(rest, index, label.place);
-    let Reached::At(l) = enter(customer, ready, label) else {
-        return Reached::Nowhere;
-    };
-    Reached::At(Label {
+    let l = enter(customer, ready, label)?;
+    Some(Label {
         time: l.time + customer.service_duration,
         lateness: l.lateness,
         cost: l.cost,
@@ -165,12 +145,18 @@ pub fn serve(label: Label, travel: f64, customer: Customer, index: usize, rest: 
 }
 
 // The same for a label that may be none.
-pub fn carry(label: Reached, travel: f64, customer: Customer, index: usize, rest: Rest) -> Reached
-    ensures { reached_of result ≡ carry_f (customer_of customer) (rest_of rest) index travel (reached_of label) }
+pub fn carry(
+    label: Option<Label>,
+    travel: f64,
+    customer: Customer,
+    index: usize,
+    rest: Option<VehicleBreak>,
+) -> Option<Label>
+    ensures { result ≡ carry_f (customer_of customer) (rest_of rest) index travel label }
 {
     match label {
-        Reached::Nowhere => Reached::Nowhere,
-        Reached::At(l) => serve(l, travel, customer, index, rest),
+        None => None,
+        Some(l) => serve(l, travel, customer, index, rest),
     }
 }
 
@@ -182,12 +168,12 @@ pub fn excused(rest: VehicleBreak, home: f64) -> bool
 }
 
 // The same of a label that may be none, with the way back.
-pub fn is_excused(rest: VehicleBreak, label: Reached, back: f64) -> bool
-    ensures { result ≡ is_excused_f (break_of rest) back (reached_of label) }
+pub fn is_excused(rest: VehicleBreak, label: Option<Label>, back: f64) -> bool
+    ensures { result ≡ is_excused_f (break_of rest) back label }
 {
     match label {
-        Reached::Nowhere => false,
-        Reached::At(l) => excused(rest, l.time + back),
+        None => false,
+        Some(l) => excused(rest, l.time + back),
     }
 }
 
@@ -218,19 +204,19 @@ impl Label {
     }
 
     // The smaller of the two; a tie keeps the first.
-    pub fn earlier(a: Reached, b: Reached) -> Reached
-        ensures { reached_of result ≡ earlier_f (reached_of a) (reached_of b) }
+    pub fn earlier(a: Option<Label>, b: Option<Label>) -> Option<Label>
+        ensures { result ≡ earlier_f a b }
     {
-        let Reached::At(x) = a else {
+        let Some(x) = a else {
             return b;
         };
-        let Reached::At(y) = b else {
+        let Some(y) = b else {
             return a;
         };
         if Label::smaller(y, x) {
-            Reached::At(y)
+            Some(y)
         } else {
-            Reached::At(x)
+            Some(x)
         }
     }
 
@@ -255,31 +241,31 @@ impl BreakClock {
     {
         BreakClock {
             rest,
-            before: Reached::At(Label::start()),
-            after: Reached::Nowhere,
+            before: Some(Label::start()),
+            after: None,
             prev: 0,
             index: 1,
         }
     }
 
     // The label before the break with one call more, `travel` away.
-    pub fn skipped(self, customer: Customer, travel: f64) -> Reached
-        ensures { reached_of result ≡ skipped_f (clock_of self) (customer_of customer) travel }
+    pub fn skipped(self, customer: Customer, travel: f64) -> Option<Label>
+        ensures { result ≡ skipped_f (clock_of self) (customer_of customer) travel }
     {
         let before = self.before;
-        carry(before, travel, customer, self.index, Rest::Unbroken)
+        carry(before, travel, customer, self.index, None)
     }
 
     // The label after the break with one call more: the smaller of the one carried on and the one with the break here.
-    pub fn taken(self, customer: Customer, travel: f64) -> Reached
-        ensures { reached_of result ≡ taken_f (clock_of self) (customer_of customer) travel }
+    pub fn taken(self, customer: Customer, travel: f64) -> Option<Label>
+        ensures { result ≡ taken_f (clock_of self) (customer_of customer) travel }
     {
         let rest = self.rest;
         let before = self.before;
         let after = self.after;
         let index = self.index;
-        let here = carry(before, travel, customer, index, Rest::Break(rest));
-        let carried = carry(after, travel, customer, index, Rest::Unbroken);
+        let here = carry(before, travel, customer, index, Some(rest));
+        let carried = carry(after, travel, customer, index, None);
         Label::earlier(carried, here)
     }
 
@@ -302,20 +288,12 @@ impl BreakClock {
     pub fn alive(self) -> bool
         ensures { result ≡ alive_f (clock_of self) }
     {
-        let before = self.before;
-        if let Reached::At(_) = before {
-            return true;
-        }
-        let after = self.after;
-        if let Reached::At(_) = after {
-            return true;
-        }
-        false
+        self.before.is_some() || self.after.is_some()
     }
 
     // The label that counts: before the break where it needs none, and else after it.
-    pub fn counts(self, back: f64) -> Reached
-        ensures { reached_of result ≡ counts_f back (clock_of self) }
+    pub fn counts(self, back: f64) -> Option<Label>
+        ensures { result ≡ counts_f back (clock_of self) }
     {
         let rest = self.rest;
         let before = self.before;
@@ -327,13 +305,11 @@ impl BreakClock {
         }
     }
 
-    // The run ended by the way back, with the distance travelled in all.
-    pub fn finish(self, distance: f64, back: f64) -> Finished
-        ensures { finished_of result ≡ finish_f distance back (clock_of self) }
+    // The run ended by the way back, with the distance travelled in all; none where no label counts.
+    pub fn finish(self, distance: f64, back: f64) -> Option<Scheduled>
+        ensures { result ≡ finish_f distance back (clock_of self) }
     {
-        let Reached::At(l) = self.counts(back) else {
-            return Finished::Impossible;
-        };
-        Finished::Home(l.home(distance, back))
+        let l = self.counts(back)?;
+        Some(l.home(distance, back))
     }
 }

@@ -5,7 +5,7 @@ use native.Mathlib.Omega.{arith}
 use mathlib.Core.Path.{◌≡◌, refl, sym, ap, subst, ◌∙◌}
 use mathlib.Core.Bool.{true, false}
 use mathlib.Core.List.{List, [], ◌∷◌}
-use mathlib.Core.Option.{none, some}
+use Rattle.std.specs.Prelude.{None, Some}
 use lib.ListN.{length, get_or, take, length-map}
 use lib.Seq.{length-take-le}
 use lib.Dec.{eqb}
@@ -180,12 +180,12 @@ pub record Roomy (tour held₀ dropped₀ : List ℕ) (n i : ℕ) (x : Calls) : 
 
 module _ (I : Instance) (tour : List ℕ) where
   -- one turn, by the place that is stuck
-  pub drop-none : (n : ℕ) (h : Held) → stuck_f I (calls_at tour h.held) ≡ none → drop_from_f I tour n h ≡ h
+  pub drop-none : (n : ℕ) (h : Held) → stuck_f I (calls_at tour h.held) ≡ None → drop_from_f I tour n h ≡ h
   unfolding drop_from_f
   drop-none zero h e = refl
   drop-none (suc n) h e = rw (e, drop_from_f)
 
-  pub drop-some : (n k : ℕ) (h : Held) → 0 < n → stuck_f I (calls_at tour h.held) ≡ some k
+  pub drop-some : (n k : ℕ) (h : Held) → 0 < n → stuck_f I (calls_at tour h.held) ≡ Some k
       → drop_from_f I tour n h ≡ drop_from_f I tour (n - 1) (drop_at k h)
   unfolding drop_from_f
   drop-some zero k h b e = absurd (clash b)

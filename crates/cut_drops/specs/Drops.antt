@@ -1,6 +1,5 @@
 -- Which calls the cut by capacity, windows, limits and break drops on floats, as the code has it. Definitions only.
-use Rattle.std.specs.Prelude.{ℕ, zero, suc, Bool, false, List, length}
-use Rattle.std.proofs.Math.Option.{Option, none, some}
+use Rattle.std.specs.Prelude.{ℕ, zero, suc, Bool, false, List, length, Option, None, Some}
 use Rattle.std.specs.Float.{inf}
 use Rattle.std.specs.Float.Ieee.{lt}
 use Rattle.cut_theory.specs.Cut.{best}
@@ -24,8 +23,8 @@ module _ (I : Instance) where
   drop_from_f tour zero h = h
   drop_from_f tour (suc turns) h =
       elim (stuck_f (calls_at tour h.held)) [
-        | none ↦ h
-        | some k ↦ drop_from_f tour turns (drop_at k h)
+        | None ↦ h
+        | Some k ↦ drop_from_f tour turns (drop_at k h)
       ]
 
   unfoldable pub drops_f : List ℕ → Held

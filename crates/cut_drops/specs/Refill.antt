@@ -1,7 +1,6 @@
 -- What the drops do to the table: a row of the calls held and how far it went, cells that are cleared, the rows that are filled again after
 -- a call was dropped, and one turn, at which a row is filled and a call may be dropped. Definitions only.
-use Rattle.std.specs.Prelude.{ℕ, suc, ◌+◌, ◌-◌, ◌<◌, ◌≤◌, ◌≡◌, Bool, true, false, List, length, get_or, set, take, drop, replicate, Float}
-use Rattle.std.proofs.Math.Option.{Option}
+use Rattle.std.specs.Prelude.{ℕ, suc, ◌+◌, ◌-◌, ◌<◌, ◌≤◌, ◌≡◌, Bool, true, false, List, length, get_or, set, take, drop, replicate, Float, Option}
 use Rattle.std.specs.Float.{nan, inf}
 use Rattle.basics.specs.Lists.{count}
 use Rattle.cut_theory.specs.Cut.{best}

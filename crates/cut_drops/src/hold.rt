@@ -171,6 +171,7 @@ pub fn drop_stuck(
 {
     let mut left = n;
     let mut i: usize = 0;
+    // A `while`: a turn goes one row on, or leaves one call fewer.
     while i < left {
         if row_or_drop(
             &mut *held,

@@ -50,12 +50,10 @@ pub fn clear(
         TableCleared from old new }
 {
     let top = infinity();
-    let mut k = from;
-    while k < CELLS {
+    for k in from..CELLS {
         cost[k] = top;
         dist[k] = 0.0;
         pred[k] = 0;
-        k += 1;
     }
 }
 
@@ -84,10 +82,8 @@ pub fn refill(
         Refilled (λ t. over t terms) x q old new }
 {
     clear(&mut *cost, &mut *dist, &mut *pred, q + 1);
-    let mut s = 0;
-    while s < q {
+    for s in 0..q {
         if reach[s] < q {
-            s += 1;
             continue;
         }
         noted_row(
@@ -103,6 +99,5 @@ pub fn refill(
             terms,
             s,
         );
-        s += 1;
     }
 }

@@ -5,7 +5,7 @@ use native.Mathlib.Nat.{le_refl, le_trans}
 use mathlib.Core.Path.{◌≡◌, refl, sym, ap, ◌∙◌}
 use mathlib.Core.Bool.{Bool, true, false}
 use mathlib.Core.List.{List, [], ◌∷◌}
-use mathlib.Core.Option.{Option, none, some}
+use Rattle.std.specs.Prelude.{Option, None, Some}
 use lib.ListN.{length, take, length-map}
 use Rattle.basics.specs.Options.{present}
 use Rattle.basics.specs.Lists.{All, without}
@@ -31,7 +31,7 @@ use Rattle.cut_exact.proofs.SplitTwExact.{ImageTw, X, run_is}
 
 -- ---- which beginning is the shortest without a cutting
 
-module _ (arc : List ℕ → Option Arc) (no_run : arc [] ≡ none) where
+module _ (arc : List ℕ → Option Arc) (no_run : arc [] ≡ None) where
   cuttable-has : (l : List ℕ) → Cuttable arc l → present (cheapest arc l) ≡ true
   cuttable-has l c = let m = (best_of arc no_run l).below c.0 c.1 in ap present m.1
 
@@ -39,8 +39,8 @@ module _ (arc : List ℕ → Option Arc) (no_run : arc [] ≡ none) where
   uncuttable-none l x = go (cheapest arc l) refl
     where
       go : (o : Option Best) → cheapest arc l ≡ o → present o ≡ false
-      go none e = refl
-      go (some b) e = absurd (x (b.cost, best-reach arc l (cheapest arc l) (best_of arc no_run l) b e))
+      go None e = refl
+      go (Some b) e = absurd (x (b.cost, best-reach arc l (cheapest arc l) (best_of arc no_run l) b e))
 
   -- the search of the beginnings one by one finds it
   found-stuck : (have : ℕ → Bool) (calls : List ℕ) → ((j : ℕ) → j ≤ length calls → have j ≡ present (cheapest arc (take j calls)))
@@ -98,14 +98,14 @@ module _ (s : Sheet) (S : Sized s) (I : Instance) (M : ImageTw s I) (demand-exac
     where
       go : (o : Option ℕ) → ((k : ℕ) → drop_from_f I tour turns (drop_at k h) ≡ drop_from arcs tour turns (drop_at k h))
           → ◌≡◌ {A = Held} (elim o [
-            | none ↦ h
-            | some k ↦ drop_from_f I tour turns (drop_at k h)
+            | None ↦ h
+            | Some k ↦ drop_from_f I tour turns (drop_at k h)
           ]) (elim o [
-            | none ↦ h
-            | some k ↦ drop_from arcs tour turns (drop_at k h)
+            | None ↦ h
+            | Some k ↦ drop_from arcs tour turns (drop_at k h)
           ])
-      go none ih = refl
-      go (some k) ih = ih k
+      go None ih = refl
+      go (Some k) ih = ih k
 
   pub drops-exact : length (all_held tour).held ≤ most_calls → drops_f I tour ≡ drops arcs tour
   unfolding drops_f drops

@@ -3,7 +3,7 @@ use Prim.Native.Nat.{ℕ, ◌≤◌, ◌<◌}
 use native.Mathlib.Omega.{arith}
 use mathlib.Core.Path.{◌≡◌, refl, sym, ap, ◌∙◌, fun_ext}
 use mathlib.Core.List.{List, [], ◌∷◌, map}
-use mathlib.Core.Option.{Option, none, some}
+use Rattle.std.specs.Prelude.{Option, None, Some}
 use lib.ListN.{length, length-map}
 use lib.Ieee.{Float}
 use Rattle.basics.specs.Options.{value_or}
@@ -43,9 +43,9 @@ abbrev cut_as : List ℕ → List ℕ → List ℕ → Float → Float → Resul
 cut_as held dropped ends cost distance = record { served = held; ends = ends; dropped = dropped; cost = cost; distance = distance }
 
 -- of calls that have a cutting, where the runs are arcs
-cut-exact : (X : Setting) → ((i j : ℕ) → i < j → j ≤ length X.held → RunIs X i j) → (dropped : List ℕ) (b : Best) → cheapest X.arc X.held ≡ some b
+cut-exact : (X : Setting) → ((i j : ℕ) → i < j → j ≤ length X.held → RunIs X i j) → (dropped : List ℕ) (b : Best) → cheapest X.arc X.held ≡ Some b
     → let T = X.tariff in let held = X.held in
-    cut_as held dropped (ends_f T held) (cost_f T held) (distance_f T held) ≡ cut_as held dropped (run_ends b.runs) (fl b.cost) (far_fl X.sheet (some b))
+    cut_as held dropped (ends_f T held) (cost_f T held) (distance_f T held) ≡ cut_as held dropped (run_ends b.runs) (fl b.cost) (far_fl X.sheet (Some b))
 cut-exact X runs-are dropped b e =
     let T = X.tariff in
     let held = X.held in
@@ -121,7 +121,7 @@ module _ (s : Sheet) where
       ∙ ap (λ (f : List ℕ → Option Arc). plan_by f (bare s) tour) (fun_ext (unbroken-arcs (bare s) unbroken p by_clock))
       ∙ sym (split-plan by_clock (bare s) tour)
     where
-      unbroken : (bare s).head.rest ≡ none
+      unbroken : (bare s).head.rest ≡ None
       unbroken = unfold bare in refl
 
 pub split-exact : (s : Sheet) → Within s → (tour : List ℕ) → WithinCalls s tour → (I : Instance) → ImageTw (bare s) I → split_tw_f I tour ≡ fl_result (split s tour)

@@ -4,7 +4,7 @@ use native.Mathlib.Omega.{arith}
 use mathlib.Core.Path.{◌≡◌, refl, sym, ap, ap₂, subst, ◌∙◌}
 use mathlib.Core.Bool.{Bool, true, false, not, ◌&&◌}
 use mathlib.Core.List.{List, [], ◌∷◌}
-use mathlib.Core.Option.{Option, none, some, map}
+use Rattle.std.specs.Prelude.{Option, None, Some, option_map}
 use lib.ListN.{length, drop}
 use Rattle.basics.proofs.TestLaws.{by-test}
 use Rattle.basics.specs.Options.{◌>>=◌, given, value_or}
@@ -60,10 +60,10 @@ and-swap false false = refl
 
 -- a run of some calls is not empty
 some-calls : (l : List ℕ) → 0 < length l → not (is_empty l) ≡ true
-some-calls [] h = absurd (none h)
+some-calls [] h = absurd (None h)
   where
-    none : 0 < 0 → ⊥
-    none h = omega arith
+    None : 0 < 0 → ⊥
+    None h = omega arith
 some-calls (c ∷ cs) h = refl
 
 module _ (s : Sheet) (S : Sized s) (I : Instance) (M : ImageTw s I) (held : List ℕ) (inside : All (Place s) held) (few : length held ≤ most_calls)
@@ -94,53 +94,53 @@ module _ (s : Sheet) (S : Sized s) (I : Instance) (M : ImageTw s I) (held : List
     -- totals of the run with the place that they have: its end on floats is theirs, and so is its arc
     record Ends : Type 0 where
       totals : Option Totals
-      own : (u : Totals) → totals ≡ some u → ride s (with s run u.place) ≡ some u
-      end_is : end_in I (drop i held) (j - i) ≡ map fl_end totals
+      own : (u : Totals) → totals ≡ Some u → ride s (with s run u.place) ≡ Some u
+      end_is : end_in I (drop i held) (j - i) ≡ option_map fl_end totals
       arc-is : arc_by (placement_of I.placement) s run ≡ (totals >>= arc_of s run)
 
     abbrev ends_by : Placement → Option End
     ends_by p = end_by I.tables (drop i held) (j - i) I.limits p
 
-    clock-end : end_of I.tables (drop i held) (j - i) I.limits.rest ≡ map fl_end (clock s run)
+    clock-end : end_of I.tables (drop i held) (j - i) I.limits.rest ≡ option_map fl_end (clock s run)
     clock-end =
         rw M.limits-hold
         (end-exact s S I.tables M.tables-hold (drop i held) (from-inside X i j o within) (j - i) (room X i j o within) (few-here X i j o within)
-        ∙ ap (λ (l : List ℕ). map fl_end (clock s l)) (sym (calls-taken X i j o within)))
+        ∙ ap (λ (l : List ℕ). option_map fl_end (clock s l)) (sym (calls-taken X i j o within)))
 
     by-clock : end_in I (drop i held) (j - i) ≡ end_of I.tables (drop i held) (j - i) I.limits.rest → arc_by (placement_of I.placement) s run ≡ arc s run → Ends
     unfolding arc
     by-clock e a = record { totals = clock s run; own = λ u q. (clock-own s run u q).0; end_is = e ∙ clock-end; arc-is = a }
 
-    rest-holds : I.limits.rest ≡ map fl_break s.head.rest
+    rest-holds : I.limits.rest ≡ option_map fl_break s.head.rest
     rest-holds = ap (λ (l : LimitsF). l.rest) M.limits-hold
 
     -- on a sheet without a break there is one placement
-    unbroken : I.placement ≡ Least → s.head.rest ≡ none → Ends
+    unbroken : I.placement ≡ Least → s.head.rest ≡ None → Ends
     unfolding end_by least_end
     unbroken p z =
-        let r = rest-holds ∙ ap (map fl_break) z in
+        let r = rest-holds ∙ ap (option_map fl_break) z in
         by-clock (rw (p, r)) (unbroken-arcs s z (placement_of I.placement) by_clock run)
 
     -- with one, the best of its places
-    by-pay : I.placement ≡ Least → (b : Break) → s.head.rest ≡ some b → Ends
+    by-pay : I.placement ≡ Least → (b : Break) → s.head.rest ≡ Some b → Ends
     unfolding least_arc
     by-pay p b z =
         record {
           totals = least_ride s run;
           own = λ u q. (least-own s run u q).0;
           end_is =
-              least-end I p (fl_break b) (rest-holds ∙ ap (map fl_break) z) (drop i held) (j - i)
+              least-end I p (fl_break b) (rest-holds ∙ ap (option_map fl_break) z) (drop i held) (j - i)
               ∙ rw M.limits-hold
               (ap as_end
               (least-of-exact s S I.tables M.tables-hold (drop i held) (from-inside X i j o within) b z (j - i) (room X i j o within) (few-here X i j o within)
-              ∙ ap (λ (l : List ℕ). map fl_totals (least_ride s l)) (sym (calls-taken X i j o within)))
+              ∙ ap (λ (l : List ℕ). option_map fl_totals (least_ride s l)) (sym (calls-taken X i j o within)))
               ∙ as-end (least_ride s run));
           arc-is = ap (λ (q : Placement). arc_by (placement_of q) s run) p;
         }
       where
-        as-end : (o : Option Totals) → as_end (map fl_totals o) ≡ map fl_end o
-        as-end none = refl
-        as-end (some u) = refl
+        as-end : (o : Option Totals) → as_end (option_map fl_totals o) ≡ option_map fl_end o
+        as-end None = refl
+        as-end (Some u) = refl
 
     ends : Ends
     unfolding end_by
@@ -148,8 +148,8 @@ module _ (s : Sheet) (S : Sized s) (I : Instance) (M : ImageTw s I) (held : List
       where
         go : (p : Placement) → I.placement ≡ p → (r : Option Break) → s.head.rest ≡ r → Ends
         go Clock p r z = by-clock (ap ends_by p) (ap (λ (q : Placement). arc_by (placement_of q) s run) p)
-        go Least p none z = unbroken p z
-        go Least p (some b) z = by-pay p b z
+        go Least p None z = unbroken p z
+        go Least p (Some b) z = by-pay p b z
 
     -- ---- the run
 
@@ -160,12 +160,12 @@ module _ (s : Sheet) (S : Sized s) (I : Instance) (M : ImageTw s I) (held : List
 
     module _ (E : Ends) where
       -- without an end there is no run
-      none_is : E.totals ≡ none → RunIs X i j
+      none_is : E.totals ≡ None → RunIs X i j
       unfolding legal_of allowed_f
       none_is e = barred (E.arc-is ∙ ap (λ (o : Option Totals). o >>= arc_of s run) e) (rw (E.end_is, e) refl)
 
       -- with one
-      module _ (u : Totals) (e : E.totals ≡ some u) where
+      module _ (u : Totals) (e : E.totals ≡ Some u) where
         abbrev here : Arc
         here = record { place = u.place; cost = price s far u.pay }
 
@@ -224,5 +224,5 @@ module _ (s : Sheet) (S : Sized s) (I : Instance) (M : ImageTw s I) (held : List
     run_is = go ends.totals refl
       where
         go : (o : Option Totals) → ends.totals ≡ o → RunIs X i j
-        go none e = none_is ends e
-        go (some u) e = some_is ends u e
+        go None e = none_is ends e
+        go (Some u) e = some_is ends u e

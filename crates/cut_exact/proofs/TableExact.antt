@@ -6,7 +6,7 @@ use native.Mathlib.Omega.{arith}
 use mathlib.Core.Path.{◌≡◌, refl, sym, ap, subst, ◌∙◌}
 use mathlib.Core.Bool.{true, false, and-false, false≢true}
 use mathlib.Core.List.{List, [], ◌∷◌, ◌++◌, map-append, append-nil, append_assoc}
-use mathlib.Core.Option.{Option, none, some, map}
+use Rattle.std.specs.Prelude.{Option, None, Some, option_map}
 use lib.ListN.{length, take, drop, length-append, length-drop}
 use lib.Seq.{length-take-le, take-add, take-length}
 use lib.Ieee as Ieee
@@ -48,16 +48,16 @@ abbrev pub cut_far : Sheet → Best → ℕ
 cut_far s b = sum (λ r. length_of s r.calls) b.runs
 
 abbrev pub cost_fl : Option Best → Float
-cost_fl none = inf false
-cost_fl (some b) = fl b.cost
+cost_fl None = inf false
+cost_fl (Some b) = fl b.cost
 
 abbrev pub far_fl : Sheet → Option Best → Float
-far_fl s none = fl 0
-far_fl s (some b) = fl (cut_far s b)
+far_fl s None = fl 0
+far_fl s (Some b) = fl (cut_far s b)
 
 abbrev pub ends_in : Option Best → List ℕ
-ends_in none = []
-ends_in (some b) = run_ends b.runs
+ends_in None = []
+ends_in (Some b) = run_ends b.runs
 
 -- the ends of the runs, carried along
 abbrev ends_carry : Carry (List ℕ)
@@ -96,7 +96,7 @@ pub record Setting : Type 0 where
   pub inside : All (Place sheet) held
   pub few : length held ≤ most_calls
   pub tariff : Tariff
-  pub legs-exact : (a b : ℕ) → Place sheet a → Place sheet b → tariff.leg a b ≡ map fl_leg (drive sheet a b)
+  pub legs-exact : (a b : ℕ) → Place sheet a → Place sheet b → tariff.leg a b ≡ option_map fl_leg (drive sheet a b)
 
 module _ (X : Setting) where
   abbrev s : Sheet
@@ -125,8 +125,8 @@ module _ (X : Setting) where
 
   -- the run from i to j has no arc and is not legal, or has one and is legal at its cost
   pub data RunIs (i j : ℕ) : Type 0 where
-    barred : arc (calls i j) ≡ none → E.legal i j ≡ false → RunIs i j
-    priced : (a : Arc) → arc (calls i j) ≡ some a → E.legal i j ≡ true → ((c : ℕ) → c ≤ i * most_cost → E.ext (fl c) i j ≡ fl (c + a.cost)) → RunIs i j
+    barred : arc (calls i j) ≡ None → E.legal i j ≡ false → RunIs i j
+    priced : (a : Arc) → arc (calls i j) ≡ Some a → E.legal i j ≡ true → ((c : ℕ) → c ≤ i * most_cost → E.ext (fl c) i j ≡ fl (c + a.cost)) → RunIs i j
 
   module _ (i j : ℕ) (o : i < j) (within : j ≤ length held) where
     pub calls-taken : calls i j ≡ take (j - i) (drop i held)
@@ -156,24 +156,24 @@ module _ (X : Setting) where
         ∙ held-value (distance_from s 0 (take (j - i) (drop i held)))
         ∙ ap (λ (l : List ℕ). fl (length_of s l)) (sym calls-taken)
       where
-        held-value : (o : Option ℕ) → value_or (fl 0) (map fl o) ≡ fl (value_or 0 o)
-        held-value none = refl
-        held-value (some d) = refl
+        held-value : (o : Option ℕ) → value_or (fl 0) (option_map fl o) ≡ fl (value_or 0 o)
+        held-value None = refl
+        held-value (Some d) = refl
 
     pub run-far : length_of s (calls i j) ≤ (j - i + 1) * most_number
     run-far = subst (λ (n : ℕ). length_of s (calls i j) ≤ (n + 1) * most_number) calls-many (length_most s S (calls i j))
 
     -- ---- with this arc
 
-    module _ (a : Arc) (is : arc (calls i j) ≡ some a) where
+    module _ (a : Arc) (is : arc (calls i j) ≡ Some a) where
       run-cost : a.cost ≤ (j - i) * most_cost
       run-cost = subst (λ (n : ℕ). a.cost ≤ n * most_cost) calls-many (X.costs-small.run-most (calls i j) a (omega (arith, calls-many, few-here)) is)
 
       -- b, and then this run
       abbrev and_this : Best → Best
-      and_this b = and_run b (calls i j) (some a)
+      and_this b = and_run b (calls i j) (Some a)
 
-      step-some : (b : Best) → whole.step (some b) i j ≡ some (and_this b)
+      step-some : (b : Best) → whole.step (Some b) i j ≡ Some (and_this b)
       step-some b = rw is refl
 
       module _ (b : Best) (K : Kept s i b) where
@@ -210,34 +210,34 @@ module _ (X : Setting) where
 
     -- ---- a step, from some cutting and from none
 
-    step-none : whole.step none i j ≡ none
+    step-none : whole.step None i j ≡ None
     step-none = rw (and-false (present (arc (calls i j)))) refl
 
-    step-barred : arc (calls i j) ≡ none → (b : Best) → whole.step (some b) i j ≡ none
+    step-barred : arc (calls i j) ≡ None → (b : Best) → whole.step (Some b) i j ≡ None
     step-barred e b = rw e refl
 
     step-good : RunIs i j → (x : Option Best) → Holds (Kept s i) x → Holds (Kept s j) (whole.step x i j)
-    step-good R none g = rw step-none tt
-    step-good (barred e f) (some b) g = rw (step-barred e b) tt
-    step-good (priced a e t x) (some b) g = rw (step-some a e b) (this-kept a e b g)
+    step-good R None g = rw step-none tt
+    step-good (barred e f) (Some b) g = rw (step-barred e b) tt
+    step-good (priced a e t x) (Some b) g = rw (step-some a e b) (this-kept a e b g)
 
     step_same : RunIs i j → (x : Option Best) → Holds (Kept s i) x → (rule64 E).step (cost_fl x) i j ≡ cost_fl (whole.step x i j)
-    step_same R none g = rw (step-none, strict (price_of T (stretches held)) (inf false) i j (lt-inf (inf false)), and-false (E.legal i j)) refl
-    step_same (barred e f) (some b) g = rw (step-barred e b, f) refl
-    step_same (priced a e t x) (some b) g =
+    step_same R None g = rw (step-none, strict (price_of T (stretches held)) (inf false) i j (lt-inf (inf false)), and-false (E.legal i j)) refl
+    step_same (barred e f) (Some b) g = rw (step-barred e b, f) refl
+    step_same (priced a e t x) (Some b) g =
         rw (step-some a e b, t, x b.cost g.cost-most, is-lt-inf (fl (and_this a e b).cost) (and_this a e b).cost (fl-is (and_this a e b).cost (this-fits a e b g))) refl
 
     -- what is carried, where the run can be had
     far-same : RunIs i j → (x c : Option Best) → Holds (Kept s i) x → whole.lower (whole.step x i j) c ≡ true
         → (fars_of T (stretches held)).step (far_fl s x) i j ≡ far_fl s (whole.step x i j)
-    far-same R none c g h = absurd (false≢true (rw step-none at h))
-    far-same (barred e f) (some b) c g h = absurd (false≢true (rw (step-barred e b) at h))
-    far-same (priced a e t x) (some b) c g h = rw (step-some a e b) (far-more a e b g)
+    far-same R None c g h = absurd (false≢true (rw step-none at h))
+    far-same (barred e f) (Some b) c g h = absurd (false≢true (rw (step-barred e b) at h))
+    far-same (priced a e t x) (Some b) c g h = rw (step-some a e b) (far-more a e b g)
 
     ends_same : RunIs i j → (x c : Option Best) → Holds (Kept s i) x → whole.lower (whole.step x i j) c ≡ true → ends_carry.step (ends_in x) i j ≡ ends_in (whole.step x i j)
-    ends_same R none c g h = absurd (false≢true (rw step-none at h))
-    ends_same (barred e f) (some b) c g h = absurd (false≢true (rw (step-barred e b) at h))
-    ends_same (priced a e t x) (some b) c g h = rw (step-some a e b) (ends_more a e b g)
+    ends_same R None c g h = absurd (false≢true (rw step-none at h))
+    ends_same (barred e f) (Some b) c g h = absurd (false≢true (rw (step-barred e b) at h))
+    ends_same (priced a e t x) (Some b) c g h = rw (step-some a e b) (ends_more a e b g)
 
   -- ---- the table
 
@@ -251,9 +251,9 @@ module _ (X : Setting) where
   some_fits b j h K = cost-fits j b.cost (le_trans h X.few) K.cost-most
 
   lower-same : (a b : Option Best) (j : ℕ) → j ≤ n → Good j a → Good j b → Ieee.lt (cost_fl a) (cost_fl b) ≡ whole.lower a b
-  lower-same none b j h g k = lt-inf (cost_fl b)
-  lower-same (some a) none j h g k = is-lt-inf (fl a.cost) a.cost (fl-is a.cost (some_fits a j h g))
-  lower-same (some a) (some b) j h g k = fl-lt a.cost b.cost (some_fits a j h g) (some_fits b j h k)
+  lower-same None b j h g k = lt-inf (cost_fl b)
+  lower-same (Some a) None j h g k = is-lt-inf (fl a.cost) a.cost (fl-is a.cost (some_fits a j h g))
+  lower-same (Some a) (Some b) j h g k = fl-lt a.cost b.cost (some_fits a j h g) (some_fits b j h k)
 
   module _ (runs-are : (i j : ℕ) → i < j → j ≤ length held → RunIs i j) where
     same : Same whole (rule64 E) cost_fl Good n
@@ -279,7 +279,7 @@ module _ (X : Setting) where
     best-exact : (j : ℕ) → j ≤ n → best (rule64 E) j ≡ cost_fl (cheapest arc (take j held))
     best-exact j h = best-same whole (rule64 E) cost_fl Good n same j h ∙ ap cost_fl (bridge arc held j h)
 
-    best-fits : (j : ℕ) → j ≤ n → (b : Best) → cheapest arc (take j held) ≡ some b → b.cost ≤ limit
+    best-fits : (j : ℕ) → j ≤ n → (b : Best) → cheapest arc (take j held) ≡ Some b → b.cost ≤ limit
     best-fits j h b e =
         let l = length-take-le j held h in
         cost-fits j b.cost (le_trans h X.few) (subst (λ (m : ℕ). b.cost ≤ m * most_cost) l (best-most arc X.costs-small (take j held) (omega (arith, l, X.few)) b e))
@@ -289,8 +289,8 @@ module _ (X : Setting) where
     has-exact j h = ap (λ (x : Float). Ieee.lt x (inf false)) (best-exact j h) ∙ go (cheapest arc (take j held)) refl
       where
         go : (o : Option Best) → cheapest arc (take j held) ≡ o → Ieee.lt (cost_fl o) (inf false) ≡ present o
-        go none e = lt-inf (inf false)
-        go (some b) e = is-lt-inf (fl b.cost) b.cost (fl-is b.cost (best-fits j h b e))
+        go None e = lt-inf (inf false)
+        go (Some b) e = is-lt-inf (fl b.cost) b.cost (fl-is b.cost (best-fits j h b e))
 
     -- ---- the best cutting of all of them
 
@@ -300,7 +300,7 @@ module _ (X : Setting) where
     pub distance-exact : distance_f T held ≡ far_fl s (cheapest arc held)
     distance-exact = carried-to-same whole (rule64 E) cost_fl Good n same (fars_of T (stretches held)) (far_fl s) same-fars ∙ ap (far_fl s) (best-at arc held)
 
-    pub ends-exact : (b : Best) → cheapest arc held ≡ some b → ends_f T held ≡ run_ends b.runs
+    pub ends-exact : (b : Best) → cheapest arc held ≡ Some b → ends_f T held ≡ run_ends b.runs
     ends-exact b e =
         sym (carry-ends [] (ends_f T held) 0)
         ∙ far-ends E ends_carry (strict (price_of T (stretches held))) n (has-exact n (le_refl n) ∙ ap (λ (l : List ℕ). present (cheapest arc l)) (take-length held) ∙ ap present e)

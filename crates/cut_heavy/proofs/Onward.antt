@@ -6,7 +6,7 @@ use native.Mathlib.Omega.{arith}
 use mathlib.Core.Path.{◌≡◌, refl, sym, ap, ap₂, subst, ◌∙◌}
 use mathlib.Core.Bool.{Bool, true, false, cond}
 use mathlib.Core.List.{List, [], ◌∷◌, ◌++◌, map-append, append-nil}
-use mathlib.Core.Option.{none, some}
+use Rattle.std.specs.Prelude.{None, Some}
 use lib.ListN.{length, get_or, take, drop, length-append, length-map}
 use lib.Seq.{append_snoc, get_or-append_seam, take-append-le}
 use lib.Dec.{eqb}
@@ -125,7 +125,7 @@ module _ (I : Instance) where
     unfolding stays goes
     none_left f front gone p b e a =
         let kept = calls_at tour front in
-        let none_stuck : stuck_f I (calls_at tour (front ++ [])) ≡ none
+        let none_stuck : stuck_f I (calls_at tour (front ++ [])) ≡ None
         = rw (append-nil front) (first-none _ _ (length kept) (record { within = le_refl _; passes = a; fails = λ h. absurd (clash h) }) (le_refl _))
         in
         subst (λ (h : Held). Ended kept gone p [] h) (sym (drop-none I tour f (from front gone p 0) none_stuck))
@@ -162,7 +162,7 @@ module _ (I : Instance) where
         whole : calls_at tour (front ++ (p ∷ rest)) ≡ kept ++ (c ∷ calls)
         whole = map-append (call_at tour) front (p ∷ rest) ∙ ap (λ (l : List ℕ). kept ++ l) e
 
-        is_stuck : joins kept c ≡ false → stuck_f I (calls_at tour (front ++ (p ∷ rest))) ≡ some (length kept)
+        is_stuck : joins kept c ≡ false → stuck_f I (calls_at tour (front ++ (p ∷ rest))) ≡ Some (length kept)
         is_stuck f =
             rw whole
             (first_some _ _ (length kept)

@@ -41,15 +41,11 @@ pub fn write_light(
         (result ≡ length light) × (to.new ≡ written light to.old) }
 {
     let mut n = 0;
-    let mut k = 0;
-    while k < tour.len() {
-        let c = tour[k];
-        k += 1;
-        if !fits_alone(codes, figures, capacity, c) {
-            continue;
+    for &c in tour {
+        if fits_alone(codes, figures, capacity, c) {
+            to[n] = c;
+            n += 1;
         }
-        to[n] = c;
-        n += 1;
     }
     n
 }
@@ -84,12 +80,10 @@ pub fn write_dropped(
     let mut n = 0;
     let mut q = 0;
     let mut a = 0;
-    let mut k = 0;
-    while k < tour.len() {
-        let c = tour[k];
-        k += 1;
+    for (k, &c) in tour.iter().enumerate() {
+        let position = k + 1;
         if !fits_alone(codes, figures, capacity, c) {
-            to[n] = k;
+            to[n] = position;
             n += 1;
             continue;
         }
@@ -97,7 +91,7 @@ pub fn write_dropped(
         if !is_next(gone, a, q) {
             continue;
         }
-        to[n] = k;
+        to[n] = position;
         n += 1;
         a += 1;
     }

@@ -5,7 +5,7 @@ use native.Mathlib.Nat.{le_refl}
 use native.Mathlib.Omega.{arith}
 use mathlib.Core.Path.{◌≡◌, refl, sym, ap, ap₂, ◌∙◌}
 use mathlib.Core.List.{List, [], ◌∷◌, ◌++◌, append_assoc, append-nil}
-use mathlib.Core.Option.{Option, none, some}
+use Rattle.std.specs.Prelude.{Option, None, Some}
 use lib.ListN.{set, length-set}
 use lib.Seq.{get_or-set_same, get_or-set_other}
 use lib.Ieee.{Float, nan}
@@ -66,7 +66,7 @@ module _ (x : Lists) (F : Full x) (n : ℕ) (l : Label) where
         get_or-set_other x.places n k l.place 0 d,
       )
 
-  pub put_one : n < cells → (o : Option Label) → o ≡ some l → Put n o x (written x n l) (n + 1)
+  pub put_one : n < cells → (o : Option Label) → o ≡ Some l → Put n o x (written x n l) (n + 1)
   unfolding labels_in
   put_one h o e =
       record {
@@ -80,7 +80,7 @@ module _ (x : Lists) (F : Full x) (n : ℕ) (l : Label) where
       }
 
 -- none is put
-pub put-none : (x : Lists) → Full x → (n : ℕ) (o : Option Label) → o ≡ none → Put n o x x n
+pub put-none : (x : Lists) → Full x → (n : ℕ) (o : Option Label) → o ≡ None → Put n o x x n
 put-none x F n o e =
     record { full = F; most = omega arith; are = sym (ap (λ (z : Option Label). labels_in x n ++ listed z) e ∙ append-nil (labels_in x n)); behind = λ k b. refl }
 
@@ -94,11 +94,11 @@ module _ (f : Label → Option Label) where
 
   pub kept-listed : (o : Option Label) → kept f (listed o) ≡ listed (o >>= f)
   unfolding kept
-  kept-listed none = refl
-  kept-listed (some l) = append-nil (listed (f l))
+  kept-listed None = refl
+  kept-listed (Some l) = append-nil (listed (f l))
 
   kept_more : (xs : List Label) (l : Label) → kept f (xs ++ l ∷ []) ≡ kept f xs ++ listed (f l)
-  kept_more xs l = kept_append xs (l ∷ []) ∙ ap (λ (z : List Label). kept f xs ++ z) (kept-listed (some l))
+  kept_more xs l = kept_append xs (l ∷ []) ∙ ap (λ (z : List Label). kept f xs ++ z) (kept-listed (Some l))
 
 -- the first k labels of `old` have served the call, or are left out; `left` are left
 pub record Carrying (f : Label → Option Label) (old new : Lists) (left k : ℕ) : Type 0 where
@@ -128,13 +128,13 @@ module _ (f : Label → Option Label) (old : Lists) where
 
 -- all of them
 pub carry-all : (c : CustomerOf Float) (i : ℕ) (travel : Float) (n : ℕ) (old new : Lists) (left k : ℕ) → k ≡ n
-    → Carrying (serve_f c none i travel) old new left k → Carried c i travel n old new left
+    → Carrying (serve_f c None i travel) old new left k → Carried c i travel n old new left
 carry-all c i travel n old new left k e C =
-    record { full = C.full; fewer = omega (arith, C.fewer); are = C.are ∙ ap (λ (j : ℕ). kept (serve_f c none i travel) (labels_in old j)) e }
+    record { full = C.full; fewer = omega (arith, C.fewer); are = C.are ∙ ap (λ (j : ℕ). kept (serve_f c None i travel) (labels_in old j)) e }
 
 -- and the break taken here
 pub served-all : {c : CustomerOf Float} {b : BreakOf Float} {i : ℕ} {travel : Float} {before o : Option Label} {n left r : ℕ} {old mid new : Lists}
-    → Carried c i travel n old mid left → o ≡ carry_f c (some b) i travel before → Put left o mid new r → Served c b i travel before n old new r
+    → Carried c i travel n old mid left → o ≡ carry_f c (Some b) i travel before → Put left o mid new r → Served c b i travel before n old new r
 served-all C e P =
     record {
       full = P.full;

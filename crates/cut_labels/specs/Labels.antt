@@ -1,7 +1,6 @@
 -- The labels of a run that has taken its break, one for each call at which it was taken, as they stand in lists of numbers; the labels with
 -- a call more, and the best way home. Definitions only.
-use Rattle.std.specs.Prelude.{ℕ, zero, suc, ◌<◌, ◌≤◌, ◌≡◌, List, [], ◌∷◌, ◌++◌, length, get_or, Float}
-use Rattle.std.proofs.Math.Option.{Option, none, some}
+use Rattle.std.specs.Prelude.{ℕ, zero, suc, ◌<◌, ◌≤◌, ◌≡◌, List, [], ◌∷◌, ◌++◌, length, get_or, Float, Option, None, Some}
 use Rattle.std.specs.Float.{nan}
 use Rattle.basics.specs.Options.{◌>>=◌}
 use Rattle.cut_theory.specs.Tab.{cells}
@@ -48,8 +47,8 @@ labels_in x (suc n) = labels_in x n ++ label_at x n ∷ []
 
 -- what there is, as a list
 abbrev pub listed : Option Label → List Label
-listed none = []
-listed (some l) = l ∷ []
+listed None = []
+listed (Some l) = l ∷ []
 
 -- what f makes of each label, where it makes one
 unfoldable pub kept : (Label → Option Label) → List Label → List Label
@@ -69,14 +68,14 @@ pub record Put (n : ℕ) (o : Option Label) (old new : Lists) (r : ℕ) : Type 0
 pub record Carried (c : CustomerOf Float) (k : ℕ) (travel : Float) (n : ℕ) (old new : Lists) (r : ℕ) : Type 0 where
   pub full : Full new
   pub fewer : r ≤ n
-  pub are : labels_in new r ≡ kept (serve_f c none k travel) (labels_in old n)
+  pub are : labels_in new r ≡ kept (serve_f c None k travel) (labels_in old n)
 
 -- the same, with the break taken here from the label before it behind them
 pub record Served (c : CustomerOf Float) (b : BreakOf Float) (k : ℕ) (travel : Float) (before : Option Label) (n : ℕ)
     (old new : Lists) (r : ℕ) : Type 0 where
   pub full : Full new
   pub most : r ≤ suc n
-  pub are : labels_in new r ≡ kept (serve_f c none k travel) (labels_in old n) ++ listed (carry_f c (some b) k travel before)
+  pub are : labels_in new r ≡ kept (serve_f c None k travel) (labels_in old n) ++ listed (carry_f c (Some b) k travel before)
 
 -- ---- the best way home
 

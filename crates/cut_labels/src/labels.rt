@@ -5,16 +5,15 @@ ghost use Rattle.std.specs.Prelude.{◌≡◌, ◌||◌, ◌<◌, ◌≤◌, ltb
 ghost use Rattle.basics.specs.Options.{present};
 ghost use Rattle.cut_theory.specs.Tab.{cells};
 ghost use Rattle.models.specs.Records.{customer_of, break_of};
-ghost use Rattle.clock.specs.Records.{reached_of, finished_of};
 ghost use Rattle.clock.specs.Least.{limits_on};
 ghost use Rattle.cut_labels.specs.Labels.{lists, label_at, labels_in, Full, Put, Carried, Served, unbroken_f, best_f};
 
 use clock::least::{excused_home, kept_home, pick};
-use clock::schedule::{Finished, Label, Reached, carry, serve};
+use clock::schedule::{Label, Scheduled, carry, serve};
 use cut_table::cells::CELLS;
 use models::customer::Customer;
 use models::limits::RouteLimits;
-use models::vehicle::{Rest, VehicleBreak};
+use models::vehicle::VehicleBreak;
 
 // Label number k, from 0.
 pub fn label_at(
@@ -43,14 +42,14 @@ pub fn put(
     pays: &mut [f64; CELLS],
     places: &mut [usize; CELLS],
     n: usize,
-    label: Reached,
+    label: Option<Label>,
 ) -> usize
     requires { Full (lists times.old lates.old pays.old places.old) × (n < cells) }
     ensures { let old = lists times.old lates.old pays.old places.old in
         let new = lists times.new lates.new pays.new places.new in
-        Put n (reached_of label) old new result }
+        Put n label old new result }
 {
-    let Reached::At(l) = label else {
+    let Some(l) = label else {
         return n;
     };
     times[n] = l.time;
@@ -78,10 +77,9 @@ pub fn carry_on(
         Carried (customer_of customer) index travel n old new result }
 {
     let mut left = 0;
-    let mut k = 0;
-    while k < n {
+    for k in 0..n {
         let label = label_at(&*times, &*lates, &*pays, &*places, k);
-        let next = serve(label, travel, customer, index, Rest::Unbroken);
+        let next = serve(label, travel, customer, index, None);
         left = put(
             &mut *times,
             &mut *lates,
@@ -90,7 +88,6 @@ pub fn carry_on(
             left,
             next,
         );
-        k += 1;
     }
     left
 }
@@ -103,7 +100,7 @@ pub fn call_served(
     pays: &mut [f64; CELLS],
     places: &mut [usize; CELLS],
     n: usize,
-    before: Reached,
+    before: Option<Label>,
     travel: f64,
     customer: Customer,
     index: usize,
@@ -112,7 +109,7 @@ pub fn call_served(
     requires { Full (lists times.old lates.old pays.old places.old) × (n < cells) }
     ensures { let old = lists times.old lates.old pays.old places.old in
         let new = lists times.new lates.new pays.new places.new in
-        Served (customer_of customer) (break_of rest) index travel (reached_of before) n old new result }
+        Served (customer_of customer) (break_of rest) index travel before n old new result }
 {
     let left = carry_on(
         &mut *times,
@@ -124,7 +121,7 @@ pub fn call_served(
         customer,
         index,
     );
-    let here = carry(before, travel, customer, index, Rest::Break(rest));
+    let here = carry(before, travel, customer, index, Some(rest));
     put(
         &mut *times,
         &mut *lates,
@@ -136,28 +133,28 @@ pub fn call_served(
 }
 
 // Whether a label is left, before the break or after it.
-pub fn some_left(before: Reached, n: usize) -> bool
-    ensures { result ≡ (present (reached_of before) || ltb 0 n) }
+pub fn some_left(before: Option<Label>, n: usize) -> bool
+    ensures { result ≡ (present before || ltb 0 n) }
 {
     match before {
-        Reached::At(_) => true,
-        Reached::Nowhere => 0 < n,
+        Some(_) => true,
+        None => 0 < n,
     }
 }
 
 // Home without a break, of a label that may be none.
 pub fn unbroken_home(
-    before: Reached,
+    before: Option<Label>,
     rest: VehicleBreak,
     limits: RouteLimits,
     distance: f64,
     back: f64,
-) -> Finished
-    ensures { finished_of result ≡ unbroken_f (limits_on limits) distance back (break_of rest) (reached_of before) }
+) -> Option<Scheduled>
+    ensures { result ≡ unbroken_f (limits_on limits) distance back (break_of rest) before }
 {
     match before {
-        Reached::Nowhere => Finished::Impossible,
-        Reached::At(l) => excused_home(l, rest, limits, distance, back),
+        None => None,
+        Some(l) => excused_home(l, rest, limits, distance, back),
     }
 }
 
@@ -169,22 +166,20 @@ pub fn best_home(
     pays: &[f64; CELLS],
     places: &[usize; CELLS],
     n: usize,
-    before: Reached,
+    before: Option<Label>,
     rest: VehicleBreak,
     limits: RouteLimits,
     distance: f64,
     back: f64,
-) -> Finished
+) -> Option<Scheduled>
     requires { n ≤ cells }
     ensures { let x = lists times.now lates.now pays.now places.now in
-        finished_of result ≡ best_f (limits_on limits) distance back (break_of rest) (reached_of before) (labels_in x n) }
+        result ≡ best_f (limits_on limits) distance back (break_of rest) before (labels_in x n) }
 {
     let mut best = unbroken_home(before, rest, limits, distance, back);
-    let mut k = 0;
-    while k < n {
+    for k in 0..n {
         let label = label_at(times, lates, pays, places, k);
         best = pick(best, kept_home(label, limits, distance, back));
-        k += 1;
     }
     best
 }

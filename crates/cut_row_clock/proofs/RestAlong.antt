@@ -3,7 +3,7 @@ use Prim.Native.Nat.{ℕ, suc, ◌+◌, ◌<◌, ◌≤◌}
 use native.Mathlib.Numerals.{add-one}
 use mathlib.Core.Path.{◌≡◌, sym, ap, subst, ◌∙◌}
 use mathlib.Core.Bool.{Bool, true, false}
-use mathlib.Core.Option.{Option, none, some}
+use Rattle.std.specs.Prelude.{Option, None, Some}
 use lib.ListN.{length, get_or}
 use lib.Dec.{eqb}
 use lib.Ieee.{Float, binary64, add}
@@ -32,13 +32,13 @@ use Rattle.cut_runs.proofs.Calls.{CallIs, leg-open, by_home}
 
 pub record RestAlong (I : Instance) (rest : BreakOf Float) (R : Row) (new : Table) (load : Load) (gone : Float) (clock : ClockF) (m : ℕ) : Type 0 where
   pub along : Along (tariff I) R new load gone m
-  pub is-clock : clock_of I.tables R.st rest m ≡ some clock
+  pub is-clock : clock_of I.tables R.st rest m ≡ Some clock
 
 -- before the first call
 pub rest-setout : {I : Instance} {rest : BreakOf Float} {R : Row} {load : Load} {gone : Float} {clock : ClockF}
     → Along (tariff I) R R.old load gone 0 → clock ≡ begun_f rest → RestAlong I rest R R.old load gone clock 0
 unfolding clock_of
-rest-setout A e = record { along = A; is-clock = ap some (sym e) }
+rest-setout A e = record { along = A; is-clock = ap Some (sym e) }
 
 -- the number of the next call, from 1
 pub first-index : (rest : BreakOf Float) (clock : ClockF) → clock ≡ begun_f rest → clock.index ≡ 0 + 1
@@ -50,20 +50,20 @@ unfolding push_f
 next-index clock clock' cid c travel m e h = ap (λ (x : ClockF). x.index) e ∙ ap (λ (n : ℕ). n + 1) h
 
 -- a call whose load fits, with the leg to it, which is open
-module _ (I : Instance) (by : I.placement ≡ Clock) (rest : BreakOf Float) (broken : I.limits.rest ≡ some rest) {R : Row} {new : Table} {load : Load} {gone : Float}
+module _ (I : Instance) (by : I.placement ≡ Clock) (rest : BreakOf Float) (broken : I.limits.rest ≡ Some rest) {R : Row} {new : Table} {load : Load} {gone : Float}
     {clock : ClockF} {m : ℕ} {load' : Load} {gone' : Float} {clock' : ClockF} (s : StopF) (listed travel leg : Float)
     (A : RestAlong I rest R new load gone clock m) (C : CallIs I.tables R.st m s listed travel)
     (b : m < length R.st) (short : R.i + length R.st ≤ most_cut)
     (es : load' ≡ plus load s.customer.demand)
     (ef : carried load' I.capacity ≡ true)
-    (el : road_f listed ≡ some leg)
+    (el : road_f listed ≡ Some leg)
     (eg : gone' ≡ joined_f gone leg (eqb m 0))
     (ep : clock' ≡ push_f clock (get_or R.st m 0) s.customer travel) where
   -- its number
   abbrev call : ℕ
   call = get_or R.st m 0
 
-  leg-is : leg_f I.tables (place_before R.st m) call ≡ some (record { distance = leg; time = travel })
+  leg-is : leg_f I.tables (place_before R.st m) call ≡ Some (record { distance = leg; time = travel })
   leg-is = leg-open _ listed travel C.leg-is leg el
 
   one_more : OneMore (tariff I) R load gone m load' gone'
@@ -80,10 +80,10 @@ module _ (I : Instance) (by : I.placement ≡ Clock) (rest : BreakOf Float) (bro
         is-gone = eg;
       }
 
-  clock-is : clock_of I.tables R.st rest (suc m) ≡ some clock'
+  clock-is : clock_of I.tables R.st rest (suc m) ≡ Some clock'
   clock-is =
       clock-more I.tables R.st rest m clock _ A.is-clock leg-is
-      ∙ ap some (sym (ep ∙ ap (λ (x : CustomerOf Float). push_f clock call x travel) C.record_is))
+      ∙ ap Some (sym (ep ∙ ap (λ (x : CustomerOf Float). push_f clock call x travel) C.record_is))
 
   -- no label is left
   pub dead : alive_f clock' ≡ false → RowOf (tariff I) R.st R.i R.old new × Ended (tariff I) R.st m
@@ -99,11 +99,11 @@ module _ (I : Instance) (by : I.placement ≡ Clock) (rest : BreakOf Float) (bro
   next new' N = record { along = N; is-clock = ap (clock_of I.tables R.st rest) (add-one m) ∙ clock-is }
 
   -- the run has no end
-  no_end : end_in I R.st (suc m) ≡ none → Next new
+  no_end : end_in I R.st (suc m) ≡ None → Next new
   no_end z = next new (over A.along one_more (not-ended I R.st (suc m) z))
 
   -- the way home is closed
-  homeless : leg_f I.tables call 0 ≡ none → Next new
+  homeless : leg_f I.tables call 0 ≡ None → Next new
   unfolding place_before
   homeless z = no_end (closed-end I R.st (suc m) (home-closed (leg_f I.tables) R.st (suc m) z))
 
@@ -115,26 +115,26 @@ module _ (I : Instance) (by : I.placement ≡ Clock) (rest : BreakOf Float) (bro
 
   -- what the clock reports of the run that ends here
   module _ (o : Option Scheduled) (eo : o ≡ finish_f total s.time_back clock') where
-    end_is : leg_f I.tables call 0 ≡ some home → end_in I R.st (suc m) ≡ ended total o
+    end_is : leg_f I.tables call 0 ≡ Some home → end_in I R.st (suc m) ≡ ended total o
     unfolding place_before
     end_is home-is =
         clock-end I by rest broken R.st (suc m)
         ∙ end-finished I.tables R.st (suc m) total home (far-is A.along one_more home home-is) home-is rest clock' o clock-is (sym eo)
 
     -- the clock has no end
-    pub endless : o ≡ none → Next new
+    pub endless : o ≡ None → Next new
     endless e = by_home C (λ shut _. homeless shut) (λ road. no_end (end_is road ∙ ap (ended total) e))
 
     -- it has one
-    module _ (x : Scheduled) (ex : o ≡ some x) where
+    module _ (x : Scheduled) (ex : o ≡ Some x) where
       abbrev ending : End
       ending = record { distance = total; duration = x.duration; pay = x.cost }
 
       abbrev allows : Bool
       allows = allow_f I.limits.max_distance I.limits.max_duration total x.duration
 
-      module _ (road : leg_f I.tables call 0 ≡ some home) where
-        some_end : end_in I R.st (suc m) ≡ some ending
+      module _ (road : leg_f I.tables call 0 ≡ Some home) where
+        some_end : end_in I R.st (suc m) ≡ Some ending
         some_end = end_is road ∙ ap (ended total) ex
 
         allows-is : allowed_f I R.st (suc m) ≡ allows

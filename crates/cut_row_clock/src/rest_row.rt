@@ -1,7 +1,6 @@
 // Row i of the table with a break where the clock puts it (ga/split_tw.rs): the runs that start at call i,
 // `held[i..j]` for each j behind it.
-ghost use Rattle.std.specs.Prelude.{◌≡◌, ◌+◌, ◌<◌, ◌≤◌, length};
-ghost use Rattle.std.proofs.Math.Option.{some};
+ghost use Rattle.std.specs.Prelude.{◌≡◌, ◌+◌, ◌<◌, ◌≤◌, length, Some};
 ghost use Rattle.models.specs.declared.placement.Placement.TheVariants.{Clock};
 ghost use Rattle.models.specs.Records.{customer_of, break_of};
 ghost use Rattle.clock.specs.Records.{clock_of};
@@ -10,12 +9,12 @@ ghost use Rattle.cut_table.specs.Table.{table};
 ghost use Rattle.cut_runs.specs.Stretch.{last_of};
 ghost use Rattle.cut_runs.specs.Runs.{over_by, row_lists, RowReady, Rowed};
 
-use clock::schedule::{BreakClock, Finished};
+use clock::schedule::BreakClock;
 use cut_runs::terms::Terms;
 use cut_runs::way::{last_call, leg_to, way_to};
 use cut_stops::stops::stop_at;
 use cut_table::cells::{CELLS, offer};
-use distance::matrix::{Road, road_of};
+use distance::matrix::road_of;
 use models::customer::Customer;
 use models::load::Load;
 use models::vehicle::VehicleBreak;
@@ -58,7 +57,7 @@ pub fn rest_row(
         codes.now figures.now in
         let old = table cost.old dist.old pred.old in
         let new = table cost.new dist.new pred.new in
-        Rowed (λ t. over_by t terms Clock (some (break_of rest))) x i old new result }
+        Rowed (λ t. over_by t terms Clock (Some (break_of rest))) x i old new result }
     ensures result_in_bounds { i + result ≤ length held.now }
 {
     let base = cost[i] + terms.fixed;
@@ -67,8 +66,7 @@ pub fn rest_row(
     let mut gone = 0.0;
     let mut clock = BreakClock::new(rest);
     let left = held.len() - i;
-    let mut m = 0;
-    while m < left {
+    for m in 0..left {
         let last = i + m;
         let j = last + 1;
         let run = &held[i..j];
@@ -77,7 +75,7 @@ pub fn rest_row(
         if !load.fits(terms.capacity) {
             return m;
         }
-        let Road::Length(leg) = road_of(leg_to(run, stop.out, legs[last])) else {
+        let Some(leg) = road_of(leg_to(run, stop.out, legs[last])) else {
             return m;
         };
         gone = way_to(run, gone, leg);
@@ -86,9 +84,8 @@ pub fn rest_row(
         if !clock.alive() {
             return m;
         }
-        m += 1;
         let total = gone + stop.back;
-        let Finished::Home(done) = clock.finish(total, stop.time_back) else {
+        let Some(done) = clock.finish(total, stop.time_back) else {
             continue;
         };
         if !terms.limits.allow(total, done.duration) {
@@ -98,5 +95,5 @@ pub fn rest_row(
         let far = before + total;
         offer(&mut *cost, &mut *dist, &mut *pred, j, i, new, far);
     }
-    m
+    left
 }

@@ -5,7 +5,7 @@ use native.Mathlib.Omega.{arith}
 use mathlib.Core.Path.{◌≡◌, refl, sym, ap, subst, ◌∙◌}
 use mathlib.Core.Bool.{true, false, ◌||◌}
 use mathlib.Core.List.{List, [], ◌++◌}
-use mathlib.Core.Option.{Option, none, some}
+use Rattle.std.specs.Prelude.{Option, None, Some}
 use lib.ListN.{get_or}
 use lib.Dec.{ltb}
 use lib.Ieee.{Float, binary64, add}
@@ -46,23 +46,23 @@ pub record LeastAlong (I : Instance) (rest : BreakOf Float) (R : Row) (new : Tab
 
 -- before the first call
 pub least-setout : {I : Instance} {rest : BreakOf Float} {R : Row} {load : Load} {gone : Float} {before : Option Label} {ls : List Label}
-    → Along (tariff I) R R.old load gone 0 → before ≡ some start_label → ls ≡ [] → LeastAlong I rest R R.old load gone before ls 0
+    → Along (tariff I) R R.old load gone 0 → before ≡ Some start_label → ls ≡ [] → LeastAlong I rest R R.old load gone before ls 0
 unfolding label_of all_to
 least-setout A eb el = record { along = A; labelled = record { is-before = eb; are-after = el } }
 
 -- no label is left, before the break or after it
-pub none_left : (before : Option Label) (x : Lists) (n : ℕ) → (present before || ltb 0 n) ≡ false → (before ≡ none) × (labels_in x n ≡ [])
+pub none_left : (before : Option Label) (x : Lists) (n : ℕ) → (present before || ltb 0 n) ≡ false → (before ≡ None) × (labels_in x n ≡ [])
 unfolding labels_in
 none_left before x n e =
     let z : n ≡ 0 = omega (arith, ltb-false 0 n (or_right (present before) (ltb 0 n) e)) in
     (absent (or_left (present before) (ltb 0 n) e), ap (labels_in x) z)
 
 -- one call more; k is its number, from 1
-module _ (I : Instance) (by : I.placement ≡ Least) (rest : BreakOf Float) (broken : I.limits.rest ≡ some rest) {R : Row} {new : Table} {load : Load} {gone : Float}
+module _ (I : Instance) (by : I.placement ≡ Least) (rest : BreakOf Float) (broken : I.limits.rest ≡ Some rest) {R : Row} {new : Table} {load : Load} {gone : Float}
     {before : Option Label} {ls : List Label} {m : ℕ} {s : StopF} {travel : Float} {load' : Load} {gone' : Float} {before' : Option Label} {ls' : List Label}
     (K : Called I R new load gone m s travel load' gone') (L : Labelled I.tables R.st rest m before ls) (k : ℕ) (ek : k ≡ suc m)
-    (en : before' ≡ carry_f s.customer none k travel before)
-    (ea : ls' ≡ kept (serve_f s.customer none k travel) ls ++ listed (carry_f s.customer (some rest) k travel before)) where
+    (en : before' ≡ carry_f s.customer None k travel before)
+    (ea : ls' ≡ kept (serve_f s.customer None k travel) ls ++ listed (carry_f s.customer (Some rest) k travel before)) where
   abbrev t : Tables
   t = I.tables
 
@@ -74,7 +74,7 @@ module _ (I : Instance) (by : I.placement ≡ Least) (rest : BreakOf Float) (bro
   after-are = ea ∙ rw (ek, K.is-call.record_is, L.is-before, L.are-after) refl ∙ sym (all_more t R.st rest m _ (leg-is K))
 
   -- no label is left
-  pub unplaced : before' ≡ none → ls' ≡ [] → RowOf (tariff I) R.st R.i R.old new × Ended (tariff I) R.st m
+  pub unplaced : before' ≡ None → ls' ≡ [] → RowOf (tariff I) R.st R.i R.old new × Ended (tariff I) R.st m
   unplaced zb zl =
       let E = unplaced-over I R.st m K.along.within by rest broken (sym before-is ∙ zb) (sym after-are ∙ zl) in
       (stopped K.along K.inside E, E)
@@ -93,7 +93,7 @@ module _ (I : Instance) (by : I.placement ≡ Least) (rest : BreakOf Float) (bro
   -- this is the best way home, as it is listed
   module _ (o : Option Scheduled) (eo : o ≡ best_f (kept_of t R.st (suc m) I.limits) (total K) s.time_back rest before' ls') where
     -- it is open
-    module _ (road : leg_f t (get_or R.st m 0) 0 ≡ some (home K)) where
+    module _ (road : leg_f t (get_or R.st m 0) 0 ≡ Some (home K)) where
       best-is : o ≡ least_of t R.st rest (kept_of t R.st (suc m) I.limits) (suc m)
       best-is =
           eo ∙ rw (before-is, after-are) refl
@@ -102,16 +102,16 @@ module _ (I : Instance) (by : I.placement ≡ Least) (rest : BreakOf Float) (bro
       end_is : end_in I R.st (suc m) ≡ as_end o
       end_is = least-end I by rest broken R.st (suc m) ∙ ap as_end (sym best-is)
 
-      keeps : (x : Scheduled) → o ≡ some x → allow_f I.limits.max_distance I.limits.max_duration x.distance x.duration ≡ true
+      keeps : (x : Scheduled) → o ≡ Some x → allow_f I.limits.max_distance I.limits.max_duration x.distance x.duration ≡ true
       keeps x e =
           subst (Keeps (kept_of t R.st (suc m) I.limits)) (sym best-is ∙ e) (least-keeps t R.st rest (kept_of t R.st (suc m) I.limits) (suc m) (suc m))
 
     -- there is none
-    pub endless : o ≡ none → Next new
+    pub endless : o ≡ None → Next new
     endless e = next new (by_home K.is-call (λ shut _. no-home K shut) (λ road. no_end K (end_is road ∙ ap as_end e)))
 
     -- there is one
-    pub put : (x : Scheduled) → o ≡ some x → (j : ℕ) (new' : Table) → j ≡ R.i + (m + 1)
+    pub put : (x : Scheduled) → o ≡ Some x → (j : ℕ) (new' : Table) → j ≡ R.i + (m + 1)
         → Offered j R.i (add binary64 (add binary64 R.base (total K)) x.cost) (add binary64 R.ahead (total K)) new new' → Next new'
     put x ex j new' ej O =
         by_home K.is-call (λ shut none-listed. subst Next (sym (vain R.base gone' s.back x.cost none-listed O)) (next new (no-home K shut)))

@@ -1,21 +1,20 @@
 // Row i of the table with a break at its best place: the runs that start at call i, `held[i..j]` for each j
 // behind it.
-ghost use Rattle.std.proofs.Math.Option.{some};
-ghost use Rattle.std.specs.Prelude.{◌+◌, ◌≤◌, length};
+ghost use Rattle.std.specs.Prelude.{◌+◌, ◌≤◌, length, Some};
 ghost use Rattle.models.specs.declared.placement.Placement.TheVariants.{Least};
 ghost use Rattle.models.specs.Records.{break_of};
 ghost use Rattle.cut_table.specs.Table.{table};
 ghost use Rattle.cut_runs.specs.Runs.{over_by, row_lists, RowReady, Rowed};
 
-use clock::schedule::{Finished, Label, Reached, carry};
+use clock::schedule::{Label, carry};
 use cut_labels::labels::{best_home, call_served, some_left};
 use cut_runs::terms::Terms;
 use cut_runs::way::{last_call, leg_to, way_to};
 use cut_stops::stops::stop_at;
 use cut_table::cells::{CELLS, offer};
-use distance::matrix::{Road, road_of};
+use distance::matrix::road_of;
 use models::load::Load;
-use models::vehicle::{Rest, VehicleBreak};
+use models::vehicle::VehicleBreak;
 
 // Row i with a break at its best place: the labels of all places are handed each run in turn.
 pub fn least_row(
@@ -37,7 +36,7 @@ pub fn least_row(
         codes.now figures.now in
         let old = table cost.old dist.old pred.old in
         let new = table cost.new dist.new pred.new in
-        Rowed (λ t. over_by t terms Least (some (break_of rest))) x i old new result }
+        Rowed (λ t. over_by t terms Least (Some (break_of rest))) x i old new result }
     ensures result_in_bounds { i + result ≤ length held.now }
 {
     let base = cost[i] + terms.fixed;
@@ -47,12 +46,11 @@ pub fn least_row(
     let mut pays = [0.0; CELLS];
     let mut places = [0usize; CELLS];
     let mut n = 0;
-    let mut before = Reached::At(Label::start());
+    let mut before = Some(Label::start());
     let mut load = Load::none();
     let mut gone = 0.0;
     let left = held.len() - i;
-    let mut m = 0;
-    while m < left {
+    for m in 0..left {
         let last = i + m;
         let j = last + 1;
         let run = &held[i..j];
@@ -61,7 +59,7 @@ pub fn least_row(
         if !load.fits(terms.capacity) {
             return m;
         }
-        let Road::Length(leg) = road_of(leg_to(run, stop.out, legs[last])) else {
+        let Some(leg) = road_of(leg_to(run, stop.out, legs[last])) else {
             return m;
         };
         gone = way_to(run, gone, leg);
@@ -79,13 +77,12 @@ pub fn least_row(
             number,
             rest,
         );
-        before = carry(before, travel, stop.customer, number, Rest::Unbroken);
+        before = carry(before, travel, stop.customer, number, None);
         if !some_left(before, n) {
             return m;
         }
-        m = number;
         let total = gone + stop.back;
-        let Finished::Home(done) = best_home(
+        let Some(done) = best_home(
             &times,
             &lates,
             &pays,
@@ -103,5 +100,5 @@ pub fn least_row(
         let far = ahead + total;
         offer(&mut *cost, &mut *dist, &mut *pred, j, i, new, far);
     }
-    m
+    left
 }

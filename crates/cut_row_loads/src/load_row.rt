@@ -8,7 +8,7 @@ use cut_runs::terms::Terms;
 use cut_runs::way::{last_call, leg_to, way_to};
 use cut_stops::stops::stop_at;
 use cut_table::cells::{CELLS, offer};
-use distance::matrix::{Road, road_of};
+use distance::matrix::road_of;
 use models::load::Load;
 
 // The same by loads and closed legs alone: no time is kept, and nothing is late.
@@ -38,8 +38,7 @@ pub fn load_row(
     let mut load = Load::none();
     let mut gone = 0.0;
     let left = held.len() - i;
-    let mut m = 0;
-    while m < left {
+    for m in 0..left {
         let last = i + m;
         let j = last + 1;
         let run = &held[i..j];
@@ -48,16 +47,15 @@ pub fn load_row(
         if !load.fits(terms.capacity) {
             return m;
         }
-        let Road::Length(leg) = road_of(leg_to(run, stop.out, legs[last])) else {
+        let Some(leg) = road_of(leg_to(run, stop.out, legs[last])) else {
             return m;
         };
         gone = way_to(run, gone, leg);
-        m += 1;
         let total = gone + stop.back;
         // nothing is paid for lateness; it is added, since the other rows add it
         let new = base + total + 0.0;
         let far = before + total;
         offer(&mut *cost, &mut *dist, &mut *pred, j, i, new, far);
     }
-    m
+    left
 }

@@ -3,7 +3,7 @@ use Prim.Native.Nat.{ℕ, suc, ◌+◌, ◌<◌, ◌≤◌}
 use native.Mathlib.Numerals.{add-one}
 use mathlib.Core.Path.{◌≡◌, refl, sym, ap, subst, ◌∙◌}
 use mathlib.Core.Bool.{Bool, true, false}
-use mathlib.Core.Option.{none, some}
+use Rattle.std.specs.Prelude.{None, Some}
 use lib.ListN.{length, get_or}
 use lib.Dec.{eqb}
 use lib.Ieee.{Float, binary64, add}
@@ -29,7 +29,7 @@ use Rattle.cut_runs.proofs.Calls.{CallIs, leg-open, by_home}
 
 pub record PlainAlong (I : Instance) (R : Row) (new : Table) (load : Load) (gone time late : Float) (m : ℕ) : Type 0 where
   pub along : Along (tariff I) R new load gone m
-  pub timed : timed_of I.tables R.st m ≡ some (record { time = time; late_cost = late })
+  pub timed : timed_of I.tables R.st m ≡ Some (record { time = time; late_cost = late })
 
 -- before the first call
 pub plain-setout : {I : Instance} {R : Row} {load : Load} {gone time late : Float} → Along (tariff I) R R.old load gone 0
@@ -38,20 +38,20 @@ unfolding timed_of
 plain-setout A et el = record { along = A; timed = rw (et, el) refl }
 
 -- a call whose load fits, with the leg to it, which is open
-module _ (I : Instance) (unbroken : I.limits.rest ≡ none) {R : Row} {new : Table} {load : Load} {gone time late : Float} {m : ℕ}
+module _ (I : Instance) (unbroken : I.limits.rest ≡ None) {R : Row} {new : Table} {load : Load} {gone time late : Float} {m : ℕ}
     {load' : Load} {gone' : Float} (s : StopF) (listed travel arrival leg : Float)
     (A : PlainAlong I R new load gone time late m) (C : CallIs I.tables R.st m s listed travel)
     (b : m < length R.st) (short : R.i + length R.st ≤ most_cut)
     (es : load' ≡ plus load s.customer.demand)
     (ef : carried load' I.capacity ≡ true)
-    (el : road_f listed ≡ some leg)
+    (el : road_f listed ≡ Some leg)
     (eg : gone' ≡ joined_f gone leg (eqb m 0))
     (ea : arrival ≡ joined_f time travel (eqb m 0)) where
   -- its number
   abbrev call : ℕ
   call = get_or R.st m 0
 
-  leg-is : leg_f I.tables (place_before R.st m) call ≡ some (record { distance = leg; time = travel })
+  leg-is : leg_f I.tables (place_before R.st m) call ≡ Some (record { distance = leg; time = travel })
   leg-is = leg-open _ listed travel C.leg-is leg el
 
   one_more : OneMore (tariff I) R load gone m load' gone'
@@ -72,13 +72,13 @@ module _ (I : Instance) (unbroken : I.limits.rest ≡ none) {R : Row} {new : Tab
   timed-is = timed-more I.tables R.st m _ _ A.timed leg-is ∙ rw (C.record_is, ea) refl
 
   -- a window that is shut
-  pub shut : visit_f s.customer arrival late ≡ none → RowOf (tariff I) R.st R.i R.old new × Ended (tariff I) R.st m
+  pub shut : visit_f s.customer arrival late ≡ None → RowOf (tariff I) R.st R.i R.old new × Ended (tariff I) R.st m
   shut e =
       let E = shut-over I R.st m A.along.within unbroken (timed-is ∙ e) in
       (stopped A.along b E, E)
 
   -- a call that is served
-  module _ (v : Elapsed) (ev : visit_f s.customer arrival late ≡ some v) where
+  module _ (v : Elapsed) (ev : visit_f s.customer arrival late ≡ Some v) where
     -- after it
     abbrev Next : Table → Type 0
     Next new' = PlainAlong I R new' load' gone' v.time v.late_cost (m + 1)
@@ -87,7 +87,7 @@ module _ (I : Instance) (unbroken : I.limits.rest ≡ none) {R : Row} {new : Tab
     next new' N = record { along = N; timed = ap (timed_of I.tables R.st) (add-one m) ∙ timed-is ∙ ev }
 
     -- the way home is closed
-    homeless : leg_f I.tables call 0 ≡ none → Next new
+    homeless : leg_f I.tables call 0 ≡ None → Next new
     unfolding place_before
     homeless z =
         next new
@@ -104,11 +104,11 @@ module _ (I : Instance) (unbroken : I.limits.rest ≡ none) {R : Row} {new : Tab
     allows = allow_f I.limits.max_distance I.limits.max_duration total (add binary64 v.time s.time_back)
 
     -- it is open
-    module _ (home-is : leg_f I.tables call 0 ≡ some home) where
+    module _ (home-is : leg_f I.tables call 0 ≡ Some home) where
       abbrev ending : End
       ending = record { distance = total; duration = add binary64 v.time s.time_back; pay = v.late_cost }
 
-      end_is : end_in I R.st (suc m) ≡ some ending
+      end_is : end_in I R.st (suc m) ≡ Some ending
       unfolding place_before
       end_is =
           plain_end I unbroken R.st (suc m)

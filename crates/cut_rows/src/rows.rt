@@ -1,7 +1,6 @@
 // Row i of the table of the cut by windows, limits and break (ga/split_tw.rs): the runs that start at
 // call i, `held[i..j]` for each j behind it.
-ghost use Rattle.std.proofs.Math.Option.{none, some};
-ghost use Rattle.std.specs.Prelude.{◌+◌, ◌≤◌, length};
+ghost use Rattle.std.specs.Prelude.{◌+◌, ◌≤◌, length, None, Some};
 ghost use Rattle.models.specs.Records.{break_of};
 ghost use Rattle.cut_table.specs.Table.{table};
 ghost use Rattle.cut_runs.specs.Runs.{over_by, over, row_lists, RowReady, Rowed};
@@ -10,14 +9,14 @@ use cut_row_clock::rest_row::rest_row;
 use cut_row_least::least_row::least_row;
 use cut_row_loads::load_row::load_row;
 use cut_runs::terms::Terms;
-use cut_runs::visit::{Visited, visit};
+use cut_runs::visit::visit;
 use cut_runs::way::{last_call, leg_to, way_to};
 use cut_stops::stops::stop_at;
 use cut_table::cells::{CELLS, offer};
-use distance::matrix::{Road, road_of};
+use distance::matrix::road_of;
 use models::load::Load;
 use models::placement::Placement;
-use models::vehicle::{Rest, VehicleBreak};
+use models::vehicle::VehicleBreak;
 
 // Row i without a break: each run that starts at call i, after the best of the calls before it. Gives
 // how many calls the row goes over; no run that goes on from there is legal. A closed leg to a call ends
@@ -41,7 +40,7 @@ pub fn plain_row(
         codes.now figures.now in
         let old = table cost.old dist.old pred.old in
         let new = table cost.new dist.new pred.new in
-        Rowed (λ t. over_by t terms terms.placement none) x i old new result }
+        Rowed (λ t. over_by t terms terms.placement None) x i old new result }
     ensures result_in_bounds { i + result ≤ length held.now }
 {
     let base = cost[i] + terms.fixed;
@@ -51,8 +50,7 @@ pub fn plain_row(
     let mut time = 0.0;
     let mut late_cost = 0.0;
     let left = held.len() - i;
-    let mut m = 0;
-    while m < left {
+    for m in 0..left {
         let last = i + m;
         let j = last + 1;
         let run = &held[i..j];
@@ -61,17 +59,16 @@ pub fn plain_row(
         if !load.fits(terms.capacity) {
             return m;
         }
-        let Road::Length(leg) = road_of(leg_to(run, stop.out, legs[last])) else {
+        let Some(leg) = road_of(leg_to(run, stop.out, legs[last])) else {
             return m;
         };
         gone = way_to(run, gone, leg);
         let arrival = way_to(run, time, leg_to(run, stop.time_out, time_legs[last]));
-        let Visited::Open(v) = visit(stop.customer, arrival, late_cost) else {
+        let Some(v) = visit(stop.customer, arrival, late_cost) else {
             return m;
         };
         time = v.time;
         late_cost = v.late_cost;
-        m += 1;
         let total = gone + stop.back;
         if !terms.limits.allow(total, time + stop.time_back) {
             continue;
@@ -80,7 +77,7 @@ pub fn plain_row(
         let far = before + total;
         offer(&mut *cost, &mut *dist, &mut *pred, j, i, new, far);
     }
-    m
+    left
 }
 
 // Row i with this break, by the placement.
@@ -103,7 +100,7 @@ pub fn broken_row(
         codes.now figures.now in
         let old = table cost.old dist.old pred.old in
         let new = table cost.new dist.new pred.new in
-        Rowed (λ t. over_by t terms terms.placement (some (break_of rest))) x i old new result }
+        Rowed (λ t. over_by t terms terms.placement (Some (break_of rest))) x i old new result }
     ensures result_in_bounds { i + result ≤ length held.now }
 {
     let placement = terms.placement;
@@ -149,10 +146,10 @@ pub fn row(
     let limits = terms.limits;
     let rest = limits.rest;
     match rest {
-        Rest::Unbroken => plain_row(
+        None => plain_row(
             &mut *cost, &mut *dist, &mut *pred, held, legs, time_legs, codes, figures, terms, i,
         ),
-        Rest::Break(b) => broken_row(
+        Some(b) => broken_row(
             &mut *cost, &mut *dist, &mut *pred, held, legs, time_legs, codes, figures, terms, b, i,
         ),
     }

@@ -6,7 +6,7 @@ use native.Mathlib.Omega.{arith}
 use mathlib.Core.Path.{◌≡◌, refl, sym, ap, ap₂, subst, ◌∙◌}
 use mathlib.Core.Bool.{Bool, true, false, ◌&&◌, and-false, false≢true}
 use mathlib.Core.List.{List, ◌∷◌}
-use mathlib.Core.Option.{some}
+use Rattle.std.specs.Prelude.{Some}
 use lib.ListN.{length, get_or}
 use lib.Dec.{eqb}
 use lib.Ieee.{Float, nan, inf, fin, binary64, add, eq, lt}
@@ -48,7 +48,7 @@ module _ (T : Tariff) (R : Row) where
     pub is-ahead : R.ahead ≡ get_or R.old.far R.i nan
     pub within : m ≤ length R.st
     pub is-load : load ≡ load_to T.demand R.st m
-    pub is-gone : gone_of T.leg R.st m ≡ some gone
+    pub is-gone : gone_of T.leg R.st m ≡ Some gone
     pub filling : FilledTo (R.i + m) new
 
   -- before the first call
@@ -63,7 +63,7 @@ module _ (T : Tariff) (R : Row) where
         is-ahead = w;
         within = omega arith;
         is-load = l;
-        is-gone = ap some (sym g);
+        is-gone = ap Some (sym g);
         filling =
             rw add-zero
             (outset (runs_of T (λ _. R.st)) (fars_of T (λ _. R.st)) R.i o.cost o.far o.pred z.cost-long z.far-long z.pred-long);
@@ -106,7 +106,7 @@ pub record OneMore (T : Tariff) (R : Row) (load : Load) (gone : Float) (m : ℕ)
   pub is-demand : demand ≡ T.demand (get_or R.st m 0)
   pub is-load : load' ≡ plus load demand
   pub fits : carried load' T.capacity ≡ true
-  pub is-leg : T.leg (place_before R.st m) (get_or R.st m 0) ≡ some leg
+  pub is-leg : T.leg (place_before R.st m) (get_or R.st m 0) ≡ Some leg
   pub is-gone : gone' ≡ joined_f gone leg.distance (eqb m 0)
 
 module _ {T : Tariff} {R : Row} {new : Table} {load : Load} {gone : Float} {m : ℕ} {load' : Load} {gone' : Float}
@@ -114,11 +114,11 @@ module _ {T : Tariff} {R : Row} {new : Table} {load : Load} {gone : Float} {m : 
   load_is : load' ≡ load_to T.demand R.st (suc m)
   load_is = load-next A O.demand load' O.is-demand O.is-load
 
-  gone-is : gone_of T.leg R.st (suc m) ≡ some gone'
+  gone-is : gone_of T.leg R.st (suc m) ≡ Some gone'
   unfolding gone_of
   gone-is = rw (A.is-gone, O.is-leg, O.is-gone) refl
 
-  pub far-is : (home : Leg) → T.leg (get_or R.st m 0) 0 ≡ some home → way_of T.leg R.st (suc m) ≡ some (add binary64 gone' home.distance)
+  pub far-is : (home : Leg) → T.leg (get_or R.st m 0) 0 ≡ Some home → way_of T.leg R.st (suc m) ≡ Some (add binary64 gone' home.distance)
   unfolding way_of place_before
   far-is home eh = rw (gone-is, eh) refl
 
@@ -154,7 +154,7 @@ module _ {T : Tariff} {R : Row} {new : Table} {load : Load} {gone : Float} {m : 
       (i + (m + 1)) (omega arith) (omega (arith, O.inside, O.short)) (rw is_m (rw z refl)))
 
   -- it is
-  pub onward : (home : Leg) (cost : Float) (j : ℕ) (new' : Table) → T.leg (get_or R.st m 0) 0 ≡ some home → T.allowed R.st (suc m) ≡ true
+  pub onward : (home : Leg) (cost : Float) (j : ℕ) (new' : Table) → T.leg (get_or R.st m 0) 0 ≡ Some home → T.allowed R.st (suc m) ≡ true
       → cost ≡ added R.base (add binary64 gone' home.distance ∷ T.pays R.st (suc m)) → j ≡ R.i + (m + 1)
       → Offered j R.i cost (add binary64 R.ahead (add binary64 gone' home.distance)) new new' → Next new'
   unfolding legal_of far_of

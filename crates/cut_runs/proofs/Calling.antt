@@ -2,7 +2,7 @@
 use Prim.Native.Nat.{ℕ, suc, ◌+◌, ◌<◌, ◌≤◌}
 use mathlib.Core.Path.{◌≡◌, sym, ap, ◌∙◌}
 use mathlib.Core.Bool.{Bool, true}
-use mathlib.Core.Option.{none, some}
+use Rattle.std.specs.Prelude.{None, Some}
 use lib.ListN.{length, get_or}
 use lib.Dec.{eqb}
 use lib.Ieee.{Float, binary64, add}
@@ -33,7 +33,7 @@ pub record Called (I : Instance) (R : Row) (new : Table) (load : Load) (gone : F
   pub short : R.i + length R.st ≤ most_cut
   pub is-load : load' ≡ plus load s.customer.demand
   pub fits : carried load' I.capacity ≡ true
-  pub is-leg : road_f listed ≡ some leg
+  pub is-leg : road_f listed ≡ Some leg
   pub is-gone : gone' ≡ joined_f gone leg (eqb m 0)
 
 module _ {I : Instance} {R : Row} {new : Table} {load : Load} {gone : Float} {m : ℕ} {s : StopF} {travel : Float} {load' : Load} {gone' : Float}
@@ -42,7 +42,7 @@ module _ {I : Instance} {R : Row} {new : Table} {load : Load} {gone : Float} {m 
   abbrev call : ℕ
   call = get_or R.st m 0
 
-  pub leg-is : leg_f I.tables (place_before R.st m) call ≡ some (record { distance = K.leg; time = travel })
+  pub leg-is : leg_f I.tables (place_before R.st m) call ≡ Some (record { distance = K.leg; time = travel })
   leg-is = leg-open _ K.listed travel K.is-call.leg-is K.leg K.is-leg
 
   one_more : OneMore (tariff I) R load gone m load' gone'
@@ -64,11 +64,11 @@ module _ {I : Instance} {R : Row} {new : Table} {load : Load} {gone : Float} {m 
   Next new' = Along (tariff I) R new' load' gone' (m + 1)
 
   -- the run has no end
-  pub no_end : end_in I R.st (suc m) ≡ none → Next new
+  pub no_end : end_in I R.st (suc m) ≡ None → Next new
   no_end z = over K.along one_more (not-ended I R.st (suc m) z)
 
   -- the way home is closed
-  pub no-home : leg_f I.tables call 0 ≡ none → Next new
+  pub no-home : leg_f I.tables call 0 ≡ None → Next new
   unfolding place_before
   no-home z = no_end (closed-end I R.st (suc m) (home-closed (leg_f I.tables) R.st (suc m) z))
 
@@ -80,16 +80,16 @@ module _ {I : Instance} {R : Row} {new : Table} {load : Load} {gone : Float} {m 
   total = add binary64 gone' s.back
 
   -- it is open
-  module _ (home-is : leg_f I.tables call 0 ≡ some home) where
-    pub way-is : way_of (leg_f I.tables) R.st (suc m) ≡ some total
+  module _ (home-is : leg_f I.tables call 0 ≡ Some home) where
+    pub way-is : way_of (leg_f I.tables) R.st (suc m) ≡ Some total
     way-is = far-is K.along one_more home home-is
 
-    pub back_is : leg_f I.tables (place_before R.st (suc m)) 0 ≡ some home
+    pub back_is : leg_f I.tables (place_before R.st (suc m)) 0 ≡ Some home
     unfolding place_before
     back_is = home-is
 
     -- and the run has this end
-    module _ (x : End) (e : end_in I R.st (suc m) ≡ some x) where
+    module _ (x : End) (e : end_in I R.st (suc m) ≡ Some x) where
       abbrev allows : Bool
       allows = allow_f I.limits.max_distance I.limits.max_duration x.distance x.duration
 

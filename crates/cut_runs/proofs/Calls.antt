@@ -5,7 +5,7 @@ use native.Mathlib.Omega.{arith}
 use mathlib.Core.Path.{◌≡◌, refl, sym, ap, ap₂, ◌∙◌}
 use mathlib.Core.Bool.{Bool, cond}
 use mathlib.Core.List.{List}
-use mathlib.Core.Option.{Option, none, some}
+use Rattle.std.specs.Prelude.{Option, None, Some}
 use lib.ListN.{length, get_or, take, drop, length-drop}
 use lib.Seq.{length-take-le, get_or-take, get_or-drop}
 use lib.Dec.{eqb}
@@ -124,26 +124,26 @@ call-is t x W L B {i} {m} R h s leg travel es el et =
 -- ---- what the row learns of such a leg
 
 module _ (o : Option Leg) (distance time : Float) (e : o ≡ leg_by distance time) where
-  pub leg-closed : road_f distance ≡ none → o ≡ none
+  pub leg-closed : road_f distance ≡ None → o ≡ None
   unfolding leg_by
   leg-closed z = e ∙ rw z
 
-  pub leg-open : (d : Float) → road_f distance ≡ some d → o ≡ some (record { distance = d; time = time })
+  pub leg-open : (d : Float) → road_f distance ≡ Some d → o ≡ Some (record { distance = d; time = time })
   unfolding leg_by
   leg-open d z = e ∙ rw z
 
 -- ---- and of the way home: it is closed, and listed as no number, or it is the leg that is listed
 
 pub by_home : {A : Type 0} {t : Tables} {st : List ℕ} {m : ℕ} {s : StopF} {leg travel : Float} → CallIs t st m s leg travel
-    → (leg_f t (get_or st m 0) 0 ≡ none → s.back ≡ nan → A)
-    → (leg_f t (get_or st m 0) 0 ≡ some (record { distance = s.back; time = s.time_back }) → A)
+    → (leg_f t (get_or st m 0) 0 ≡ None → s.back ≡ nan → A)
+    → (leg_f t (get_or st m 0) 0 ≡ Some (record { distance = s.back; time = s.time_back }) → A)
     → A
 unfolding listed_as
 by_home {A} {t} {st} {m} {s} C shut road = go (leg_f t (get_or st m 0) 0) refl
   where
     go : (o : Option Leg) → leg_f t (get_or st m 0) 0 ≡ o → A
-    go none e = shut e (C.back_is ∙ ap (λ (o : Option Leg). (listed_home o).distance) e)
-    go (some home) e =
+    go None e = shut e (C.back_is ∙ ap (λ (o : Option Leg). (listed_home o).distance) e)
+    go (Some home) e =
         let far : s.back ≡ home.distance = C.back_is ∙ ap (λ (o : Option Leg). (listed_home o).distance) e in
         let long : s.time_back ≡ home.time = C.time-back-is ∙ ap (λ (o : Option Leg). (listed_home o).time) e in
         road (e ∙ rw (far, long) refl)

@@ -5,7 +5,7 @@ use native.Mathlib.Omega.{arith}
 use mathlib.Core.Path.{◌≡◌, sym, ap, ap₂, ◌∙◌}
 use mathlib.Core.Bool.{Bool, false, ◌&&◌, and-false}
 use mathlib.Core.List.{List, []}
-use mathlib.Core.Option.{none, some}
+use Rattle.std.specs.Prelude.{None, Some}
 use lib.ListN.{length, get_or, take}
 use lib.Ieee.{Float}
 use Rattle.cut_table.specs.Table.{Table}
@@ -52,7 +52,7 @@ module _ (T : Tariff) (st : List ℕ) (r : ℕ) (b : r ≤ length st) where
 
 module _ (I : Instance) (st : List ℕ) (r : ℕ) (b : r ≤ length st) where
   -- a window that is shut
-  pub shut-over : I.limits.rest ≡ none → timed_of I.tables st (suc r) ≡ none → Ended (tariff I) st r
+  pub shut-over : I.limits.rest ≡ None → timed_of I.tables st (suc r) ≡ None → Ended (tariff I) st r
   shut-over unbroken e =
       not-allowed (tariff I) st r b
       (λ st' a m h.
@@ -61,7 +61,7 @@ module _ (I : Instance) (st : List ℕ) (r : ℕ) (b : r ≤ length st) where
       ∙ end-shut I.tables st' m (timed-shut I.tables st' (suc r) (timed-alike (suc r) st' st a I.tables (suc r) (le_refl _) ∙ e) m h)))
 
   -- a clock with no label left
-  pub dead-over : I.placement ≡ Clock → (rest : BreakOf Float) → I.limits.rest ≡ some rest → (x : ClockF) → clock_of I.tables st rest (suc r) ≡ some x → alive_f x ≡ false
+  pub dead-over : I.placement ≡ Clock → (rest : BreakOf Float) → I.limits.rest ≡ Some rest → (x : ClockF) → clock_of I.tables st rest (suc r) ≡ Some x → alive_f x ≡ false
       → Ended (tariff I) st r
   dead-over by rest broken x e z =
       not-allowed (tariff I) st r b
@@ -71,7 +71,7 @@ module _ (I : Instance) (st : List ℕ) (r : ℕ) (b : r ≤ length st) where
       ∙ end-dead I.tables st' rest (suc r) x (clock-alike (suc r) st' st a I.tables rest (suc r) (le_refl _) ∙ e) z m h))
 
   -- no label of any break place left
-  pub unplaced-over : I.placement ≡ Least → (rest : BreakOf Float) → I.limits.rest ≡ some rest → label_of I.tables st rest 0 (suc r) ≡ none
+  pub unplaced-over : I.placement ≡ Least → (rest : BreakOf Float) → I.limits.rest ≡ Some rest → label_of I.tables st rest 0 (suc r) ≡ None
       → all_to I.tables st rest (suc r) (suc r) ≡ [] → Ended (tariff I) st r
   unplaced-over by rest broken gone none_left =
       not-allowed (tariff I) st r b
@@ -86,11 +86,11 @@ module _ (I : Instance) (st : List ℕ) (r : ℕ) (b : r ≤ length st) where
       all_alike st' a p = labels-same I.tables st' st rest (suc r) (λ q. label-alike (suc r) st' st a I.tables rest q (suc r) (le_refl _)) p
 
   -- a closed leg to the next call
-  pub closed-over : leg_f I.tables (place_before st r) (get_or st r 0) ≡ none → Ended (tariff I) st r
+  pub closed-over : leg_f I.tables (place_before st r) (get_or st r 0) ≡ None → Ended (tariff I) st r
   closed-over e =
       not-allowed (tariff I) st r b
       (λ st' a m h.
-      let same : leg_f I.tables (place_before st' r) (get_or st' r 0) ≡ none
+      let same : leg_f I.tables (place_before st' r) (get_or st' r 0) ≡ None
       = ap₂ (leg_f I.tables) (place-alike (suc r) st' st a r (omega arith)) (call-alike (suc r) st' st a r (omega arith)) ∙ e
       in
       not-ended I st' m (closed-end I st' m (way-closed (leg_f I.tables) st' r same m h)))
@@ -114,7 +114,7 @@ module _ {T : Tariff} {R : Row} {new : Table} {load : Load} {gone : Float} {m : 
 
 -- since the leg to the next call is closed
 pub cut_off : (I : Instance) {R : Row} {new : Table} {load : Load} {gone : Float} {m : ℕ} (A : Along (tariff I) R new load gone m) → m < length R.st
-    → leg_f I.tables (place_before R.st m) (get_or R.st m 0) ≡ none → EndsHere A
+    → leg_f I.tables (place_before R.st m) (get_or R.st m 0) ≡ None → EndsHere A
 cut_off I {R} {m = m} A b e =
     let E = closed-over I R.st m A.within e in
     (stopped A b E, E)

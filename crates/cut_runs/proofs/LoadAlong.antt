@@ -3,7 +3,7 @@ use Prim.Native.Nat.{ℕ, suc, ◌+◌}
 use native.Mathlib.Numerals.{add-one}
 use mathlib.Core.Path.{◌≡◌, refl, sym, ap, subst, ◌∙◌}
 use mathlib.Core.List.{List, map}
-use mathlib.Core.Option.{some}
+use Rattle.std.specs.Prelude.{Some}
 use lib.ListN.{get_or, get_or-map}
 use lib.Dec.{eqb}
 use lib.Ieee.{Float, binary64, add}
@@ -49,7 +49,7 @@ call-bare {t} {st} {m} C =
 pub record LoadAlong (t : Tables) (terms : Terms) (R : Row) (new : Table) (load : Load) (gone : Float) (m : ℕ) : Type 0 where
   pub along : Along (tariff (by_loads t terms)) R new load gone m
   pub time : Float
-  pub timed : timed_of (bare_tables t) R.st m ≡ some (record { time = time; late_cost = fl 0 })
+  pub timed : timed_of (bare_tables t) R.st m ≡ Some (record { time = time; late_cost = fl 0 })
 
 -- before the first call
 pub load-setout : {t : Tables} {terms : Terms} {R : Row} {load : Load} {gone : Float} → Along (tariff (by_loads t terms)) R R.old load gone 0
@@ -63,7 +63,7 @@ module _ {t : Tables} {terms : Terms} {R : Row} {new : Table} {load : Load} {gon
   abbrev after : Elapsed
   after = record { time = add binary64 (joined_f A.time travel (eqb m 0)) s.customer.service; late_cost = fl 0 }
 
-  timed-after : timed_of (bare_tables t) R.st (suc m) ≡ some after
+  timed-after : timed_of (bare_tables t) R.st (suc m) ≡ Some after
   unfolding visit_f enter_f
   timed-after = timed-more (bare_tables t) R.st m _ _ A.timed (leg-is K) ∙ rw (← K.is-call.record_is) refl
 
@@ -75,11 +75,11 @@ module _ {t : Tables} {terms : Terms} {R : Row} {new : Table} {load : Load} {gon
   next new' N = record { along = N; time = after.time; timed = ap (timed_of (bare_tables t) R.st) (add-one m) ∙ timed-after }
 
   -- the way home is open
-  module _ (road : leg_f t (get_or R.st m 0) 0 ≡ some (home K)) where
+  module _ (road : leg_f t (get_or R.st m 0) 0 ≡ Some (home K)) where
     abbrev ending : End
     ending = record { distance = total K; duration = add binary64 after.time s.time_back; pay = fl 0 }
 
-    end_is : end_in (by_loads t terms) R.st (suc m) ≡ some ending
+    end_is : end_in (by_loads t terms) R.st (suc m) ≡ Some ending
     end_is = plain_end (by_loads t terms) refl R.st (suc m) ∙ end-timed (bare_tables t) R.st (suc m) (total K) (home K) (way-is K road) (back_is K road) after timed-after
 
   -- and the run is offered

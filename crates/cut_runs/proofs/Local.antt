@@ -4,7 +4,7 @@ use native.Mathlib.Nat.{le_refl}
 use native.Mathlib.Omega.{arith}
 use mathlib.Core.Path.{◌≡◌, refl, sym, ap, ap₂, ◌∙◌}
 use mathlib.Core.List.{List}
-use mathlib.Core.Option.{Option, none, some}
+use Rattle.std.specs.Prelude.{Option, None, Some}
 use lib.ListN.{length, take, drop, length-drop}
 use lib.Seq.{length-take-le}
 use lib.Dec.{leb}
@@ -48,8 +48,8 @@ module _ (m : ℕ) (st st' : List ℕ) (e : take m st ≡ take m st') where
 
   end-alike : (t : Tables) (rest : Option (BreakOf Float)) → end_of t st m rest ≡ end_of t st' m rest
   unfolding end_of
-  end-alike t none = rw (timed-alike m st st' e t m (le_refl m), way-alike (leg_f t), place-alike m st st' e m (le_refl m)) refl
-  end-alike t (some b) = rw (clock-alike m st st' e t b m (le_refl m), way-alike (leg_f t), place-alike m st st' e m (le_refl m)) refl
+  end-alike t None = rw (timed-alike m st st' e t m (le_refl m), way-alike (leg_f t), place-alike m st st' e m (le_refl m)) refl
+  end-alike t (Some b) = rw (clock-alike m st st' e t b m (le_refl m), way-alike (leg_f t), place-alike m st st' e m (le_refl m)) refl
 
   home-alike : (t : Tables) (b : BreakOf Float) (limits : KeptF) (p : ℕ) → home_of t st b limits m p ≡ home_of t st' b limits m p
   unfolding home_of
@@ -65,8 +65,8 @@ module _ (m : ℕ) (st st' : List ℕ) (e : take m st ≡ take m st') where
   in-alike I = go I.placement
     where
       least : (o : Option (BreakOf Float)) → least_end I.tables st m I.limits o ≡ least_end I.tables st' m I.limits o
-      least none = end-alike I.tables none
-      least (some b) = ap as_end (least-alike I.tables b (kept_of I.tables st m I.limits) m)
+      least None = end-alike I.tables None
+      least (Some b) = ap as_end (least-alike I.tables b (kept_of I.tables st m I.limits) m)
 
       go : (p : Placement) → end_by I.tables st m I.limits p ≡ end_by I.tables st' m I.limits p
       go Clock = end-alike I.tables I.limits.rest

@@ -1,7 +1,6 @@
 -- The runs along a stretch with the break at each of their places in turn, on floats as the code has them: the label of each place, its way
 -- home, and the best of these. Definitions only.
-use Rattle.std.specs.Prelude.{ℕ, zero, suc, List, get_or, eqb, Float}
-use Rattle.std.proofs.Math.Option.{Option, some}
+use Rattle.std.specs.Prelude.{ℕ, zero, suc, List, get_or, eqb, Float, Option, Some}
 use Rattle.basics.specs.Options.{◌>>=◌, given}
 use Rattle.definitions.specs.Sheet.{BreakOf}
 use Rattle.clock.specs.declared.schedule.Label.{Label}
@@ -24,7 +23,7 @@ home_by b limits (suc p) distance back l = kept_home_f limits distance back l
 module _ (t : Tables) (st : List ℕ) (b : BreakOf Float) where
   -- the first m calls served with the break at call p; it is still to come where p is above m, and never comes for 0
   unfoldable pub label_of : ℕ → ℕ → Option Label
-  label_of p zero = some start_label
+  label_of p zero = Some start_label
   label_of p (suc m) = do
     l ← label_of p m
     g ← leg_f t (place_before st m) (get_or st m 0)

@@ -1,7 +1,6 @@
 -- The runs along a stretch by windows, limits and break on floats, as the code has them: the clocks of a stretch, the price of a run for
 -- either placement of its break, and what a row does. Definitions only.
-use Rattle.std.specs.Prelude.{ℕ, zero, suc, ◌≤◌, Bool, true, false, cond, List, [], ◌∷◌, map, length, get_or, drop, eqb, Float}
-use Rattle.std.proofs.Math.Option.{Option, none, some}
+use Rattle.std.specs.Prelude.{ℕ, zero, suc, ◌≤◌, Bool, true, false, cond, List, [], ◌∷◌, map, length, get_or, drop, eqb, Float, Option, None, Some}
 use Rattle.std.specs.Float.Ieee as Ieee
 use Rattle.std.specs.Float.{binary64}
 use Rattle.basics.specs.Options.{◌>>=◌, holds}
@@ -14,7 +13,7 @@ use Rattle.models.specs.Load.{space_of}
 use Rattle.models.specs.declared.limits.RouteLimits.{RouteLimits}
 use Rattle.models.specs.declared.placement.Placement.{Placement}
 use Rattle.models.specs.declared.placement.Placement.TheVariants.{Clock, Least}
-use Rattle.models.specs.Records.{rest_of, limit_of}
+use Rattle.models.specs.Records.{rest_of}
 use Rattle.models.specs.Limits.{allow_f}
 use Rattle.models.specs.Window.{late_f}
 use Rattle.whole.specs.Whole.{fl}
@@ -30,8 +29,6 @@ use Rattle.cut_stops.specs.Stops.{Numbers, numbers, Long, StopsOf, Below64, LegL
 use Rattle.cut_table.specs.Table.{Table, Sized}
 use Rattle.cut_runs.specs.declared.terms.Terms.{Terms}
 use Rattle.cut_runs.specs.declared.visit.Elapsed.{Elapsed}
-use Rattle.cut_runs.specs.declared.visit.Visited.{Visited}
-use Rattle.cut_runs.specs.declared.visit.Visited.TheVariants.{Shut, Open}
 use Rattle.cut_runs.specs.Stretch.{joined_f, way_of}
 use Rattle.cut_runs.specs.Tariff.{Tariff, RowOf, Ended}
 use Rattle.cut_runs.specs.Places.{least_of}
@@ -56,8 +53,8 @@ over_by t terms placement rest =
       fixed = terms.fixed;
       limits =
           record {
-            max_distance = limit_of terms.limits.max_distance;
-            max_duration = limit_of terms.limits.max_duration;
+            max_distance = terms.limits.max_distance;
+            max_duration = terms.limits.max_duration;
             rest = rest;
           };
       placement = placement;
@@ -65,7 +62,7 @@ over_by t terms placement rest =
 
 -- a record without its window and its penalty
 abbrev pub bare_f : CustomerOf Float → CustomerOf Float
-bare_f c = record { demand = c.demand; service = c.service; window = none; penalty = none }
+bare_f c = record { demand = c.demand; service = c.service; window = None; penalty = None }
 
 -- by loads and closed legs alone, with such records and neither limits nor a break; or by all that the terms have
 abbrev pub over_as : Bool → Tables → Terms → Instance
@@ -81,7 +78,7 @@ over_as alone t terms =
           };
       capacity = all.capacity;
       fixed = all.fixed;
-      limits = cond alone (record { max_distance = none; max_duration = none; rest = none }) all.limits;
+      limits = cond alone (record { max_distance = None; max_duration = None; rest = None }) all.limits;
       placement = all.placement;
     }
 
@@ -101,35 +98,31 @@ lent customers distances times size capacity fixed limits placement =
 
 -- ---- a call without a break, reached at this time with so much lateness cost
 
-abbrev pub visited_of : Visited → Option Elapsed
-visited_of Shut = none
-visited_of (Open v) = some v
-
 -- late ends the run without a penalty; with one, penalty times lateness is added to the cost
 unfoldable pub charge_f : WindowOf Float → Option Float → Float → Float → Option Float
 charge_f w penalty time late =
     cond (late_f w time)
-    (penalty >>= λ p. some (Ieee.add binary64 late (Ieee.mul binary64 p (Ieee.sub binary64 time w.due))))
-    (some late)
+    (penalty >>= λ p. Some (Ieee.add binary64 late (Ieee.mul binary64 p (Ieee.sub binary64 time w.due))))
+    (Some late)
 
 -- then the window's opening is waited for
 unfoldable pub enter_f : Option (WindowOf Float) → Option Float → Float → Float → Option Elapsed
-enter_f none penalty time late = some (record { time = time; late_cost = late })
-enter_f (some w) penalty time late =
-    charge_f w penalty time late >>= λ l. some (record { time = larger_f time w.ready; late_cost = l })
+enter_f None penalty time late = Some (record { time = time; late_cost = late })
+enter_f (Some w) penalty time late =
+    charge_f w penalty time late >>= λ l. Some (record { time = larger_f time w.ready; late_cost = l })
 
 -- and the call served
 unfoldable pub visit_f : CustomerOf Float → Float → Float → Option Elapsed
 visit_f c time late =
     enter_f c.window c.penalty time late
-    >>= λ x. some (record { time = Ieee.add binary64 x.time c.service; late_cost = x.late_cost })
+    >>= λ x. Some (record { time = Ieee.add binary64 x.time c.service; late_cost = x.late_cost })
 
 -- ---- the first m calls of a stretch, from the depot at time 0
 
 module _ (t : Tables) (st : List ℕ) where
   -- without a break; a closed leg ends the run
   unfoldable pub timed_of : ℕ → Option Elapsed
-  timed_of zero = some (record { time = fl 0; late_cost = fl 0 })
+  timed_of zero = Some (record { time = fl 0; late_cost = fl 0 })
   timed_of (suc m) = do
     x ← timed_of m
     g ← leg_f t (place_before st m) (get_or st m 0)
@@ -137,11 +130,11 @@ module _ (t : Tables) (st : List ℕ) where
 
   -- with one
   unfoldable pub clock_of : BreakOf Float → ℕ → Option ClockF
-  clock_of b zero = some (begun_f b)
+  clock_of b zero = Some (begun_f b)
   clock_of b (suc m) = do
     x ← clock_of b m
     g ← leg_f t (place_before st m) (get_or st m 0)
-    some (push_f x (get_or st m 0) (record_f t (get_or st m 0)) g.time)
+    Some (push_f x (get_or st m 0) (record_f t (get_or st m 0)) g.time)
 
 -- home: how far a run is, how long it takes, and what is paid for lateness
 pub record End : Type 0 where
@@ -155,17 +148,17 @@ module _ (t : Tables) (st : List ℕ) (m : ℕ) where
   back_of = leg_f t (place_before st m) 0
 
   unfoldable pub end_of : Option (BreakOf Float) → Option End
-  end_of none = do
+  end_of None = do
     x ← timed_of t st m
     far ← way_of (leg_f t) st m
     back ← back_of
-    some (record { distance = far; duration = Ieee.add binary64 x.time back.time; pay = x.late_cost })
-  end_of (some b) = do
+    Some (record { distance = far; duration = Ieee.add binary64 x.time back.time; pay = x.late_cost })
+  end_of (Some b) = do
     x ← clock_of t st b m
     far ← way_of (leg_f t) st m
     back ← back_of
     s ← finish_f far back.time x
-    some (record { distance = far; duration = s.duration; pay = s.cost })
+    Some (record { distance = far; duration = s.duration; pay = s.cost })
 
 -- by the placement of the break: where the clock puts it, or with the best of all places
 module _ (t : Tables) (st : List ℕ) (m : ℕ) (limits : LimitsF) where
@@ -173,17 +166,17 @@ module _ (t : Tables) (st : List ℕ) (m : ℕ) (limits : LimitsF) where
   kept_of = record { max_distance = limits.max_distance; max_duration = limits.max_duration }
 
   unfoldable pub least_end : Option (BreakOf Float) → Option End
-  least_end none = end_of t st m none
-  least_end (some b) =
-      least_of t st b kept_of m >>= λ s. some (record { distance = s.distance; duration = s.duration; pay = s.cost })
+  least_end None = end_of t st m None
+  least_end (Some b) =
+      least_of t st b kept_of m >>= λ s. Some (record { distance = s.distance; duration = s.duration; pay = s.cost })
 
   unfoldable pub end_by : Placement → Option End
   end_by Clock = end_of t st m limits.rest
   end_by Least = least_end limits.rest
 
 abbrev pub pay_of : Option End → Float
-pay_of none = fl 0
-pay_of (some e) = e.pay
+pay_of None = fl 0
+pay_of (Some e) = e.pay
 
 -- ---- the price of a run
 

@@ -1,7 +1,6 @@
 -- A stretch of calls, call by call: what the first m of them ask for, and how far it is. Definitions only, over what a call asks for and
 -- over the legs.
-use Rattle.std.specs.Prelude.{ℕ, zero, suc, ◌-◌, Bool, cond, ◌&&◌, List, length, get_or, leb, eqb, Float}
-use Rattle.std.proofs.Math.Option.{Option, some}
+use Rattle.std.specs.Prelude.{ℕ, zero, suc, ◌-◌, Bool, cond, ◌&&◌, List, length, get_or, leb, eqb, Float, Option, Some}
 use Rattle.std.specs.Float.{binary64}
 use Rattle.std.specs.Float.Ieee.{add}
 use Rattle.basics.specs.Options.{◌>>=◌}
@@ -25,18 +24,18 @@ fits_of demand capacity st m = leb m (length st) && carried (load_to demand st m
 
 -- the way from the depot through the first m calls of st, added leg by leg; none where one of the legs is closed
 unfoldable pub gone_of : (ℕ → ℕ → Option Leg) → List ℕ → ℕ → Option Float
-gone_of leg st zero = some (fl 0)
+gone_of leg st zero = Some (fl 0)
 gone_of leg st (suc m) = do
   gone ← gone_of leg st m
   next ← leg (place_before st m) (get_or st m 0)
-  some (joined_f gone next.distance (eqb m 0))
+  Some (joined_f gone next.distance (eqb m 0))
 
 -- and home
 unfoldable pub way_of : (ℕ → ℕ → Option Leg) → List ℕ → ℕ → Option Float
 way_of leg st m = do
   gone ← gone_of leg st m
   back ← leg (place_before st m) 0
-  some (add binary64 gone back.distance)
+  Some (add binary64 gone back.distance)
 
 -- ---- a run, whose last call is reached
 

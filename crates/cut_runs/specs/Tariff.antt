@@ -1,7 +1,6 @@
 -- The runs along a stretch of calls on floats, as both cuttings have them: which are legal, what they cost, the table that is filled with
 -- them, and the cut that is read from it. Definitions only.
-use Rattle.std.specs.Prelude.{ℕ, suc, ◌-◌, ◌<◌, ◌≤◌, ◌≡◌, Bool, false, ◌&&◌, List, ◌∷◌, length, drop, take, Float}
-use Rattle.std.proofs.Math.Option.{Option}
+use Rattle.std.specs.Prelude.{ℕ, suc, ◌-◌, ◌<◌, ◌≤◌, ◌≡◌, Bool, false, ◌&&◌, List, ◌∷◌, length, drop, take, Float, Option}
 use Rattle.std.specs.Float.{binary64}
 use Rattle.std.specs.Float.Ieee.{add}
 use Rattle.basics.specs.Options.{value_or}

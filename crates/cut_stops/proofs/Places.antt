@@ -5,7 +5,7 @@ use native.Mathlib.Nat.{add-zero}
 use native.Mathlib.Omega.{arith}
 use mathlib.Core.Path.{◌≡◌, refl, sym, ap, ap₂, ◌∙◌}
 use mathlib.Core.List.{List, [], ◌∷◌}
-use mathlib.Core.Option.{Option, none, some}
+use Rattle.std.specs.Prelude.{Option, None, Some}
 use mathlib.Core.Logic.{◌≢◌}
 use lib.ListN.{length, get_or, set, length-set}
 use lib.Seq.{sets, length-sets, get_or-set_same, get_or-set_other, set-get_or}
@@ -41,12 +41,12 @@ module _ {A : Type 0} (d : A) where
 -- ---- a window and a penalty through their code
 
 opening-back : (o : Option (WindowOf Float)) → opening_at (code o) (times_in o).ready (times_in o).due ≡ o
-opening-back none = refl
-opening-back (some w) = refl
+opening-back None = refl
+opening-back (Some w) = refl
 
 penalty-back : (o : Option Float) → penalty_at (code o) (price_in o) ≡ o
-penalty-back none = refl
-penalty-back (some p) = refl
+penalty-back None = refl
+penalty-back (Some p) = refl
 
 -- ---- a place that is put
 

@@ -1,6 +1,5 @@
 -- What the cut reads of each place and leg, worked out once and held as numbers in lists that are lent on. Definitions only.
-use Rattle.std.specs.Prelude.{ℕ, ◌*◌, ◌+◌, ◌<◌, ◌≤◌, ◌≡◌, cond, List, [], ◌∷◌, map, ◌≢◌, length, get_or, eqb, Float}
-use Rattle.std.proofs.Math.Option.{Option, none, some}
+use Rattle.std.specs.Prelude.{ℕ, ◌*◌, ◌+◌, ◌<◌, ◌≤◌, ◌≡◌, cond, List, [], ◌∷◌, map, ◌≢◌, length, get_or, eqb, Float, Option, None, Some}
 use Rattle.std.specs.Float.{nan}
 use Rattle.basics.specs.Lists.{count}
 use Rattle.basics.specs.Options.{◌>>=◌}
@@ -28,8 +27,8 @@ stop_of s = record { customer = customer_of s.customer; out = s.out; back = s.ba
 
 -- a leg as the lists have it: its two numbers, and for a closed one in both what stands for it
 unfoldable pub listed_as : Float → Option Leg → Leg
-listed_as shut none = record { distance = shut; time = shut }
-listed_as shut (some leg) = leg
+listed_as shut None = record { distance = shut; time = shut }
+listed_as shut (Some leg) = leg
 
 -- to a call, where that is the tables' number of no road; and home, where it is NaN, and so is the cost of the run that ends with it, which
 -- is then below no other cost and never taken
@@ -44,11 +43,11 @@ unfoldable pub pair_f : Float → Float → Option Leg
 pair_f distance time = do
   d ← road_f distance
   t ← road_f time
-  some (record { distance = d; time = t })
+  Some (record { distance = d; time = t })
 
 -- what the numbers listed of a leg to a call say: the distance alone tells whether the leg is closed
 unfoldable pub leg_by : Float → Float → Option Leg
-leg_by distance time = road_f distance >>= λ d. some (record { distance = d; time = time })
+leg_by distance time = road_f distance >>= λ d. Some (record { distance = d; time = time })
 
 -- place c, whose record this is, by these legs
 abbrev pub place_by : CustomerOf Float → (ℕ → ℕ → Option Leg) → ℕ → StopF
@@ -65,23 +64,23 @@ stop_in t c = place_by (record_f t c) (leg_f t) c
 
 -- a window and a penalty from a code, which is 1 where there is one
 abbrev pub opening_at : ℕ → Float → Float → Option (WindowOf Float)
-opening_at windowed ready due = cond (eqb windowed 1) (some (record { ready = ready; due = due })) none
+opening_at windowed ready due = cond (eqb windowed 1) (Some (record { ready = ready; due = due })) None
 
 abbrev pub penalty_at : ℕ → Float → Option Float
-penalty_at charged each = cond (eqb charged 1) (some each) none
+penalty_at charged each = cond (eqb charged 1) (Some each) None
 
 -- and as one; zeros stand where there is none
 abbrev pub code : {A : Type 0} → Option A → ℕ
-code none = 0
-code (some x) = 1
+code None = 0
+code (Some x) = 1
 
 abbrev pub times_in : Option (WindowOf Float) → WindowOf Float
-times_in none = record { ready = fl 0; due = fl 0 }
-times_in (some w) = w
+times_in None = record { ready = fl 0; due = fl 0 }
+times_in (Some w) = w
 
 abbrev pub price_in : Option Float → Float
-price_in none = fl 0
-price_in (some p) = p
+price_in None = fl 0
+price_in (Some p) = p
 
 -- a record as codes (demand in each measure, window, penalty) and four figures, and a stop as these and four figures before them
 unfoldable pub codes_of : CustomerOf Float → List ℕ

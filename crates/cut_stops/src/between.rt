@@ -2,20 +2,20 @@
 ghost use Rattle.std.specs.Prelude.{◌≡◌, false, get_or};
 ghost use Rattle.std.specs.Float.{inf};
 ghost use Rattle.definitions.specs.Sheet.{time_table};
-ghost use Rattle.distance.specs.Lookup.{drive_f, drive_of};
+ghost use Rattle.distance.specs.Lookup.{drive_f};
 ghost use Rattle.cut_stops.specs.Stops.{listed_as, pair_f};
 
-use distance::leg::{Drive, Leg, leg_between};
+use distance::leg::{Leg, leg_between};
 use distance::matrix::is_closed;
 use whole::infinity;
 
 // By what is read of the leg.
-fn listed_leg(drive: Drive, shut: f64) -> Leg
-    ensures { result ≡ listed_as shut (drive_of drive) }
+fn listed_leg(drive: Option<Leg>, shut: f64) -> Leg
+    ensures { result ≡ listed_as shut drive }
 {
     match drive {
-        Drive::Open(leg) => leg,
-        Drive::Closed => Leg {
+        Some(leg) => leg,
+        None => Leg {
             distance: shut,
             time: shut,
         },

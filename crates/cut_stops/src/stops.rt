@@ -9,7 +9,7 @@ ghost use Rattle.std.proofs.lemmas.List.Edits.{sets};
 ghost use Rattle.std.specs.Float.{nan};
 ghost use Rattle.cut_theory.specs.Tab.{most_cut};
 ghost use Rattle.distance.specs.Lookup.{drive_f};
-ghost use Rattle.models.specs.Records.{window_of, opening_of, penalty_of, customer_of};
+ghost use Rattle.models.specs.Records.{window_of, opening_of, customer_of};
 ghost use Rattle.evaluation.specs.Records.{lent};
 ghost use Rattle.cut_stops.specs.Stops.{opening_at, penalty_at, code, times_in, price_in, stop_of, codes_of, record_figures, leg_figures, codes_each, figures_each, numbers, Long, stop_at, StopsOf, Below64, leg_lists, LegsLong, LegsWritten};
 
@@ -17,7 +17,7 @@ use crate::between::listed_between;
 use cut_table::cells::MOST_CUT;
 use distance::matrix::no_road;
 use evaluation::route::place_before;
-use models::customer::{Customer, Opening, Penalty, TimeWindow};
+use models::customer::{Customer, TimeWindow};
 use models::load::Space;
 
 // So many codes (demand in each measure, window, penalty) and figures (four legs, and four of the record)
@@ -41,25 +41,21 @@ pub struct Stop {
 }
 
 // An opening from its code, which is 1 where there is a window, and its times.
-fn opening_of(windowed: u32, ready: f64, due: f64) -> Opening
+fn opening_of(windowed: u32, ready: f64, due: f64) -> Option<TimeWindow>
     ensures { opening_of result ≡ opening_at windowed ready due }
 {
     if windowed == 1 {
-        Opening::Window(TimeWindow { ready, due })
+        Some(TimeWindow { ready, due })
     } else {
-        Opening::Always
+        None
     }
 }
 
 // A penalty from its code, which is 1 where there is one, and its price.
-fn penalty_of(charged: u32, each: f64) -> Penalty
-    ensures { penalty_of result ≡ penalty_at charged each }
+fn penalty_of(charged: u32, each: f64) -> Option<f64>
+    ensures { result ≡ penalty_at charged each }
 {
-    if charged == 1 {
-        Penalty::Soft(each)
-    } else {
-        Penalty::Hard
-    }
+    if charged == 1 { Some(each) } else { None }
 }
 
 // The record of place c, from the lists.
@@ -96,45 +92,45 @@ pub fn stop_at(codes: &[u32], figures: &[f64], c: usize) -> Stop
 }
 
 // The code of an opening.
-fn opening_code(opening: Opening) -> u32
+fn opening_code(opening: Option<TimeWindow>) -> u32
     ensures { result ≡ code (opening_of opening) }
 {
     match opening {
-        Opening::Always => 0,
-        Opening::Window(_) => 1,
+        None => 0,
+        Some(_) => 1,
     }
 }
 
 // The times of an opening; zeros stand where there is no window.
-fn opening_times(opening: Opening) -> TimeWindow
+fn opening_times(opening: Option<TimeWindow>) -> TimeWindow
     ensures { window_of result ≡ times_in (opening_of opening) }
 {
     match opening {
-        Opening::Always => TimeWindow {
+        None => TimeWindow {
             ready: 0.0,
             due: 0.0,
         },
-        Opening::Window(w) => w,
+        Some(w) => w,
     }
 }
 
 // The code of a penalty.
-fn penalty_code(penalty: Penalty) -> u32
-    ensures { result ≡ code (penalty_of penalty) }
+fn penalty_code(penalty: Option<f64>) -> u32
+    ensures { result ≡ code penalty }
 {
     match penalty {
-        Penalty::Hard => 0,
-        Penalty::Soft(_) => 1,
+        None => 0,
+        Some(_) => 1,
     }
 }
 
 // The price of a penalty; zero stands where there is none.
-fn penalty_price(penalty: Penalty) -> f64
-    ensures { result ≡ price_in (penalty_of penalty) }
+fn penalty_price(penalty: Option<f64>) -> f64
+    ensures { result ≡ price_in penalty }
 {
     match penalty {
-        Penalty::Hard => 0.0,
-        Penalty::Soft(each) => each,
+        None => 0.0,
+        Some(each) => each,
     }
 }
 
@@ -207,12 +203,9 @@ pub fn work_out_calls(
     ensures { let t = lent customers distances.now times.now size in
         StopsOf t calls.now (numbers codes.new figures.new) }
 {
-    let mut k: usize = 0;
-    while k < calls.len() {
-        let c = calls[k];
+    for &c in calls {
         put_legs(distances, times, size, c, &mut *figures);
         put_customer(customers[c], c, &mut *codes, &mut *figures);
-        k += 1;
     }
 }
 
@@ -232,13 +225,11 @@ pub fn write_legs(
         let new = leg_lists legs.new time_legs.new in
         LegsWritten by held.now from old new }
 {
-    let mut k = from;
-    while k < held.len() {
+    for k in from..held.len() {
         let prev = place_before(held, k);
         let cid = held[k];
         let leg = listed_between(distances, times, size, prev, cid, no_road());
         legs[k] = leg.distance;
         time_legs[k] = leg.time;
-        k += 1;
     }
 }

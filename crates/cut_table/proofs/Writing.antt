@@ -6,7 +6,7 @@ use native.Mathlib.Numerals.{add-one}
 use mathlib.Core.Path.{◌≡◌, sym, ap, ◌∙◌}
 use mathlib.Core.List.{List, [], ◌∷◌, ◌++◌}
 use lib.ListN.{length, get_or, set, take, drop, length-append, length-drop}
-use lib.Seq.{drop-cons, set-append_seam, append_snoc, take-suc, length-take-le, take-length, take_all, take-append_seam}
+use lib.Seq.{drop-cons, set-append_seam, append_snoc, take_all, take-append_seam}
 use Rattle.basics.specs.Lists.{count}
 use Rattle.basics.proofs.ListLaws.{length-count}
 use Rattle.definitions.specs.Room.{written}
@@ -35,15 +35,6 @@ module _ {A : Type 0} where
       ∙ set-append_seam l (get_or old (length l) x) (drop (suc (length l)) old) x
       ∙ sym (append_snoc l x (drop (suc (length l)) old))
       ∙ ap (λ (n : ℕ). l ++ (x ∷ []) ++ drop n old) (sym (length-append l (x ∷ []) ∙ add-one (length l)))
-
-  -- the first k elements of a list, and one more
-  pub copied_more : (from old : List A) (k : ℕ) (d : A) → k < length from → length from ≤ length old → set (written (take k from) old) k (get_or from k d) ≡ written (take (k + 1) from) old
-  copied_more from old k d h b =
-      written-more (take k from) old k (get_or from k d) (length-take-le k from (omega arith)) (omega arith)
-      ∙ ap (λ (l : List A). written l old) (sym (take-suc from k d h) ∙ ap (λ (n : ℕ). take n from) (sym (add-one k)))
-
-  pub copied_all : (from old : List A) (k : ℕ) → k ≡ length from → written (take k from) old ≡ written from old
-  copied_all from old k e = ap (λ (n : ℕ). written (take n from) old) e ∙ ap (λ (l : List A). written l old) (take-length from)
 
 pub count-snoc : (a n : ℕ) → count a (suc n) ≡ count a n ++ ((a + n) ∷ [])
 count-snoc a zero = ap (λ (x : ℕ). x ∷ []) (sym (add-zero a))

@@ -42,6 +42,7 @@ pub fn read_back(pred: &[usize; CELLS], n: usize, ends: &mut [usize; CELLS]) -> 
 {
     let mut at: usize = CELLS;
     let mut j = n;
+    // A `while`: the table says where each run starts, and so how many turns there are.
     while 0 < j {
         at -= 1;
         ends[at] = j;

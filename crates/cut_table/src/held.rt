@@ -10,10 +10,9 @@ pub fn remove(list: &mut [usize], n: usize, at: usize)
     requires { (at < n) × (n ≤ length list.old) }
     ensures { take (n - 1) list.new ≡ without at (take n list.old) }
 {
-    let mut k = at;
-    while k + 1 < n {
+    // One move in the compiled program, which `copy_within` is not.
+    for k in at..n - 1 {
         list[k] = list[k + 1];
-        k += 1;
     }
 }
 
@@ -43,11 +42,7 @@ pub fn write_front(from: &[usize], to: &mut [usize])
     requires { length from.now ≤ length to.old }
     ensures { to.new ≡ written from.now to.old }
 {
-    let mut k = 0;
-    while k < from.len() {
-        to[k] = from[k];
-        k += 1;
-    }
+    to[..from.len()].copy_from_slice(from);
 }
 
 // Writes n numbers at the front, counted from `from` on.
@@ -55,9 +50,7 @@ pub fn number(to: &mut [usize], from: usize, n: usize)
     requires { (n ≤ length to.old) × (from + n < 0xFFFF_FFFF_FFFF_FFFF) }
     ensures { to.new ≡ written (count from n) to.old }
 {
-    let mut k = 0;
-    while k < n {
-        to[k] = from + k;
-        k += 1;
+    for (k, number) in to[..n].iter_mut().enumerate() {
+        *number = from + k;
     }
 }

@@ -3,7 +3,7 @@ use Prim.Native.Nat.{ℕ, ◌+◌, ◌-◌}
 use mathlib.Core.Path.{◌≡◌, refl}
 use mathlib.Core.Bool.{Bool, true, false, ◌&&◌, ◌||◌}
 use mathlib.Core.List.{List, [], ◌∷◌}
-use mathlib.Core.Option.{none, some}
+use Rattle.std.specs.Prelude.{None, Some}
 use lib.ListN.{take}
 use lib.Dec.{ltb, leb, eqb}
 use Rattle.basics.specs.Lists.{all}
@@ -18,7 +18,7 @@ use Rattle.cut_theory.specs.Drop.{stuck, settle, held}
 abbrev level : Plain ℕ
 level = record { lower = ltb; start = 0; legal = λ _ _. true; ext = λ c i j. c + (j - i) }
 
-pub tie : (best_opt level 3 ≡ some 3) × (pred_opt level 3 ≡ 0) × (ends_opt level 3 ≡ 3 ∷ [])
+pub tie : (best_opt level 3 ≡ Some 3) × (pred_opt level 3 ≡ 0) × (ends_opt level 3 ≡ 3 ∷ [])
 unfolding first cost from back_of
 tie = (refl, refl, refl)
 
@@ -27,7 +27,7 @@ abbrev dear : Plain ℕ
 dear = record { lower = ltb; start = 0; legal = λ i j. leb (j - i) 2; ext = λ c i j. c + (4 + (j - i)) }
 
 -- of three calls, 1 and 2 is as cheap as 2 and 1, and its last run starts earlier
-pub two_ways : (best_opt dear 3 ≡ some 11) × (pred_opt dear 3 ≡ 1) × (ends_opt dear 3 ≡ 1 ∷ 3 ∷ [])
+pub two_ways : (best_opt dear 3 ≡ Some 11) × (pred_opt dear 3 ≡ 1) × (ends_opt dear 3 ≡ 1 ∷ 3 ∷ [])
 unfolding first cost from back_of
 two_ways = (refl, refl, refl)
 
@@ -35,7 +35,7 @@ two_ways = (refl, refl, refl)
 abbrev gap : Plain ℕ
 gap = record { lower = ltb; start = 0; legal = λ i j. eqb i 0 && (eqb j 1 || eqb j 3); ext = λ c i j. c + 1 }
 
-pub past-a-gap : (best_opt gap 2 ≡ none) × (best_opt gap 3 ≡ some 1) × (ends_opt gap 3 ≡ 3 ∷ [])
+pub past-a-gap : (best_opt gap 2 ≡ None) × (best_opt gap 3 ≡ Some 1) × (ends_opt gap 3 ≡ 3 ∷ [])
 unfolding first cost from back_of
 past-a-gap = (refl, refl, refl)
 
@@ -50,6 +50,6 @@ pairs = (refl, refl, refl)
 abbrev small : List ℕ → ℕ → Bool
 small l j = all (λ c. leb c 5) (take j l)
 
-pub two-go : (stuck small (3 ∷ 9 ∷ 4 ∷ 8 ∷ []) ≡ some 1) × (held small (3 ∷ 9 ∷ 4 ∷ 8 ∷ []) ≡ 3 ∷ 4 ∷ [])
+pub two-go : (stuck small (3 ∷ 9 ∷ 4 ∷ 8 ∷ []) ≡ Some 1) × (held small (3 ∷ 9 ∷ 4 ∷ 8 ∷ []) ≡ 3 ∷ 4 ∷ [])
 unfolding find settle
 two-go = (refl, refl)

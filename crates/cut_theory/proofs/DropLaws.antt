@@ -6,7 +6,7 @@ use native.Mathlib.Omega.{arith}
 use mathlib.Core.Path.{◌≡◌, refl, subst}
 use mathlib.Core.Bool.{Bool}
 use mathlib.Core.List.{List}
-use mathlib.Core.Option.{none, some}
+use Rattle.std.specs.Prelude.{None, Some}
 use lib.ListN.{length}
 use Rattle.basics.proofs.TestLaws.{not-both}
 use Rattle.basics.specs.Lists.{without}
@@ -50,7 +50,7 @@ module _ {A : Type 0} (have : List A → ℕ → Bool) where
 
   -- ---- one turn: nothing is stuck, or the call at k goes
 
-  pub held-done : (l : List A) → stuck have l ≡ none → held have l ≡ l
+  pub held-done : (l : List A) → stuck have l ≡ None → held have l ≡ l
   unfolding settle
   held-done l e = go (length l)
     where
@@ -58,7 +58,7 @@ module _ {A : Type 0} (have : List A → ℕ → Bool) where
       go zero = refl
       go (suc f) = rw e refl
 
-  pub held-less : (l : List A) (k : ℕ) → k < length l → stuck have l ≡ some k → held have l ≡ held have (without k l)
+  pub held-less : (l : List A) (k : ℕ) → k < length l → stuck have l ≡ Some k → held have l ≡ held have (without k l)
   unfolding settle
   held-less l k b e = subst (λ (f : ℕ). settle have f l ≡ held have (without k l)) (length_without k l b) go
     where

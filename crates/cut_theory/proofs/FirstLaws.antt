@@ -5,7 +5,7 @@ use native.Mathlib.Omega.{arith}
 use mathlib.Core.Path.{◌≡◌, refl, ap, subst, ◌∙◌}
 use mathlib.Core.Logic.{⊎_elim}
 use mathlib.Core.Bool.{Bool, true, false}
-use mathlib.Core.Option.{none, some}
+use Rattle.std.specs.Prelude.{None, Some}
 use lib.Dec.{ltb}
 use borrow.Author.Tests.{ltb-true, ltb-false}
 use Rattle.basics.proofs.TestLaws.{by-test, not-both}
@@ -13,8 +13,8 @@ use Rattle.cut_theory.specs.First.{find, FirstOf}
 
 -- the test passes throughout, or k is the first at which it fails
 pub data Found (p : ℕ → Bool) (f j : ℕ) : Type 0 where
-  passed : find p f j ≡ none → ((k : ℕ) → j ≤ k → k < j + f → p k ≡ true) → Found p f j
-  stopped : (k : ℕ) → find p f j ≡ some k → j ≤ k → k < j + f → p k ≡ false → ((m : ℕ) → j ≤ m → m < k → p m ≡ true) → Found p f j
+  passed : find p f j ≡ None → ((k : ℕ) → j ≤ k → k < j + f → p k ≡ true) → Found p f j
+  stopped : (k : ℕ) → find p f j ≡ Some k → j ≤ k → k < j + f → p k ≡ false → ((m : ℕ) → j ≤ m → m < k → p m ≡ true) → Found p f j
 
 -- ---- what the search finds
 
@@ -39,19 +39,19 @@ found p (suc f) j = go (p j) refl (found p f (suc j))
 
 -- ---- what a loop has found is what the search finds
 
-pub first-none : (p : ℕ → Bool) (n r : ℕ) → FirstOf p n r → n ≤ r → find p n 0 ≡ none
+pub first-none : (p : ℕ → Bool) (n r : ℕ) → FirstOf p n r → n ≤ r → find p n 0 ≡ None
 first-none p n r F h = go (found p n 0)
   where
-    go : Found p n 0 → find p n 0 ≡ none
+    go : Found p n 0 → find p n 0 ≡ None
     go (passed e a) = e
     go (stopped k e l b x a) = not-both (p k) (F.passes k (omega arith)) x
 
-pub first_some : (p : ℕ → Bool) (n r : ℕ) → FirstOf p n r → r < n → find p n 0 ≡ some r
+pub first_some : (p : ℕ → Bool) (n r : ℕ) → FirstOf p n r → r < n → find p n 0 ≡ Some r
 first_some p n r F h = go (found p n 0)
   where
-    go : Found p n 0 → find p n 0 ≡ some r
+    go : Found p n 0 → find p n 0 ≡ Some r
     go (passed e a) = not-both (p r) (a r (omega arith) (omega arith)) (F.fails h)
     go (stopped k e l b x a) =
         by-test (ltb k r) (λ t. not-both (p k) (F.passes k (ltb-true k r t)) x)
         (λ f. by-test (ltb r k) (λ t. not-both (p r) (a r (omega arith) (ltb-true r k t)) (F.fails h))
-        (λ g. e ∙ ap some (le_antisymm (ltb-false r k g) (ltb-false k r f))))
+        (λ g. e ∙ ap Some (le_antisymm (ltb-false r k g) (ltb-false k r f))))

@@ -1,8 +1,7 @@
 -- What is done where the tour cannot be cut: while some beginning of the held list has no cutting, the last call of the shortest such
 -- beginning is removed, and all starts over, since what is legal may turn on the whole list.
 -- `have l j` says whether the first j calls of l have a cutting.
-use Rattle.std.specs.Prelude.{ℕ, zero, suc, ◌<◌, ◌≡◌, Bool, true, false, List, length}
-use Rattle.std.proofs.Math.Option.{Option, none, some}
+use Rattle.std.specs.Prelude.{ℕ, zero, suc, ◌<◌, ◌≡◌, Bool, true, false, List, length, Option, None, Some}
 use Rattle.basics.specs.Lists.{without}
 use Rattle.cut_theory.specs.First.{find}
 
@@ -12,8 +11,8 @@ module _ {A : Type 0} (have : List A → ℕ → Bool) where
   stuck l = find (λ k. have l (suc k)) (length l) 0
 
   abbrev pub onward : Option ℕ → List A → (List A → List A) → List A
-  onward none l go = l
-  onward (some k) l go = go (without k l)
+  onward None l go = l
+  onward (Some k) l go = go (without k l)
 
   -- f is enough turns
   unfoldable pub settle : ℕ → List A → List A

@@ -1,6 +1,5 @@
 -- Costs with no infinity of their own: `none` stands for what cannot be done, and the best of the first n calls is an `Option`.
-use Rattle.std.specs.Prelude.{ℕ, ◌<◌, ◌≡◌, Bool, true, false, List, [], ◌∷◌}
-use Rattle.std.proofs.Math.Option.{Option, none, some}
+use Rattle.std.specs.Prelude.{ℕ, ◌<◌, ◌≡◌, Bool, true, false, List, [], ◌∷◌, Option, None, Some}
 use Rattle.basics.specs.Options.{Holds}
 use Rattle.cut_theory.specs.Cut.{best, pred, ends}
 use Rattle.cut_theory.specs.Runs.{Runs, rule_of}
@@ -14,16 +13,16 @@ pub record Plain (C : Type 0) : Type 0 where
 
 module _ {C : Type 0} (P : Plain C) where
   abbrev pub lower_opt : Option C → Option C → Bool
-  lower_opt none b = false
-  lower_opt (some a) none = true
-  lower_opt (some a) (some b) = P.lower a b
+  lower_opt None b = false
+  lower_opt (Some a) None = true
+  lower_opt (Some a) (Some b) = P.lower a b
 
   abbrev pub ext_opt : Option C → ℕ → ℕ → Option C
-  ext_opt none i j = none
-  ext_opt (some a) i j = some (P.ext a i j)
+  ext_opt None i j = None
+  ext_opt (Some a) i j = Some (P.ext a i j)
 
   abbrev pub opt : Runs (Option C)
-  opt = record { lower = lower_opt; start = some P.start; top = none; legal = P.legal; ext = ext_opt }
+  opt = record { lower = lower_opt; start = Some P.start; top = None; legal = P.legal; ext = ext_opt }
 
   abbrev pub plain_from : C → ℕ → List ℕ → C
   plain_from c i [] = c

@@ -1,6 +1,5 @@
 -- The code's modes, and the definitions' modes that they are. Definitions only.
-use Rattle.std.specs.Prelude.{ℕ, List, drop}
-use Rattle.std.proofs.Math.Option.{Option, none, some}
+use Rattle.std.specs.Prelude.{ℕ, List, drop, Option, None, Some}
 use Rattle.definitions.specs.Listing.{text}
 use Rattle.texts.specs.CuttingText as Text
 use Rattle.cutting_text.specs.declared.mode.LineWord.{LineWord}
@@ -9,8 +8,6 @@ use Rattle.cutting_text.specs.declared.mode.Number.{Number}
 use Rattle.cutting_text.specs.declared.mode.Number.TheVariants.{Customer, Place, Start}
 use Rattle.cutting_text.specs.declared.mode.Mode.{Mode}
 use Rattle.cutting_text.specs.declared.mode.Mode.TheVariants.{Fresh, Spelling, Passing, Before, Within, Between, Behind}
-use Rattle.cutting_text.specs.declared.mode.Moved.{Moved}
-use Rattle.cutting_text.specs.declared.mode.Moved.TheVariants.{Nowhere, To}
 use Rattle.cutting_text.specs.declared.mode.Turn as Turns
 use Rattle.cutting_text.specs.declared.mode.Line as Lines
 
@@ -41,18 +38,18 @@ mode_of (Within k n) = Text.within (number_of k) n
 mode_of Between = Text.between
 mode_of Behind = Text.behind
 
-abbrev pub moved_of : Moved → Option Text.Mode
-moved_of Nowhere = none
-moved_of (To m) = some (mode_of m)
+abbrev pub moved_of : Option Mode → Option Text.Mode
+moved_of None = None
+moved_of (Some m) = Some (mode_of m)
 
 -- the state behind a blank, and behind the end of a line
 abbrev pub turned : Turns.Turn → Text.State → Option Text.State
-turned Turns.TheVariants.Stuck s = none
-turned (Turns.TheVariants.On m) s = some (Text.to (mode_of m) s)
-turned (Turns.TheVariants.Call n) s = some (Text.taken Text.a_customer n s)
-turned (Turns.TheVariants.Place n) s = some (Text.taken Text.a_place n s)
+turned Turns.TheVariants.Stuck s = None
+turned (Turns.TheVariants.On m) s = Some (Text.to (mode_of m) s)
+turned (Turns.TheVariants.Call n) s = Some (Text.taken Text.a_customer n s)
+turned (Turns.TheVariants.Place n) s = Some (Text.taken Text.a_place n s)
 
 abbrev pub lined : Lines.Line → Text.State → Option Text.State
-lined Lines.TheVariants.Early s = none
-lined Lines.TheVariants.Passed s = some (Text.to Text.fresh s)
-lined Lines.TheVariants.Run s = some (Text.run_ended s)
+lined Lines.TheVariants.Early s = None
+lined Lines.TheVariants.Passed s = Some (Text.to Text.fresh s)
+lined Lines.TheVariants.Run s = Some (Text.run_ended s)

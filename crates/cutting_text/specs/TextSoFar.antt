@@ -1,11 +1,8 @@
 -- The definitions' state that the code's counts and lists are. Definitions only.
-use Rattle.std.specs.Prelude.{ℕ, ◌+◌, ◌≤◌, List, take}
-use Rattle.std.proofs.Math.Option.{Option, none, some}
+use Rattle.std.specs.Prelude.{ℕ, ◌+◌, ◌≤◌, List, take, Option, None, Some}
 use Rattle.texts.specs.CuttingText as Text
 use Rattle.cutting_text.specs.Modes.{mode_of}
 use Rattle.cutting_text.specs.declared.read.TextSoFar.{TextSoFar}
-use Rattle.cutting_text.specs.declared.read.Step.{Step}
-use Rattle.cutting_text.specs.declared.read.Step.TheVariants.{Stuck, To}
 use Rattle.cutting_text.specs.declared.read.CuttingRead.{CuttingRead}
 use Rattle.cutting_text.specs.declared.read.CuttingRead.TheVariants.{Runs, Bad}
 
@@ -19,14 +16,14 @@ state_of r calls ends places =
       places = take r.runs places;
     }
 
-abbrev pub stepped_of : Step → (calls ends places : List ℕ) → Option Text.State
-stepped_of Stuck calls ends places = none
-stepped_of (To r) calls ends places = some (state_of r calls ends places)
+abbrev pub stepped_of : Option TextSoFar → (calls ends places : List ℕ) → Option Text.State
+stepped_of None calls ends places = None
+stepped_of (Some r) calls ends places = Some (state_of r calls ends places)
 
 -- at most so many calls and runs more
-abbrev pub More : ℕ → ℕ → TextSoFar → Step → Type 0
-More c n r Stuck = Unit {0}
-More c n r (To q) = (q.calls ≤ r.calls + c) × (q.runs ≤ r.runs + n)
+abbrev pub More : ℕ → ℕ → TextSoFar → Option TextSoFar → Type 0
+More c n r None = Unit {0}
+More c n r (Some q) = (q.calls ≤ r.calls + c) × (q.runs ≤ r.runs + n)
 
 -- the answer: calls, ends and places at the front of the lists, or the first bad byte
 abbrev pub read_of : CuttingRead → (calls ends places : List ℕ) → Text.CuttingRead

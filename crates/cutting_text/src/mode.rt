@@ -1,6 +1,5 @@
 // What stands in a line so far, and what the next byte makes of it.
-ghost use Rattle.std.specs.Prelude.{◌≡◌, cond, suc, ◌<◌, length, get_or};
-ghost use Rattle.std.proofs.Math.Option.{some};
+ghost use Rattle.std.specs.Prelude.{◌≡◌, cond, suc, ◌<◌, length, get_or, Some};
 ghost use Rattle.definitions.specs.Listing.{is_digit};
 ghost use Rattle.texts.specs.CuttingText as Text;
 ghost use Rattle.cutting_text.specs.Modes.{letters_of, after_of, mode_of, number_of, moved_of, turned, lined};
@@ -30,13 +29,6 @@ pub enum Mode {
     Within(Number, u8),
     Between,
     Behind,
-}
-
-// What a byte that is no blank and no end of a line leads to.
-#[derive(Clone, Copy)]
-pub enum Moved {
-    Nowhere,
-    To(Mode),
 }
 
 // What a blank leads to: a number may be complete with it.
@@ -105,16 +97,16 @@ pub fn letter_of(w: LineWord, i: usize) -> u8
 }
 
 // In a word.
-pub fn spelled(w: LineWord, i: usize, b: u8) -> Moved
+pub fn spelled(w: LineWord, i: usize, b: u8) -> Option<Mode>
     ensures { moved_of result ≡ Text.letter (mode_of (Mode.Spelling w i)) b }
 {
     if i >= letter_count(w) {
-        return Moved::Nowhere;
+        return None;
     }
     if b == letter_of(w, i) {
-        return Moved::To(Mode::Spelling(w, i + 1));
+        return Some(Mode::Spelling(w, i + 1));
     }
-    Moved::Nowhere
+    None
 }
 
 // A number with one more digit.
@@ -130,60 +122,60 @@ pub fn grown(k: Number, n: u8, d: u32) -> u32
 }
 
 // The first letter of a line.
-pub fn opening(b: u8) -> Moved
+pub fn opening(b: u8) -> Option<Mode>
     ensures { moved_of result ≡ Text.opening b }
 {
     if b == b'r' {
-        return Moved::To(Mode::Spelling(LineWord::Run, 0));
+        return Some(Mode::Spelling(LineWord::Run, 0));
     }
     if b == b'd' {
-        return Moved::To(Mode::Spelling(LineWord::Drop, 0));
+        return Some(Mode::Spelling(LineWord::Drop, 0));
     }
     if b == b't' {
-        return Moved::To(Mode::Spelling(LineWord::Total, 0));
+        return Some(Mode::Spelling(LineWord::Total, 0));
     }
     if b == b'#' {
-        return Moved::To(Mode::Passing);
+        return Some(Mode::Passing);
     }
-    Moved::Nowhere
+    None
 }
 
 // A digit of a number that was n before it.
-pub fn digit(k: Number, n: u8, b: u8) -> Moved
+pub fn digit(k: Number, n: u8, b: u8) -> Option<Mode>
     ensures { moved_of result ≡ Text.digit (number_of k) n b }
 {
     if !is_digit(b) {
-        return Moved::Nowhere;
+        return None;
     }
     let m = grown(k, n, (b - b'0') as u32);
     if m > 255 {
-        return Moved::Nowhere;
+        return None;
     }
-    Moved::To(Mode::Within(k, m as u8))
+    Some(Mode::Within(k, m as u8))
 }
 
 // Behind a customer.
-pub fn between(b: u8) -> Moved
+pub fn between(b: u8) -> Option<Mode>
     ensures { moved_of result ≡ Text.letter Text.between b }
 {
     if b == b'r' {
-        return Moved::To(Mode::Spelling(LineWord::Rest, 0));
+        return Some(Mode::Spelling(LineWord::Rest, 0));
     }
     digit(Number::Customer, 0, b)
 }
 
-// A byte that is no blank and no end of a line.
-pub fn letter(m: Mode, b: u8) -> Moved
+// A byte that is no blank and no end of a line: what it leads to, if it may stand here.
+pub fn letter(m: Mode, b: u8) -> Option<Mode>
     ensures { moved_of result ≡ Text.letter (mode_of m) b }
 {
     match m {
         Mode::Fresh => opening(b),
         Mode::Spelling(w, i) => spelled(w, i, b),
-        Mode::Passing => Moved::To(Mode::Passing),
+        Mode::Passing => Some(Mode::Passing),
         Mode::Before(k) => digit(k, 0, b),
         Mode::Within(k, n) => digit(k, n, b),
         Mode::Between => between(b),
-        Mode::Behind => Moved::Nowhere,
+        Mode::Behind => None,
     }
 }
 
@@ -201,7 +193,7 @@ pub fn after_word(w: LineWord) -> Mode
 
 // A number is complete.
 pub fn taken(k: Number, n: u8) -> Turn
-    ensures { (m : Text.Mode) (s : Text.State) → turned result s ≡ some (Text.taken (number_of k) n (Text.to m s)) }
+    ensures { (m : Text.Mode) (s : Text.State) → turned result s ≡ Some (Text.taken (number_of k) n (Text.to m s)) }
 {
     match k {
         Number::Customer => Turn::Call(n),

@@ -6,8 +6,7 @@ ghost use Rattle.cutting_text.specs.Modes.{mode_of};
 ghost use Rattle.cutting_text.specs.TextSoFar.{state_of, stepped_of, More, read_of, Few};
 
 use crate::mode::{
-    Line, Mode, Moved, Number, Turn, blank, column_after, is_blank, letter, line_after, line_end,
-    wanted,
+    Line, Mode, Number, Turn, blank, column_after, is_blank, letter, line_after, line_end, wanted,
 };
 
 // What the bytes so far say: this line, the break place of its run, and how many calls and whole runs there are.
@@ -17,12 +16,6 @@ pub struct TextSoFar {
     pub place: u8,
     pub calls: usize,
     pub runs: usize,
-}
-
-#[derive(Clone, Copy)]
-pub enum Step {
-    Stuck,
-    To(TextSoFar),
 }
 
 impl TextSoFar {
@@ -40,7 +33,7 @@ impl TextSoFar {
 }
 
 // A blank: a call that is complete with it is stored.
-pub fn blanked(r: TextSoFar, calls: &mut [u8]) -> Step
+pub fn blanked(r: TextSoFar, calls: &mut [u8]) -> Option<TextSoFar>
     requires { r.calls < length calls.old }
     ensures said { (ends places : List ℕ) → stepped_of result calls.new ends places
         ≡ Text.blank (mode_of r.mode) (state_of r calls.old ends places) }
@@ -48,8 +41,8 @@ pub fn blanked(r: TextSoFar, calls: &mut [u8]) -> Step
 {
     let m = r.mode;
     match blank(m) {
-        Turn::Stuck => Step::Stuck,
-        Turn::On(on) => Step::To(TextSoFar {
+        Turn::Stuck => None,
+        Turn::On(on) => Some(TextSoFar {
             mode: on,
             place: r.place,
             calls: r.calls,
@@ -58,14 +51,14 @@ pub fn blanked(r: TextSoFar, calls: &mut [u8]) -> Step
         Turn::Call(n) => {
             let k = r.calls;
             calls[k] = n;
-            Step::To(TextSoFar {
+            Some(TextSoFar {
                 mode: Mode::Between,
                 place: r.place,
                 calls: k + 1,
                 runs: r.runs,
             })
         }
-        Turn::Place(n) => Step::To(TextSoFar {
+        Turn::Place(n) => Some(TextSoFar {
             mode: Mode::Before(Number::Start),
             place: n,
             calls: r.calls,
@@ -75,7 +68,7 @@ pub fn blanked(r: TextSoFar, calls: &mut [u8]) -> Step
 }
 
 // The end of a line: a run that is complete with it is stored.
-pub fn line_ended(r: TextSoFar, ends: &mut [usize], places: &mut [u8]) -> Step
+pub fn line_ended(r: TextSoFar, ends: &mut [usize], places: &mut [u8]) -> Option<TextSoFar>
     requires runs_in_bounds { r.runs < length ends.old }
     requires runs_in_bounds_2 { r.runs < length places.old }
     ensures said { (calls : List ℕ) → r.calls ≤ length calls → stepped_of result calls ends.new places.new
@@ -84,8 +77,8 @@ pub fn line_ended(r: TextSoFar, ends: &mut [usize], places: &mut [u8]) -> Step
 {
     let m = r.mode;
     match line_end(m) {
-        Line::Early => Step::Stuck,
-        Line::Passed => Step::To(TextSoFar {
+        Line::Early => None,
+        Line::Passed => Some(TextSoFar {
             mode: Mode::Fresh,
             place: r.place,
             calls: r.calls,
@@ -95,7 +88,7 @@ pub fn line_ended(r: TextSoFar, ends: &mut [usize], places: &mut [u8]) -> Step
             let k = r.runs;
             ends[k] = r.calls;
             places[k] = r.place;
-            Step::To(TextSoFar {
+            Some(TextSoFar {
                 mode: Mode::Fresh,
                 place: 0,
                 calls: r.calls,
@@ -105,8 +98,14 @@ pub fn line_ended(r: TextSoFar, ends: &mut [usize], places: &mut [u8]) -> Step
     }
 }
 
-// The next byte.
-pub fn next(r: TextSoFar, b: u8, calls: &mut [u8], ends: &mut [usize], places: &mut [u8]) -> Step
+// The next byte, if it may stand here.
+pub fn next(
+    r: TextSoFar,
+    b: u8,
+    calls: &mut [u8],
+    ends: &mut [usize],
+    places: &mut [u8],
+) -> Option<TextSoFar>
     requires calls_in_bounds { r.calls < length calls.old }
     requires runs_in_bounds { r.runs < length ends.old }
     requires runs_in_bounds_2 { r.runs < length places.old }
@@ -115,19 +114,15 @@ pub fn next(r: TextSoFar, b: u8, calls: &mut [u8], ends: &mut [usize], places: &
     ensures few { More 1 1 r result }
 {
     if b == b'\n' {
-        let Step::To(q) = blanked(r, &mut *calls) else {
-            return Step::Stuck;
-        };
+        let q = blanked(r, &mut *calls)?;
         return line_ended(q, &mut *ends, &mut *places);
     }
     if is_blank(b) {
         return blanked(r, &mut *calls);
     }
     let m = r.mode;
-    let Moved::To(on) = letter(m, b) else {
-        return Step::Stuck;
-    };
-    Step::To(TextSoFar {
+    let on = letter(m, b)?;
+    Some(TextSoFar {
         mode: on,
         place: r.place,
         calls: r.calls,
@@ -160,7 +155,7 @@ pub fn finished(
         ≡ Text.walk line column s end_of_line }
     ensures few { Few (r.calls + 1) (r.runs + 1) result }
 {
-    let Step::To(q) = next(r, b'\n', &mut *calls, &mut *ends, &mut *places) else {
+    let Some(q) = next(r, b'\n', &mut *calls, &mut *ends, &mut *places) else {
         let m = r.mode;
         return CuttingRead::Bad(line, column, wanted(m, b'\n'));
     };
@@ -185,17 +180,14 @@ pub fn read_cutting(
     let mut r = TextSoFar::start();
     let mut line = 1;
     let mut column = 1;
-    let mut i = 0;
-    while i < bytes.len() {
-        let b = bytes[i];
-        let Step::To(q) = next(r, b, &mut *calls, &mut *ends, &mut *places) else {
+    for &b in bytes {
+        let Some(q) = next(r, b, &mut *calls, &mut *ends, &mut *places) else {
             let m = r.mode;
             return CuttingRead::Bad(line, column, wanted(m, b));
         };
         line = line_after(line, b);
         column = column_after(column, b);
         r = q;
-        i += 1;
     }
     finished(r, line, column, &mut *calls, &mut *ends, &mut *places)
 }

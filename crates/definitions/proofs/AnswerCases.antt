@@ -3,7 +3,7 @@ use Prim.Native.Nat.{ℕ}
 use mathlib.Core.Path.{◌≡◌, refl}
 use mathlib.Core.Bool.{true}
 use mathlib.Core.List.{List, [], ◌∷◌}
-use mathlib.Core.Option.{none, some}
+use Rattle.std.specs.Prelude.{None, Some}
 use Rattle.definitions.specs.Sheet.{Sheet, any_soft}
 use Rattle.definitions.specs.Marker.{other_calls, best, cheaper}
 use Rattle.definitions.specs.RunList.{runs_from}
@@ -29,29 +29,29 @@ answered = tt
 abbrev cut : Sheet → ℕ → Lent ℕ
 cut s room = record { sheet = s; tour = tour; calls = []; ends = []; breaks = []; rooms = room ∷ 2 ∷ 2 ∷ [] }
 
-plans : split_tw_of some (cut base 2) ≡ gives (together 27 27 0)
+plans : split_tw_of Some (cut base 2) ≡ gives (together 27 27 0)
 unfolding answered
 plans = refl
 
-plans-plainly : split_of some (cut base 2) ≡ gives (together 27 27 0)
+plans-plainly : split_of Some (cut base 2) ≡ gives (together 27 27 0)
 unfolding answered
 plans-plainly = refl
 
 -- case g: one served, one dropped; the lists keep what stands beyond that
-plans-g : split_tw_of some (cut (until 9 none) 2) ≡ gives (single 2 1 24)
+plans-g : split_tw_of Some (cut (until 9 None) 2) ≡ gives (single 2 1 24)
 unfolding answered
 plans-g = refl
 
-writes-g : written (front (λ x. x.served) (split_tw_of some (cut (until 9 none) 2))) (7 ∷ 8 ∷ 9 ∷ []) ≡ 2 ∷ 8 ∷ 9 ∷ []
+writes-g : written (front (λ x. x.served) (split_tw_of Some (cut (until 9 None) 2))) (7 ∷ 8 ∷ 9 ∷ []) ≡ 2 ∷ 8 ∷ 9 ∷ []
 unfolding answered
 writes-g = refl
 
 -- a list one short: refused, and nothing is written
-short : split_tw_of some (cut base 1) ≡ refused 13
+short : split_tw_of Some (cut base 1) ≡ refused 13
 unfolding answered
 short = refl
 
-writes_nothing : written (front (λ x. x.served) (split_tw_of some (cut base 1))) (7 ∷ 8 ∷ 9 ∷ []) ≡ 7 ∷ 8 ∷ 9 ∷ []
+writes_nothing : written (front (λ x. x.served) (split_tw_of Some (cut base 1))) (7 ∷ 8 ∷ 9 ∷ []) ≡ 7 ∷ 8 ∷ 9 ∷ []
 unfolding answered
 writes_nothing = refl
 
@@ -60,15 +60,15 @@ writes_nothing = refl
 abbrev riding : Sheet → List ℕ → Lent ℕ
 riding s calls = record { sheet = s; tour = []; calls = calls; ends = []; breaks = []; rooms = [] }
 
-rides : route_feasible_of some (riding base tour) ≡ gives true
+rides : route_feasible_of Some (riding base tour) ≡ gives true
 unfolding answered
 rides = refl
 
-costs-h : effective_cost_of some (riding (until 9 (some 3)) tour) ≡ gives (some 30)
+costs-h : effective_cost_of Some (riding (until 9 (Some 3)) tour) ≡ gives (Some 30)
 unfolding answered
 costs-h = refl
 
-no-such-call : route_feasible_of some (riding base (3 ∷ [])) ≡ refused 1
+no-such-call : route_feasible_of Some (riding base (3 ∷ [])) ≡ refused 1
 unfolding answered
 no-such-call = refl
 
@@ -78,27 +78,27 @@ abbrev marked : Sheet → List ℕ → List ℕ → List ℕ → Lent ℕ
 marked s calls ends breaks = record { sheet = s; tour = tour; calls = calls; ends = ends; breaks = breaks; rooms = [] }
 
 -- case q with the break at the second call
-marks-q : mark_of some (marked (late 12 13 5) tour (2 ∷ []) (2 ∷ [])) ≡ gives (cheaper 5)
+marks-q : mark_of Some (marked (late 12 13 5) tour (2 ∷ []) (2 ∷ [])) ≡ gives (cheaper 5)
 unfolding answered
 marks-q = refl
 
 -- case c: nothing can be served, and no runs are the best
-marks-c : mark_of some (marked (carrying 1) [] [] []) ≡ gives best
+marks-c : mark_of Some (marked (carrying 1) [] [] []) ≡ gives best
 unfolding answered
 marks-c = refl
 
 -- case g: the one run of call 2 is marked, not refused
-marks-g : mark_of some (marked (until 9 none) (2 ∷ []) (1 ∷ []) (0 ∷ [])) ≡ gives best
+marks-g : mark_of Some (marked (until 9 None) (2 ∷ []) (1 ∷ []) (0 ∷ [])) ≡ gives best
 unfolding answered
 marks-g = refl
 
 -- three calls with end 3 are other calls, from the third on
-marks-three : mark_of some (marked base (1 ∷ 2 ∷ 1 ∷ []) (3 ∷ []) (0 ∷ [])) ≡ gives (other_calls 3)
+marks-three : mark_of Some (marked base (1 ∷ 2 ∷ 1 ∷ []) (3 ∷ []) (0 ∷ [])) ≡ gives (other_calls 3)
 unfolding answered
 marks-three = refl
 
 -- run ends that miss the calls
-misses : mark_of some (marked base tour (1 ∷ []) (0 ∷ [])) ≡ refused 5
+misses : mark_of Some (marked base tour (1 ∷ []) (0 ∷ [])) ≡ refused 5
 unfolding answered
 misses = refl
 
@@ -107,16 +107,16 @@ misses = refl
 abbrev improving : Sheet → List ℕ → List ℕ → List ℕ → Lent ℕ
 improving s calls ends rooms = record { sheet = s; tour = []; calls = calls; ends = ends; breaks = []; rooms = rooms }
 
-reverses : two_opt_of some (improving base tour [] (2 ∷ [])) ≡ gives (record { calls = tour; distance = 27 })
+reverses : two_opt_of Some (improving base tour [] (2 ∷ [])) ≡ gives (record { calls = tour; distance = 27 })
 unfolding answered
 reverses = refl
 
 -- runs 1 and 2 become one
-eliminates : eliminate_of some (improving base tour (1 ∷ 2 ∷ []) (2 ∷ 2 ∷ [])) ≡ gives (record { calls = tour; ends = 2 ∷ [] })
+eliminates : eliminate_of Some (improving base tour (1 ∷ 2 ∷ []) (2 ∷ 2 ∷ [])) ≡ gives (record { calls = tour; ends = 2 ∷ [] })
 unfolding answered
 eliminates = refl
 
 -- lateness pay
-unpaid : two_opt_of some (improving (until 9 (some 3)) tour [] (2 ∷ [])) ≡ refused 4
+unpaid : two_opt_of Some (improving (until 9 (Some 3)) tour [] (2 ∷ [])) ≡ refused 4
 unfolding answered
 unpaid = refl

@@ -2,7 +2,7 @@
 use Prim.Native.Nat.{ℕ}
 use mathlib.Core.Path.{◌≡◌}
 use mathlib.Core.List.{List, [], ◌∷◌}
-use mathlib.Core.Option.{Option, none, some}
+use Rattle.std.specs.Prelude.{Option, None, Some}
 use Rattle.definitions.specs.Load.{of_seats}
 use Rattle.definitions.specs.Sheet.{asking, Window, Break, Customer, Sheet, depot, drive}
 use Rattle.definitions.specs.Window.{enter}
@@ -25,16 +25,16 @@ opened = tt
 -- ---- the sheets: places 3, demands 2, fixed 0, no service
 
 abbrev pub window : ℕ → ℕ → Option Window
-window ready due = some (record { ready = ready; due = due })
+window ready due = Some (record { ready = ready; due = due })
 
 abbrev pub pause : ℕ → ℕ → ℕ → Option Break
-pause earliest latest duration = some (record { earliest = earliest; latest = latest; duration = duration })
+pause earliest latest duration = Some (record { earliest = earliest; latest = latest; duration = duration })
 
 abbrev pub person : Option Window → Option ℕ → Customer
 person window penalty = asking (of_seats 2) 0 window penalty
 
 abbrev pub anyone : Customer
-anyone = person none none
+anyone = person None None
 
 abbrev pub sheet : (capacity : ℕ) (legs : List ℕ) (max_distance max_duration : Option ℕ) (rest : Option Break) (first : Customer) → Sheet
 sheet capacity legs max_distance max_duration rest first =
@@ -49,30 +49,30 @@ abbrev pub legs : List ℕ
 legs = 0 ∷ 10 ∷ 12 ∷ 10 ∷ 0 ∷ 5 ∷ 12 ∷ 5 ∷ 0 ∷ []
 
 abbrev pub base : Sheet
-base = sheet 4 legs none none none anyone
+base = sheet 4 legs None None None anyone
 
 abbrev pub carrying : ℕ → Sheet
-carrying capacity = sheet capacity legs none none none anyone
+carrying capacity = sheet capacity legs None None None anyone
 
 -- customer 1 is asked for by due
 abbrev pub until : ℕ → Option ℕ → Sheet
-until due penalty = sheet 4 legs none none none (person (window 0 due) penalty)
+until due penalty = sheet 4 legs None None None (person (window 0 due) penalty)
 
 abbrev pub limited : ℕ → Sheet
-limited limit = sheet 4 legs (some limit) none none anyone
+limited limit = sheet 4 legs (Some limit) None None anyone
 
 abbrev pub rested : ℕ → ℕ → ℕ → Sheet
-rested earliest latest duration = sheet 4 legs none none (pause earliest latest duration) anyone
+rested earliest latest duration = sheet 4 legs None None (pause earliest latest duration) anyone
 
 -- break 0, 30, 4; customer 1 has a window and a penalty
 abbrev pub late : ℕ → ℕ → ℕ → Sheet
-late ready due penalty = sheet 4 legs none none (pause 0 30 4) (person (window ready due) (some penalty))
+late ready due penalty = sheet 4 legs None None (pause 0 30 4) (person (window ready due) (Some penalty))
 
 -- base with a time table of its own: 1 to customer 1, 2 on to customer 2, 4 home, and 8 from depot to depot
 abbrev pub timed : Sheet
 timed =
     record {
-      head = record { places = 3; capacity = of_seats 4; fixed = 0; max_distance = none; max_duration = none; rest = none };
+      head = record { places = 3; capacity = of_seats 4; fixed = 0; max_distance = None; max_duration = None; rest = None };
       customers = depot ∷ anyone ∷ anyone ∷ [];
       legs = record { distances = legs; times = 8 ∷ 1 ∷ 9 ∷ 9 ∷ 9 ∷ 2 ∷ 4 ∷ 9 ∷ 9 ∷ [] };
     }
@@ -81,13 +81,13 @@ timed =
 abbrev pub full : Sheet
 full =
     record {
-      head = record { places = 6; capacity = of_seats 4; fixed = 3; max_distance = some 60; max_duration = some 80; rest = pause 24 30 4 };
+      head = record { places = 6; capacity = of_seats 4; fixed = 3; max_distance = Some 60; max_duration = Some 80; rest = pause 24 30 4 };
       customers = depot
-          ∷ asking (of_seats 1) 1 (window 0 14) none
-          ∷ asking (of_seats 2) 0 none none
-          ∷ asking (of_seats 1) 20 (window 0 31) none
-          ∷ asking (of_seats 1) 3 none none
-          ∷ asking (of_seats 1) 1 (window 26 27) (some 5)
+          ∷ asking (of_seats 1) 1 (window 0 14) None
+          ∷ asking (of_seats 2) 0 None None
+          ∷ asking (of_seats 1) 20 (window 0 31) None
+          ∷ asking (of_seats 1) 3 None None
+          ∷ asking (of_seats 1) 1 (window 26 27) (Some 5)
           ∷ [];
       legs = record {
         distances = 0 ∷ 10 ∷ 12 ∷ 25 ∷ 20 ∷ 6
@@ -129,7 +129,7 @@ totals distance duration lateness pay place =
 
 -- the run 1 2 by the clock, nothing late: its break place, the break's start, and when it is home
 abbrev pub evaluated : Sheet → ℕ → ℕ → ℕ → Type 0
-evaluated s place at home = route_eval s tour ≡ some (record { totals = totals 27 home 0 0 place; start = some at })
+evaluated s place at home = route_eval s tour ≡ Some (record { totals = totals 27 home 0 0 place; start = Some at })
 
 abbrev pub run : List ℕ → ℕ → Run
 run calls place = record { calls = calls; place = place }

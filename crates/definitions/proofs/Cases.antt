@@ -3,7 +3,7 @@ use Prim.Native.Nat.{ℕ}
 use mathlib.Core.Path.{◌≡◌, refl}
 use mathlib.Core.Bool.{true, false}
 use mathlib.Core.List.{List, [], ◌∷◌}
-use mathlib.Core.Option.{none, some}
+use Rattle.std.specs.Prelude.{None, Some}
 use Rattle.definitions.specs.Load.{of_seats}
 use Rattle.definitions.specs.Sheet.{Sheet, depot, any_soft}
 use Rattle.definitions.specs.Run.{Run, legal}
@@ -39,7 +39,7 @@ case-d = refl
 
 -- leg 1-2 is 22
 abbrev as_far : Sheet
-as_far = sheet 4 (0 ∷ 10 ∷ 12 ∷ 10 ∷ 0 ∷ 22 ∷ 12 ∷ 22 ∷ 0 ∷ []) none none none anyone
+as_far = sheet 4 (0 ∷ 10 ∷ 12 ∷ 10 ∷ 0 ∷ 22 ∷ 12 ∷ 22 ∷ 0 ∷ []) None None None anyone
 
 -- runs 1 and 2, each with no break
 abbrev each_alone : List Run
@@ -50,16 +50,16 @@ pub case-e : (split_tw as_far tour ≡ together 44 44 0) × (legal_cutting as_fa
 unfolding opened
 case-e = (refl, refl, refl)
 
-pub case-f : split_tw (until 10 none) tour ≡ together 27 27 0
+pub case-f : split_tw (until 10 None) tour ≡ together 27 27 0
 unfolding opened
 case-f = refl
 
-pub case-g : split_tw (until 9 none) tour ≡ single 2 1 24
+pub case-g : split_tw (until 9 None) tour ≡ single 2 1 24
 unfolding opened
 case-g = refl
 
 -- cost 30, distance 27
-pub case-h : split_tw (until 9 (some 3)) tour ≡ together 30 27 0
+pub case-h : split_tw (until 9 (Some 3)) tour ≡ together 30 27 0
 unfolding opened
 case-h = refl
 
@@ -77,7 +77,7 @@ case-k = refl
 
 -- leg 1 to 0 is 30, limit 27
 abbrev one_way : Sheet
-one_way = sheet 4 (0 ∷ 10 ∷ 12 ∷ 30 ∷ 0 ∷ 5 ∷ 12 ∷ 5 ∷ 0 ∷ []) (some 27) none none anyone
+one_way = sheet 4 (0 ∷ 10 ∷ 12 ∷ 30 ∷ 0 ∷ 5 ∷ 12 ∷ 5 ∷ 0 ∷ []) (Some 27) None None anyone
 
 -- 1 dropped though run 1 2 is legal
 pub case-l : (split_tw one_way tour ≡ single 2 1 24) × (legal one_way (run tour 0) ≡ true)
@@ -91,7 +91,7 @@ case-m = (refl, refl)
 
 -- tour 1: without a break home at 20, when one is due; so break at the first call at 20, home at 34
 pub case-n : (split_tw (rested 20 30 4) (1 ∷ []) ≡ record { served = 1 ∷ []; ends = 1 ∷ []; dropped = []; cost = 20; distance = 20; places = 1 ∷ [] })
-    × (route_eval (rested 20 30 4) (1 ∷ []) ≡ some (record { totals = totals 20 34 0 0 1; start = some 20 }))
+    × (route_eval (rested 20 30 4) (1 ∷ []) ≡ Some (record { totals = totals 20 34 0 0 1; start = Some 20 }))
 unfolding opened
 case-n = (refl, refl)
 
@@ -116,7 +116,7 @@ listed_twice = 1 ∷ 2 ∷ 1 ∷ []
 abbrev to_cut_twice : Lent ℕ
 to_cut_twice = record { sheet = base; tour = listed_twice; calls = []; ends = []; breaks = []; rooms = 3 ∷ 3 ∷ 3 ∷ [] }
 
-pub case-r : (split_tw_of some to_cut_twice ≡ refused 21) × (read_words (encode [] base listed_twice) false ≡ refused_at 21 18)
+pub case-r : (split_tw_of Some to_cut_twice ≡ refused 21) × (read_words (encode [] base listed_twice) false ≡ refused_at 21 18)
 unfolding answer refusal_of refusals bad_sheet out_of_range pairs_fall closures_differ any_closed any_soft read_words walk fault_at may_stand in_range pair_falls encode body_words
 case-r = (refl, refl)
 
@@ -126,7 +126,7 @@ case-r = (refl, refl)
 abbrev again : Sheet
 again =
     record {
-      head = record { places = 4; capacity = of_seats 6; fixed = 0; max_distance = some 40; max_duration = none; rest = none };
+      head = record { places = 4; capacity = of_seats 6; fixed = 0; max_distance = Some 40; max_duration = None; rest = None };
       customers = depot ∷ anyone ∷ anyone ∷ anyone ∷ [];
       legs = record { distances = 0 ∷ 10 ∷ 5 ∷ 10 ∷ 10 ∷ 0 ∷ 5 ∷ 5 ∷ 30 ∷ 5 ∷ 0 ∷ 5 ∷ 10 ∷ 5 ∷ 5 ∷ 0 ∷ []; times = [] };
     }

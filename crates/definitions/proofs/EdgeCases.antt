@@ -5,7 +5,7 @@ use native.Mathlib.Omega.{arith}
 use mathlib.Core.Path.{◌≡◌, refl}
 use mathlib.Core.Bool.{true, false}
 use mathlib.Core.List.{List, [], ◌∷◌}
-use mathlib.Core.Option.{Option, none, some}
+use Rattle.std.specs.Prelude.{Option, None, Some}
 use borrow.Author.Tests.{le-ltb}
 use Rattle.definitions.specs.Load.{of_seats}
 use Rattle.definitions.specs.Sheet.{Break}
@@ -24,19 +24,19 @@ one = 1 ∷ []
 abbrev Plans : (earliest place home : ℕ) → Option ℕ → Type 0
 Plans earliest place home start =
     (split_tw (rested earliest 30 4) one ≡ record { served = one; ends = one; dropped = []; cost = 20; distance = 20; places = place ∷ [] })
-    × (route_eval (rested earliest 30 4) one ≡ some (record { totals = totals 20 home 0 0 place; start = start }))
+    × (route_eval (rested earliest 30 4) one ≡ Some (record { totals = totals 20 home 0 0 place; start = start }))
 
 -- the mark of customer 1 alone with its break at this place
 abbrev marked : (earliest place : ℕ) → Verdict
 marked earliest place = mark (rested earliest 30 4) one (run one place ∷ [])
 
 -- home one before earliest
-pub edge-before : Plans 21 0 20 none
+pub edge-before : Plans 21 0 20 None
 unfolding opened
 edge-before = (refl, refl)
 
 -- home one after it
-pub edge-after : Plans 19 1 33 (some 19)
+pub edge-after : Plans 19 1 33 (Some 19)
 unfolding opened
 edge-after = (refl, refl)
 
@@ -46,7 +46,7 @@ unfolding opened
 edge-legal = (refl, refl, refl)
 
 -- home at earliest, and with the break after due: dropped
-pub edge-dropped : split_tw (sheet 4 legs none none (pause 20 30 4) (person (window 0 23) none)) one ≡ nothing_served one
+pub edge-dropped : split_tw (sheet 4 legs None None (pause 20 30 4) (person (window 0 23) None)) one ≡ nothing_served one
 unfolding opened
 edge-dropped = refl
 
@@ -66,7 +66,7 @@ marked-after-earliest = (refl, refl)
 
 -- the visit of case n: there at 10, the break from 20 to 24, then served
 pub visit-at-earliest : build_route (rested 20 30 4) one
-    ≡ record { visits = record { customer = 1; arrival = 10; departure = 24; load = of_seats 2 } ∷ []; totals = totals 20 34 0 0 1; load = of_seats 2; start = some 20; violations = [] }
+    ≡ record { visits = record { customer = 1; arrival = 10; departure = 24; load = of_seats 2 } ∷ []; totals = totals 20 34 0 0 1; load = of_seats 2; start = Some 20; violations = [] }
 unfolding opened
 visit-at-earliest = refl
 
@@ -75,8 +75,8 @@ pub never-excused : (b : Break) (duration : ℕ) → b.earliest ≡ 0 → excuse
 never-excused b duration e = le-ltb duration b.earliest (omega (arith, e))
 
 -- the empty run, home at 0: excused from earliest 1 on
-pub empty-edge : (route_eval (rested 1 30 4) [] ≡ some (record { totals = totals 0 0 0 0 0; start = none }))
-    × (route_eval (rested 0 30 4) [] ≡ none)
+pub empty-edge : (route_eval (rested 1 30 4) [] ≡ Some (record { totals = totals 0 0 0 0 0; start = None }))
+    × (route_eval (rested 0 30 4) [] ≡ None)
     × (route_feasible (rested 0 30 4) [] ≡ false)
 unfolding opened
 empty-edge = (refl, refl, refl)

@@ -4,7 +4,7 @@ use Prim.Native.Nat.{ℕ}
 use mathlib.Core.Path.{◌≡◌, refl}
 use mathlib.Core.Bool.{true, false}
 use mathlib.Core.List.{List, [], ◌∷◌, ◌++◌, map}
-use mathlib.Core.Option.{Option, none, some}
+use Rattle.std.specs.Prelude.{None, Some}
 use Rattle.definitions.specs.Load.{of_seats}
 use Rattle.definitions.specs.Sheet.{asking, depot, any_soft}
 use Rattle.definitions.specs.Run.{legal}
@@ -46,28 +46,28 @@ listed-text = tt
 -- ---- Run evaluation
 
 -- the lateness and the pay of three calls add up, each by its own penalty times its own lateness
-crooked-late : route_eval_of some (lend crooked [] (1 ∷ 1 ∷ 2 ∷ []) [] [] []) ≡ gives (some (record { totals = totals 31 17 8 28 0; start = none }))
+crooked-late : route_eval_of Some (lend crooked [] (1 ∷ 1 ∷ 2 ∷ []) [] [] []) ≡ gives (Some (record { totals = totals 31 17 8 28 0; start = None }))
 unfolding answering
 crooked-late = refl
 
 -- times, not distances, lead to the break and on from it
-crooked-break : route_eval_of some (lend crooked_break [] (1 ∷ 1 ∷ 2 ∷ []) [] [] []) ≡ gives (some (record { totals = totals 31 20 7 14 2; start = some 6 }))
+crooked-break : route_eval_of Some (lend crooked_break [] (1 ∷ 1 ∷ 2 ∷ []) [] [] []) ≡ gives (Some (record { totals = totals 31 20 7 14 2; start = Some 6 }))
 unfolding answering
 crooked-break = refl
 
-near-feasible : route_feasible_of some (lend near [] (1 ∷ 2 ∷ []) [] [] []) ≡ gives false
+near-feasible : route_feasible_of Some (lend near [] (1 ∷ 2 ∷ []) [] [] []) ≡ gives false
 unfolding answering
 near-feasible = refl
 
-near-eval : route_eval_of some (lend near [] (2 ∷ []) [] [] []) ≡ gives (some (record { totals = totals 24 24 0 0 0; start = none }))
+near-eval : route_eval_of Some (lend near [] (2 ∷ []) [] [] []) ≡ gives (Some (record { totals = totals 24 24 0 0 0; start = None }))
 unfolding answering
 near-eval = refl
 
-near-eval-refused : route_eval_of some (lend near [] (3 ∷ []) [] [] []) ≡ refused 1
+near-eval-refused : route_eval_of Some (lend near [] (3 ∷ []) [] [] []) ≡ refused 1
 unfolding answering
 near-eval-refused = refl
 
-crooked-eval-pay : route_eval_of some (lend crooked [] (0 ∷ []) [] [] []) ≡ refused 1
+crooked-eval-pay : route_eval_of Some (lend crooked [] (0 ∷ []) [] [] []) ≡ refused 1
 unfolding answering
 crooked-eval-pay = refl
 
@@ -83,76 +83,76 @@ unfolding answering
 illegal-break = refl
 
 -- each call has its own service
-served-twice : route_eval_of some (lend serving [] (1 ∷ 1 ∷ []) [] [] []) ≡ gives (some (record { totals = totals 10 14 0 0 1; start = some 5 }))
+served-twice : route_eval_of Some (lend serving [] (1 ∷ 1 ∷ []) [] [] []) ≡ gives (Some (record { totals = totals 10 14 0 0 1; start = Some 5 }))
 unfolding answering
 served-twice = refl
 
-tie-both-late : route_eval_of some (lend both_late [] (1 ∷ 2 ∷ []) [] [] []) ≡ gives (some (record { totals = totals 15 17 1 5 1; start = some 4 }))
+tie-both-late : route_eval_of Some (lend both_late [] (1 ∷ 2 ∷ []) [] [] []) ≡ gives (Some (record { totals = totals 15 17 1 5 1; start = Some 4 }))
 unfolding answering
 tie-both-late = refl
 
 -- ---- The two cuts
 
-near-split : split_of some (lend near (1 ∷ 2 ∷ []) [] [] [] (2 ∷ 2 ∷ 2 ∷ [])) ≡ gives (record { served = 1 ∷ 2 ∷ []; ends = 2 ∷ []; dropped = []; cost = 27; distance = 27; places = 0 ∷ [] })
+near-split : split_of Some (lend near (1 ∷ 2 ∷ []) [] [] [] (2 ∷ 2 ∷ 2 ∷ [])) ≡ gives (record { served = 1 ∷ 2 ∷ []; ends = 2 ∷ []; dropped = []; cost = 27; distance = 27; places = 0 ∷ [] })
 unfolding answering
 near-split = refl
 
-near-split-tw : split_tw_of some (lend near (1 ∷ 2 ∷ []) [] [] [] (2 ∷ 2 ∷ 2 ∷ []))
+near-split-tw : split_tw_of Some (lend near (1 ∷ 2 ∷ []) [] [] [] (2 ∷ 2 ∷ 2 ∷ []))
     ≡ gives (record { served = 1 ∷ 2 ∷ []; ends = 1 ∷ 2 ∷ []; dropped = []; cost = 44; distance = 44; places = 0 ∷ 0 ∷ [] })
 unfolding answering
 near-split-tw = refl
 
 -- ---- Visits and violations
 
-crooked-visits : build_route_of some (lend crooked_break [] (2 ∷ 1 ∷ 1 ∷ []) [] [] (3 ∷ 7 ∷ []))
+crooked-visits : build_route_of Some (lend crooked_break [] (2 ∷ 1 ∷ 1 ∷ []) [] [] (3 ∷ 7 ∷ []))
     ≡ gives (record {
       visits = (record { customer = 2; arrival = 7; departure = 12; load = of_seats 2 } ∷ record { customer = 1; arrival = 20; departure = 21; load = of_seats 3 }
           ∷ record { customer = 1; arrival = 22; departure = 23; load = of_seats 4 } ∷ []);
       totals = totals 41 32 36 72 1;
       load = of_seats 4;
-      start = some 7;
+      start = Some 7;
       violations = [];
     })
 unfolding answering
 crooked-visits = refl
 
 -- distance 31 is over 30, and the duration is another number
-crooked-too-far : build_route_of some (lend crooked_hard [] (1 ∷ 1 ∷ 2 ∷ []) [] [] (3 ∷ 7 ∷ []))
+crooked-too-far : build_route_of Some (lend crooked_hard [] (1 ∷ 1 ∷ 2 ∷ []) [] [] (3 ∷ 7 ∷ []))
     ≡ gives (record {
       visits = (record { customer = 1; arrival = 4; departure = 5; load = of_seats 1 } ∷ record { customer = 1; arrival = 6; departure = 7; load = of_seats 2 }
           ∷ record { customer = 2; arrival = 10; departure = 12; load = of_seats 4 } ∷ []);
       totals = totals 31 17 0 0 0;
       load = of_seats 4;
-      start = none;
+      start = None;
       violations = (break_not_placeable
           ∷ over_distance 31 30 ∷ []);
     })
 unfolding answering
 crooked-too-far = refl
 
-crooked-back : build_route_of some (lend crooked_hard [] (2 ∷ 1 ∷ []) [] [] (2 ∷ 6 ∷ []))
+crooked-back : build_route_of Some (lend crooked_hard [] (2 ∷ 1 ∷ []) [] [] (2 ∷ 6 ∷ []))
     ≡ gives (record {
       visits = (record { customer = 2; arrival = 7; departure = 12; load = of_seats 2 } ∷ record { customer = 1; arrival = 20; departure = 21; load = of_seats 3 } ∷ []);
       totals = totals 38 30 0 0 1;
       load = of_seats 3;
-      start = some 7;
+      start = Some 7;
       violations = (over_distance 38 30 ∷ []);
     })
 unfolding answering
 crooked-back = refl
 
-near-visits : build_route_of some (lend near [] (1 ∷ 2 ∷ []) [] [] (2 ∷ 6 ∷ []))
+near-visits : build_route_of Some (lend near [] (1 ∷ 2 ∷ []) [] [] (2 ∷ 6 ∷ []))
     ≡ gives (record {
       visits = (record { customer = 1; arrival = 10; departure = 10; load = of_seats 2 } ∷ record { customer = 2; arrival = 15; departure = 15; load = of_seats 4 } ∷ []);
       totals = totals 27 27 0 0 0;
       load = of_seats 4;
-      start = none;
+      start = None;
       violations = (over_distance 27 26 ∷ []);
     })
 unfolding answering
 near-visits = refl
 
-near-visits-short : build_route_of some (lend near [] (1 ∷ 2 ∷ []) [] [] (2 ∷ 4 ∷ [])) ≡ refused 13
+near-visits-short : build_route_of Some (lend near [] (1 ∷ 2 ∷ []) [] [] (2 ∷ 4 ∷ [])) ≡ refused 13
 unfolding answering
 near-visits-short = refl
 
@@ -168,11 +168,11 @@ violation-values = refl
 -- ---- Marks
 
 -- by the times the bus is there at 8
-crooked-break-late : mark_of some (lend crooked_mark (1 ∷ 2 ∷ []) (1 ∷ 2 ∷ []) (2 ∷ []) (2 ∷ []) []) ≡ gives (break_too_late 1 2 2 8 5)
+crooked-break-late : mark_of Some (lend crooked_mark (1 ∷ 2 ∷ []) (1 ∷ 2 ∷ []) (2 ∷ []) (2 ∷ []) []) ≡ gives (break_too_late 1 2 2 8 5)
 unfolding answering
 crooked-break-late = refl
 
-crooked-dearer : mark_of some (lend crooked (1 ∷ 2 ∷ []) (1 ∷ 2 ∷ []) (1 ∷ 2 ∷ []) (0 ∷ 0 ∷ []) []) ≡ gives (dearer 29)
+crooked-dearer : mark_of Some (lend crooked (1 ∷ 2 ∷ []) (1 ∷ 2 ∷ []) (1 ∷ 2 ∷ []) (0 ∷ 0 ∷ []) []) ≡ gives (dearer 29)
 unfolding answering
 crooked-dearer = refl
 
@@ -190,46 +190,46 @@ verdict-values = refl
 
 -- ---- The improvers
 
-turned-by-distance : two_opt_of some (lend by_distance [] (2 ∷ 1 ∷ 3 ∷ []) [] [] (3 ∷ [])) ≡ gives (record { calls = 1 ∷ 2 ∷ 3 ∷ []; distance = 6 })
+turned-by-distance : two_opt_of Some (lend by_distance [] (2 ∷ 1 ∷ 3 ∷ []) [] [] (3 ∷ [])) ≡ gives (record { calls = 1 ∷ 2 ∷ 3 ∷ []; distance = 6 })
 unfolding improving
 turned-by-distance = refl
 
-turned_on : two_opt_of some (lend knotted [] (1 ∷ 2 ∷ 3 ∷ 4 ∷ 5 ∷ []) [] [] (5 ∷ [])) ≡ gives (record { calls = 4 ∷ 2 ∷ 1 ∷ 3 ∷ 5 ∷ []; distance = 15 })
+turned_on : two_opt_of Some (lend knotted [] (1 ∷ 2 ∷ 3 ∷ 4 ∷ 5 ∷ []) [] [] (5 ∷ [])) ≡ gives (record { calls = 4 ∷ 2 ∷ 1 ∷ 3 ∷ 5 ∷ []; distance = 15 })
 unfolding improving
 turned_on = refl
 
-emptied-by-distance : eliminate_of some (lend by_distance [] (1 ∷ 3 ∷ 2 ∷ []) (2 ∷ 3 ∷ []) [] (3 ∷ 2 ∷ [])) ≡ gives (record { calls = 1 ∷ 2 ∷ 3 ∷ []; ends = 3 ∷ [] })
+emptied-by-distance : eliminate_of Some (lend by_distance [] (1 ∷ 3 ∷ 2 ∷ []) (2 ∷ 3 ∷ []) [] (3 ∷ 2 ∷ [])) ≡ gives (record { calls = 1 ∷ 2 ∷ 3 ∷ []; ends = 3 ∷ [] })
 unfolding improving
 emptied-by-distance = refl
 
-emptied-for-the-fixed-cost : eliminate_of some (lend fixed_pays [] (1 ∷ 2 ∷ []) (1 ∷ 2 ∷ []) [] (2 ∷ 2 ∷ [])) ≡ gives (record { calls = 1 ∷ 2 ∷ []; ends = 2 ∷ [] })
+emptied-for-the-fixed-cost : eliminate_of Some (lend fixed_pays [] (1 ∷ 2 ∷ []) (1 ∷ 2 ∷ []) [] (2 ∷ 2 ∷ [])) ≡ gives (record { calls = 1 ∷ 2 ∷ []; ends = 2 ∷ [] })
 unfolding improving
 emptied-for-the-fixed-cost = refl
 
-emptied-in-order : eliminate_of some (lend several [] (3 ∷ 4 ∷ 2 ∷ 1 ∷ []) (1 ∷ 2 ∷ 3 ∷ 4 ∷ []) [] (4 ∷ 4 ∷ [])) ≡ gives (record { calls = 1 ∷ 4 ∷ 2 ∷ 3 ∷ []; ends = 2 ∷ 4 ∷ [] })
+emptied-in-order : eliminate_of Some (lend several [] (3 ∷ 4 ∷ 2 ∷ 1 ∷ []) (1 ∷ 2 ∷ 3 ∷ 4 ∷ []) [] (4 ∷ 4 ∷ [])) ≡ gives (record { calls = 1 ∷ 4 ∷ 2 ∷ 3 ∷ []; ends = 2 ∷ 4 ∷ [] })
 unfolding improving
 emptied-in-order = refl
 
 -- a run of three calls goes
-emptied-three : eliminate_of some (lend on_aLine [] (1 ∷ 3 ∷ 5 ∷ 4 ∷ 2 ∷ 3 ∷ 1 ∷ []) (3 ∷ 7 ∷ []) [] (7 ∷ 2 ∷ [])) ≡ gives (record { calls = 1 ∷ 3 ∷ 5 ∷ 4 ∷ 2 ∷ 3 ∷ 1 ∷ []; ends = 7 ∷ [] })
+emptied-three : eliminate_of Some (lend on_aLine [] (1 ∷ 3 ∷ 5 ∷ 4 ∷ 2 ∷ 3 ∷ 1 ∷ []) (3 ∷ 7 ∷ []) [] (7 ∷ 2 ∷ [])) ≡ gives (record { calls = 1 ∷ 3 ∷ 5 ∷ 4 ∷ 2 ∷ 3 ∷ 1 ∷ []; ends = 7 ∷ [] })
 unfolding improving
 emptied-three = refl
 
-near-eliminate-ends : eliminate_of some (lend near [] (1 ∷ 2 ∷ []) (1 ∷ []) [] (2 ∷ 1 ∷ [])) ≡ refused 5
+near-eliminate-ends : eliminate_of Some (lend near [] (1 ∷ 2 ∷ []) (1 ∷ []) [] (2 ∷ 1 ∷ [])) ≡ refused 5
 unfolding improving
 near-eliminate-ends = refl
 
-near-eliminate-short : eliminate_of some (lend near [] (1 ∷ 2 ∷ []) (1 ∷ 2 ∷ []) [] (2 ∷ 1 ∷ [])) ≡ refused 13
+near-eliminate-short : eliminate_of Some (lend near [] (1 ∷ 2 ∷ []) (1 ∷ 2 ∷ []) [] (2 ∷ 1 ∷ [])) ≡ refused 13
 unfolding improving
 near-eliminate-short = refl
 
 -- ---- Room
 
-ends-short : refusal_of some cutting (lend near (1 ∷ 2 ∷ []) [] [] [] (2 ∷ 1 ∷ 2 ∷ [])) ≡ some 13
+ends-short : refusal_of Some cutting (lend near (1 ∷ 2 ∷ []) [] [] [] (2 ∷ 1 ∷ 2 ∷ [])) ≡ Some 13
 unfolding answering
 ends-short = refl
 
-served-short : refusal_of some cutting (lend near (1 ∷ 2 ∷ []) [] [] [] (1 ∷ 2 ∷ 2 ∷ [])) ≡ some 13
+served-short : refusal_of Some cutting (lend near (1 ∷ 2 ∷ []) [] [] [] (1 ∷ 2 ∷ 2 ∷ [])) ≡ Some 13
 unfolding answering
 served-short = refl
 
@@ -247,7 +247,7 @@ short-times : read_into (64 ∷ 4096 ∷ 4095 ∷ 128 ∷ []) [] ≡ refused_at 
 unfolding reading
 short-times = refl
 
-front-customers : read_customers (read_words (encode [] crooked (2 ∷ 1 ∷ [])) false) ≡ (depot ∷ asking (of_seats 1) 1 (window 0 3) (some 2) ∷ asking (of_seats 2) 2 (window 0 6) (some 5) ∷ [])
+front-customers : read_customers (read_words (encode [] crooked (2 ∷ 1 ∷ [])) false) ≡ (depot ∷ asking (of_seats 1) 1 (window 0 3) (Some 2) ∷ asking (of_seats 2) 2 (window 0 6) (Some 5) ∷ [])
 unfolding reading
 front-customers = refl
 

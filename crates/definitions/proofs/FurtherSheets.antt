@@ -1,7 +1,7 @@
 -- Sheets on which numbers differ that are alike on the bench sheets. Definitions only.
 use Prim.Native.Nat.{ℕ}
 use mathlib.Core.List.{List, [], ◌∷◌}
-use mathlib.Core.Option.{Option, none, some}
+use Rattle.std.specs.Prelude.{None, Some}
 use Rattle.definitions.specs.Load.{of_seats}
 use Rattle.definitions.specs.Sheet.{asking, LegsOf, Sheet, depot}
 use Rattle.definitions.specs.Lent.{Lent}
@@ -19,10 +19,10 @@ crooked_legs = record { distances = 1 ∷ 10 ∷ 12 ∷ 20 ∷ 3 ∷ 5 ∷ 13 �
 abbrev pub crooked : Sheet
 crooked =
     record {
-      head = record { places = 3; capacity = of_seats 9; fixed = 7; max_distance = none; max_duration = none; rest = none };
+      head = record { places = 3; capacity = of_seats 9; fixed = 7; max_distance = None; max_duration = None; rest = None };
       customers = depot
-          ∷ asking (of_seats 1) 1 (window 0 3) (some 2)
-          ∷ asking (of_seats 2) 2 (window 0 6) (some 5)
+          ∷ asking (of_seats 1) 1 (window 0 3) (Some 2)
+          ∷ asking (of_seats 2) 2 (window 0 6) (Some 5)
           ∷ [];
       legs = crooked_legs;
     }
@@ -31,8 +31,8 @@ crooked =
 abbrev pub crooked_break : Sheet
 crooked_break =
     record {
-      head = record { places = 3; capacity = of_seats 9; fixed = 7; max_distance = none; max_duration = none; rest = pause 5 9 3 };
-      customers = depot ∷ asking (of_seats 1) 1 (window 0 3) (some 2) ∷ asking (of_seats 2) 2 none none ∷ [];
+      head = record { places = 3; capacity = of_seats 9; fixed = 7; max_distance = None; max_duration = None; rest = pause 5 9 3 };
+      customers = depot ∷ asking (of_seats 1) 1 (window 0 3) (Some 2) ∷ asking (of_seats 2) 2 None None ∷ [];
       legs = crooked_legs;
     }
 
@@ -40,10 +40,10 @@ crooked_break =
 abbrev pub crooked_hard : Sheet
 crooked_hard =
     record {
-      head = record { places = 3; capacity = of_seats 9; fixed = 7; max_distance = some 30; max_duration = none; rest = pause 0 40 3 };
+      head = record { places = 3; capacity = of_seats 9; fixed = 7; max_distance = Some 30; max_duration = None; rest = pause 0 40 3 };
       customers = depot
-          ∷ asking (of_seats 1) 1 (window 0 20) none
-          ∷ asking (of_seats 2) 2 (window 0 12) none
+          ∷ asking (of_seats 1) 1 (window 0 20) None
+          ∷ asking (of_seats 2) 2 (window 0 12) None
           ∷ [];
       legs = crooked_legs;
     }
@@ -52,10 +52,10 @@ crooked_hard =
 abbrev pub crooked_mark : Sheet
 crooked_mark =
     record {
-      head = record { places = 3; capacity = of_seats 9; fixed = 7; max_distance = none; max_duration = none; rest = pause 0 5 3 };
+      head = record { places = 3; capacity = of_seats 9; fixed = 7; max_distance = None; max_duration = None; rest = pause 0 5 3 };
       customers = depot
-          ∷ asking (of_seats 1) 1 (window 0 20) none
-          ∷ asking (of_seats 2) 2 (window 0 12) none
+          ∷ asking (of_seats 1) 1 (window 0 20) None
+          ∷ asking (of_seats 2) 2 (window 0 12) None
           ∷ [];
       legs = crooked_legs;
     }
@@ -64,8 +64,8 @@ crooked_mark =
 abbrev pub near : Sheet
 near =
     record {
-      head = record { places = 3; capacity = of_seats 4; fixed = 0; max_distance = some 26; max_duration = none; rest = none };
-      customers = depot ∷ asking (of_seats 2) 0 none none ∷ asking (of_seats 2) 0 none none ∷ [];
+      head = record { places = 3; capacity = of_seats 4; fixed = 0; max_distance = Some 26; max_duration = None; rest = None };
+      customers = depot ∷ asking (of_seats 2) 0 None None ∷ asking (of_seats 2) 0 None None ∷ [];
       legs = record { distances = 0 ∷ 10 ∷ 12 ∷ 10 ∷ 0 ∷ 5 ∷ 12 ∷ 5 ∷ 0 ∷ []; times = [] };
     }
 
@@ -73,8 +73,8 @@ near =
 abbrev pub serving : Sheet
 serving =
     record {
-      head = record { places = 2; capacity = of_seats 9; fixed = 0; max_distance = none; max_duration = none; rest = pause 3 40 0 };
-      customers = depot ∷ asking (of_seats 1) 2 none none ∷ [];
+      head = record { places = 2; capacity = of_seats 9; fixed = 0; max_distance = None; max_duration = None; rest = pause 3 40 0 };
+      customers = depot ∷ asking (of_seats 1) 2 None None ∷ [];
       legs = record { distances = 0 ∷ 5 ∷ 5 ∷ 0 ∷ []; times = [] };
     }
 
@@ -82,11 +82,11 @@ serving =
 abbrev pub listed : Sheet
 listed =
     record {
-      head = record { places = 4; capacity = of_seats 4; fixed = 3; max_distance = none; max_duration = none; rest = pause 5 15 4 };
+      head = record { places = 4; capacity = of_seats 4; fixed = 3; max_distance = None; max_duration = None; rest = pause 5 15 4 };
       customers = depot
-          ∷ asking (of_seats 2) 0 none none
-          ∷ asking (of_seats 2) 0 none none
-          ∷ asking (of_seats 9) 0 none none
+          ∷ asking (of_seats 2) 0 None None
+          ∷ asking (of_seats 2) 0 None None
+          ∷ asking (of_seats 9) 0 None None
           ∷ [];
       legs = record {
         distances = 0 ∷ 10 ∷ 12 ∷ 7
@@ -102,11 +102,11 @@ listed =
 abbrev pub by_distance : Sheet
 by_distance =
     record {
-      head = record { places = 4; capacity = of_seats 9; fixed = 0; max_distance = none; max_duration = none; rest = none };
+      head = record { places = 4; capacity = of_seats 9; fixed = 0; max_distance = None; max_duration = None; rest = None };
       customers = depot
-          ∷ asking (of_seats 1) 0 none none
-          ∷ asking (of_seats 1) 0 none none
-          ∷ asking (of_seats 1) 0 none none
+          ∷ asking (of_seats 1) 0 None None
+          ∷ asking (of_seats 1) 0 None None
+          ∷ asking (of_seats 1) 0 None None
           ∷ [];
       legs = record {
         distances = 0 ∷ 1 ∷ 2 ∷ 3
@@ -126,8 +126,8 @@ by_distance =
 abbrev pub fixed_pays : Sheet
 fixed_pays =
     record {
-      head = record { places = 3; capacity = of_seats 2; fixed = 9; max_distance = none; max_duration = none; rest = none };
-      customers = depot ∷ asking (of_seats 1) 0 none none ∷ asking (of_seats 1) 0 none none ∷ [];
+      head = record { places = 3; capacity = of_seats 2; fixed = 9; max_distance = None; max_duration = None; rest = None };
+      customers = depot ∷ asking (of_seats 1) 0 None None ∷ asking (of_seats 1) 0 None None ∷ [];
       legs = record { distances = 0 ∷ 1 ∷ 1 ∷ 1 ∷ 0 ∷ 10 ∷ 1 ∷ 10 ∷ 0 ∷ []; times = [] };
     }
 
@@ -135,12 +135,12 @@ fixed_pays =
 abbrev pub several : Sheet
 several =
     record {
-      head = record { places = 5; capacity = of_seats 4; fixed = 0; max_distance = none; max_duration = none; rest = none };
+      head = record { places = 5; capacity = of_seats 4; fixed = 0; max_distance = None; max_duration = None; rest = None };
       customers = depot
-          ∷ asking (of_seats 1) 0 none none
-          ∷ asking (of_seats 3) 0 none none
-          ∷ asking (of_seats 1) 0 none none
-          ∷ asking (of_seats 3) 0 none none
+          ∷ asking (of_seats 1) 0 None None
+          ∷ asking (of_seats 3) 0 None None
+          ∷ asking (of_seats 1) 0 None None
+          ∷ asking (of_seats 3) 0 None None
           ∷ [];
       legs = record {
         distances = 5 ∷ 9 ∷ 7 ∷ 9 ∷ 6
@@ -157,13 +157,13 @@ several =
 abbrev pub on_aLine : Sheet
 on_aLine =
     record {
-      head = record { places = 6; capacity = of_seats 9; fixed = 50; max_distance = none; max_duration = none; rest = none };
+      head = record { places = 6; capacity = of_seats 9; fixed = 50; max_distance = None; max_duration = None; rest = None };
       customers = depot
-          ∷ asking (of_seats 1) 0 none none
-          ∷ asking (of_seats 1) 0 none none
-          ∷ asking (of_seats 1) 0 none none
-          ∷ asking (of_seats 1) 0 none none
-          ∷ asking (of_seats 1) 0 none none
+          ∷ asking (of_seats 1) 0 None None
+          ∷ asking (of_seats 1) 0 None None
+          ∷ asking (of_seats 1) 0 None None
+          ∷ asking (of_seats 1) 0 None None
+          ∷ asking (of_seats 1) 0 None None
           ∷ [];
       legs = record {
         distances = 0 ∷ 1 ∷ 2 ∷ 3 ∷ 4 ∷ 5
@@ -181,13 +181,13 @@ on_aLine =
 abbrev pub knotted : Sheet
 knotted =
     record {
-      head = record { places = 6; capacity = of_seats 9; fixed = 0; max_distance = none; max_duration = none; rest = none };
+      head = record { places = 6; capacity = of_seats 9; fixed = 0; max_distance = None; max_duration = None; rest = None };
       customers = depot
-          ∷ asking (of_seats 1) 0 none none
-          ∷ asking (of_seats 1) 0 none none
-          ∷ asking (of_seats 1) 0 none none
-          ∷ asking (of_seats 1) 0 none none
-          ∷ asking (of_seats 1) 0 none none
+          ∷ asking (of_seats 1) 0 None None
+          ∷ asking (of_seats 1) 0 None None
+          ∷ asking (of_seats 1) 0 None None
+          ∷ asking (of_seats 1) 0 None None
+          ∷ asking (of_seats 1) 0 None None
           ∷ [];
       legs = record {
         distances = 4 ∷ 9 ∷ 7 ∷ 7 ∷ 4 ∷ 2
@@ -205,10 +205,10 @@ knotted =
 abbrev pub both_late : Sheet
 both_late =
     record {
-      head = record { places = 3; capacity = of_seats 9; fixed = 0; max_distance = none; max_duration = none; rest = pause 0 30 2 };
+      head = record { places = 3; capacity = of_seats 9; fixed = 0; max_distance = None; max_duration = None; rest = pause 0 30 2 };
       customers = depot
-          ∷ asking (of_seats 1) 0 (window 0 8) (some 3)
-          ∷ asking (of_seats 1) 0 (window 0 9) (some 5)
+          ∷ asking (of_seats 1) 0 (window 0 8) (Some 3)
+          ∷ asking (of_seats 1) 0 (window 0 9) (Some 5)
           ∷ [];
       legs = record { distances = 0 ∷ 4 ∷ 9 ∷ 5 ∷ 3 ∷ 4 ∷ 7 ∷ 1 ∷ 9 ∷ []; times = [] };
     }

@@ -3,7 +3,7 @@ use Prim.Native.Nat.{ℕ, ◌+◌, ◌-◌, ◌*◌}
 use mathlib.Core.Path.{◌≡◌, refl}
 use mathlib.Core.Bool.{Bool, true, false, cond}
 use mathlib.Core.List.{List, [], ◌∷◌, map}
-use mathlib.Core.Option.{none}
+use Rattle.std.specs.Prelude.{None}
 use lib.ListN.{get_or}
 use lib.Dec.{ltb, leb}
 use Rattle.definitions.specs.Sort.{rising, falling, insert, sort}
@@ -173,7 +173,7 @@ not_first = refl
 abbrev on_line : Sheet
 on_line =
     record {
-      head = record { places = 6; capacity = of_seats 5; fixed = 0; max_distance = none; max_duration = none; rest = none };
+      head = record { places = 6; capacity = of_seats 5; fixed = 0; max_distance = None; max_duration = None; rest = None };
       customers = map asks (0 ∷ 1 ∷ 3 ∷ 0 ∷ 2 ∷ 4 ∷ []);
       legs = record {
         distances = 0 ∷ 1 ∷ 2 ∷ 3 ∷ 4 ∷ 5
@@ -188,7 +188,7 @@ on_line =
     }
   where
     asks : ℕ → Customer
-    asks demand = asking (of_seats demand) 0 none none
+    asks demand = asking (of_seats demand) 0 None None
 
 -- calls 1 2 4 5 with ends 2 3 4 are the runs of `heavier-first`; the result is 2 4 1 5 with ends 2 4
 lent_runs : eliminate on_line (runs_of (1 ∷ 2 ∷ 4 ∷ 5 ∷ []) (2 ∷ 3 ∷ 4 ∷ [])) ≡ record { calls = 2 ∷ 4 ∷ 1 ∷ 5 ∷ []; ends = 2 ∷ 4 ∷ [] }

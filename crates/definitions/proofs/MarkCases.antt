@@ -2,7 +2,7 @@
 use Prim.Native.Nat.{ℕ}
 use mathlib.Core.Path.{◌≡◌, refl}
 use mathlib.Core.List.{List, [], ◌∷◌}
-use mathlib.Core.Option.{none}
+use Rattle.std.specs.Prelude.{None}
 use Rattle.definitions.specs.Marker.{Verdict, other_calls, overload, break_too_late, window_missed, break_missing, too_far, too_long, dearer, cheaper, mark}
 use Rattle.definitions.proofs.Bench.{opened, base, carrying, until, limited, rested, full, tour, run}
 
@@ -30,12 +30,12 @@ unfolding opened
 marked-nothing = refl
 
 -- case g: the one call that is served
-pub marked-served : mark (until 9 none) tour (run (2 ∷ []) 0 ∷ []) ≡ Verdict.best
+pub marked-served : mark (until 9 None) tour (run (2 ∷ []) 0 ∷ []) ≡ Verdict.best
 unfolding opened
 marked-served = refl
 
 -- case g's dropped call besides
-pub marked-dropped : mark (until 9 none) tour (run tour 0 ∷ []) ≡ other_calls 1
+pub marked-dropped : mark (until 9 None) tour (run tour 0 ∷ []) ≡ other_calls 1
 unfolding opened
 marked-dropped = refl
 
@@ -45,7 +45,7 @@ unfolding opened
 marked-load = refl
 
 -- tour 2 1, customer 1 due 14: at the second call of run 1 readiness is 17
-pub marked-window : mark (until 14 none) (2 ∷ 1 ∷ []) (run (2 ∷ 1 ∷ []) 0 ∷ []) ≡ window_missed 1 2 1 17 14
+pub marked-window : mark (until 14 None) (2 ∷ 1 ∷ []) (run (2 ∷ 1 ∷ []) 0 ∷ []) ≡ window_missed 1 2 1 17 14
 unfolding opened
 marked-window = refl
 

@@ -3,7 +3,7 @@ use Prim.Native.Nat.{ℕ}
 use mathlib.Core.Path.{◌≡◌, refl}
 use mathlib.Core.Bool.{false}
 use mathlib.Core.List.{List, [], ◌∷◌, ◌++◌, map}
-use mathlib.Core.Option.{none, some}
+use Rattle.std.specs.Prelude.{None, Some}
 use lib.ListN.{take, set, replicate}
 use Rattle.definitions.specs.Load.{no_load, of_seats}
 use Rattle.definitions.specs.Sheet.{asking, Sheet, Customer, depot}
@@ -19,12 +19,12 @@ m =
     ∷ 0xE0000001 ∷ 0xE0000002 ∷ 0xF0000015 ∷ []
 
 abbrev rider : Customer
-rider = asking (of_seats 2) 0 none none
+rider = asking (of_seats 2) 0 None None
 
 abbrev sheet-m : Sheet
 sheet-m =
     record {
-      head = record { places = 3; capacity = of_seats 4; fixed = 0; max_distance = none; max_duration = none; rest = some (record { earliest = 20; latest = 30; duration = 4 }) };
+      head = record { places = 3; capacity = of_seats 4; fixed = 0; max_distance = None; max_duration = None; rest = Some (record { earliest = 20; latest = 30; duration = 4 }) };
       customers = depot ∷ rider ∷ rider ∷ [];
       legs = record { distances = 0 ∷ 10 ∷ 12 ∷ 10 ∷ 0 ∷ 5 ∷ 12 ∷ 5 ∷ 0 ∷ []; times = [] };
     }
@@ -55,7 +55,7 @@ words-m = refl
 -- the sheet with one place, and nothing to do
 reads-least : read_words (word 1 1 ∷ word 2 0 ∷ word 3 0 ∷ word 0xC 0 ∷ word 0xF 4 ∷ []) false
     ≡ sheet (record {
-      head = record { places = 1; capacity = no_load; fixed = 0; max_distance = none; max_duration = none; rest = none };
+      head = record { places = 1; capacity = no_load; fixed = 0; max_distance = None; max_duration = None; rest = None };
       customers = depot ∷ [];
       legs = record { distances = 0 ∷ []; times = [] };
     }) []
@@ -71,8 +71,8 @@ one inner tail n =
 reads_all : read_words (word 1 2 ∷ word 2 5 ∷ word 3 7 ∷ word 4 10000000 ∷ word 5 9 ∷ word 6 8 ∷ word 6 8 ∷ word 6 0
     ∷ word 7 32767 ∷ word 8 1 ∷ word 9 4 ∷ word 0xA 4 ∷ word 0xB 1000 ∷ (replicate 4 (word 0xC 3) ++ (replicate 4 (word 0xD 2) ++ (word 0xE 1 ∷ word 0xF 22 ∷ [])))) false
     ≡ sheet (record {
-      head = record { places = 2; capacity = of_seats 5; fixed = 7; max_distance = some 10000000; max_duration = some 9; rest = some (record { earliest = 8; latest = 8; duration = 0 }) };
-      customers = depot ∷ asking (of_seats 32767) 1 (some (record { ready = 4; due = 4 })) (some 1000) ∷ [];
+      head = record { places = 2; capacity = of_seats 5; fixed = 7; max_distance = Some 10000000; max_duration = Some 9; rest = Some (record { earliest = 8; latest = 8; duration = 0 }) };
+      customers = depot ∷ asking (of_seats 32767) 1 (Some (record { ready = 4; due = 4 })) (Some 1000) ∷ [];
       legs = record { distances = replicate 4 3; times = replicate 4 2 };
     }) (1 ∷ [])
 unfolding opened
@@ -160,7 +160,7 @@ no-repeat = refl
 abbrev behind_calls : ℕ → State
 behind_calls kind = record { last = word kind 0; row = 2; places = 2; coming = 0; called = 9 ∷ 1 ∷ []; facing = [] }
 
-repeat-in-order : (fault_at (behind_calls 8) 5 (word 0xE 1) ≡ some 11) × (fault_at (behind_calls 0xE) 5 (word 0xE 9) ≡ some 1) × (fault_at (behind_calls 0xE) 5 (word 0xE 1) ≡ some 21)
+repeat-in-order : (fault_at (behind_calls 8) 5 (word 0xE 1) ≡ Some 11) × (fault_at (behind_calls 0xE) 5 (word 0xE 9) ≡ Some 1) × (fault_at (behind_calls 0xE) 5 (word 0xE 1) ≡ Some 21)
 unfolding opened
 repeat-in-order = (refl, refl, refl)
 

@@ -3,7 +3,7 @@ use Prim.Native.Nat.{ℕ}
 use mathlib.Core.Path.{◌≡◌, refl}
 use mathlib.Core.Bool.{true, false}
 use mathlib.Core.List.{List, [], ◌∷◌, ◌++◌, map}
-use mathlib.Core.Option.{Option, none, some}
+use Rattle.std.specs.Prelude.{Option, None, Some}
 use Rattle.definitions.specs.Domain.{no_road}
 use Rattle.definitions.specs.Load.{of_seats, no_load}
 use Rattle.definitions.specs.Sheet.{asking, Break, Customer, Sheet, depot, any_soft}
@@ -42,7 +42,7 @@ ford = roads (0 ∷ 10 ∷ 12 ∷ 10 ∷ 0 ∷ no_road ∷ 12 ∷ 5 ∷ 0 ∷ []
 abbrev ford_with : Option ℕ → Option Break → Sheet
 ford_with max_distance rest =
     record {
-      head = record { places = 3; capacity = of_seats 4; fixed = 0; max_distance = max_distance; max_duration = none; rest = rest };
+      head = record { places = 3; capacity = of_seats 4; fixed = 0; max_distance = max_distance; max_duration = None; rest = rest };
       customers = ford.customers;
       legs = ford.legs;
     }
@@ -68,7 +68,7 @@ unfolding opened
 case-ford = (refl, refl, refl)
 
 -- no limit is needed for a closed leg to count: its number is within one that large
-far-limit : legal (ford_with (some 300000000) none)
+far-limit : legal (ford_with (Some 300000000) None)
     (run tour 0)
     ≡ false
 unfolding opened
@@ -81,10 +81,10 @@ case-no-way-home = (refl, refl)
 
 -- case l's trap: 1 is dropped though run 1 2 is legal; the closed way home bars run 1, and not the longer one
 case-l-closed : (split_tw (roads away_from_one []) tour ≡ single 2 1 24) × (legal (roads away_from_one []) (run tour 0) ≡ true)
-    × (arc (roads away_from_one []) (1 ∷ []) ≡ none)
-    × (arc (roads away_from_one []) tour ≡ some (record { place = 0; cost = 27 }))
-    × (plain_arc (roads away_from_one []) (1 ∷ []) ≡ none)
-    × (plain_arc (roads away_from_one []) tour ≡ some (record { place = 0; cost = 27 }))
+    × (arc (roads away_from_one []) (1 ∷ []) ≡ None)
+    × (arc (roads away_from_one []) tour ≡ Some (record { place = 0; cost = 27 }))
+    × (plain_arc (roads away_from_one []) (1 ∷ []) ≡ None)
+    × (plain_arc (roads away_from_one []) tour ≡ Some (record { place = 0; cost = 27 }))
 unfolding opened
 case-l-closed = (refl, refl, refl, refl, refl, refl)
 
@@ -93,7 +93,7 @@ abbrev big_second : Sheet
 big_second =
     record {
       head = base.head;
-      customers = depot ∷ anyone ∷ asking (of_seats 5) 0 none none ∷ [];
+      customers = depot ∷ anyone ∷ asking (of_seats 5) 0 None None ∷ [];
       legs = record { distances = away_from_one; times = [] };
     }
 
@@ -103,9 +103,9 @@ unfolding opened
 in-its-turn = (refl, refl, refl)
 
 -- with a break the clock goes no further either
-rested-ford : route_eval (ford_with none (pause 0 30 4))
+rested-ford : route_eval (ford_with None (pause 0 30 4))
     tour
-    ≡ none
+    ≡ None
 unfolding opened
 rested-ford = refl
 
@@ -117,7 +117,7 @@ either-table = (refl, refl)
 
 -- ---- evaluations: no, none, infinite
 
-evaluated-closed : (route_feasible ford tour ≡ false) × (route_eval ford tour ≡ none) × (effective_cost ford tour ≡ none)
+evaluated-closed : (route_feasible ford tour ≡ false) × (route_eval ford tour ≡ None) × (effective_cost ford tour ≡ None)
     × (route_feasible no_way_home (1 ∷ []) ≡ false)
     × (route_feasible ford (2 ∷ 1 ∷ []) ≡ true)
 unfolding opened
@@ -131,7 +131,7 @@ empty-run = (refl, refl, refl)
 -- ---- visits: no visit, all totals 0, no break, and the first closed leg as the only violation
 
 abbrev barred : ℕ → Route
-barred leg = record { visits = []; totals = totals 0 0 0 0 0; load = no_load; start = none; violations = closed_leg leg ∷ [] }
+barred leg = record { visits = []; totals = totals 0 0 0 0 0; load = no_load; start = None; violations = closed_leg leg ∷ [] }
 
 -- leg 2 is the one between the calls, leg 3 the way home, leg 1 leaves the depot
 visits-closed : (build_route ford tour ≡ barred 2) × (build_route no_way_home tour ≡ barred 3) × (build_route no_stay [] ≡ barred 1)
@@ -142,8 +142,8 @@ visits-closed = (refl, refl, refl, refl, refl)
 
 -- the other violations are not looked at: too much load, a shut window, a break that cannot be placed
 visits-closed-alone : build_route (record {
-  head = record { places = 3; capacity = of_seats 1; fixed = 0; max_distance = some 1; max_duration = some 1; rest = pause 5 9 4 };
-  customers = depot ∷ person (window 0 9) none ∷ anyone ∷ [];
+  head = record { places = 3; capacity = of_seats 1; fixed = 0; max_distance = Some 1; max_duration = Some 1; rest = pause 5 9 4 };
+  customers = depot ∷ person (window 0 9) None ∷ anyone ∷ [];
   legs = ford.legs;
 }) tour
     ≡ barred 2
@@ -159,7 +159,7 @@ violation-numbered = (refl, refl)
 abbrev row : (capacity : ℕ) (first : Customer) → Sheet
 row capacity first =
     record {
-      head = record { places = 4; capacity = of_seats capacity; fixed = 0; max_distance = none; max_duration = none; rest = none };
+      head = record { places = 4; capacity = of_seats capacity; fixed = 0; max_distance = None; max_duration = None; rest = None };
       customers = depot ∷ first ∷ anyone ∷ anyone ∷ [];
       legs = record { distances = 0 ∷ 10 ∷ 20 ∷ 30 ∷ 10 ∷ 0 ∷ 10 ∷ 20 ∷ 20 ∷ 10 ∷ 0 ∷ no_road ∷ 30 ∷ no_road ∷ 10 ∷ 0 ∷ []; times = [] };
     }
@@ -175,20 +175,20 @@ mark-closed = (refl, refl, refl)
 
 -- an overload in run 1 comes before a closed leg in run 2, and the reverse
 mark-run-by-run : (mark (row 3 anyone) three (run (1 ∷ 2 ∷ []) 0 ∷ run (3 ∷ []) 0 ∷ []) ≡ overload 1 4 3)
-    × (first_fault (row 3 anyone) 1 (run (1 ∷ 2 ∷ []) 0 ∷ run (3 ∷ 1 ∷ []) 0 ∷ []) ≡ some (overload 1 4 3))
-    × (first_fault (row 3 anyone) 1 (run (3 ∷ 1 ∷ []) 0 ∷ run (1 ∷ 2 ∷ []) 0 ∷ []) ≡ some (road_closed 1 2))
+    × (first_fault (row 3 anyone) 1 (run (1 ∷ 2 ∷ []) 0 ∷ run (3 ∷ 1 ∷ []) 0 ∷ []) ≡ Some (overload 1 4 3))
+    × (first_fault (row 3 anyone) 1 (run (3 ∷ 1 ∷ []) 0 ∷ run (1 ∷ 2 ∷ []) 0 ∷ []) ≡ Some (road_closed 1 2))
 unfolding opened
 mark-run-by-run = (refl, refl, refl)
 
 -- in one run the closed leg comes before its load, and before a call on the way to it that fails
 mark-before-load : (mark (row 3 anyone) three (run three 0 ∷ []) ≡ road_closed 1 3)
-    × (run_fault (row 6 (person (window 0 9) none)) 1 (run three 0) ≡ some (road_closed 1 3))
-    × (run_fault (row 6 (person (window 0 9) none)) 1 (run (1 ∷ 2 ∷ []) 0) ≡ some (window_missed 1 1 1 10 9))
+    × (run_fault (row 6 (person (window 0 9) None)) 1 (run three 0) ≡ Some (road_closed 1 3))
+    × (run_fault (row 6 (person (window 0 9) None)) 1 (run (1 ∷ 2 ∷ []) 0) ≡ Some (window_missed 1 1 1 10 9))
 unfolding opened
 mark-before-load = (refl, refl, refl)
 
 -- the leg home has the number behind the last call's
-mark-way-home : run_fault no_way_home 4 (run tour 0) ≡ some (road_closed 4 3)
+mark-way-home : run_fault no_way_home 4 (run tour 0) ≡ Some (road_closed 4 3)
 unfolding opened
 mark-way-home = refl
 
@@ -198,45 +198,45 @@ verdict-numbered = (refl, refl)
 -- ---- refusals
 
 -- 1 lets a closed leg pass in either table, and nothing else above 10,000,000; nowhere else may it stand
-range-closed : (refusal_of some evaluating (lend ford [] [] [] [] []) ≡ none)
-    × (refusal_of some evaluating (lend (roads ford.legs.distances ford.legs.distances) [] [] [] [] []) ≡ none)
-    × (refusal_of some evaluating (lend (roads (0 ∷ 10 ∷ 12 ∷ 10 ∷ 0 ∷ 268435454 ∷ 12 ∷ 5 ∷ 0 ∷ []) []) [] [] [] [] []) ≡ some 1)
-    × (refusal_of some evaluating (lend (roads (0 ∷ 10 ∷ 12 ∷ 10 ∷ 0 ∷ 268435456 ∷ 12 ∷ 5 ∷ 0 ∷ []) []) [] [] [] [] []) ≡ some 1)
-    × (refusal_of some evaluating (lend (roads legs (0 ∷ 10 ∷ 12 ∷ 10 ∷ 0 ∷ 10000001 ∷ 12 ∷ 5 ∷ 0 ∷ [])) [] [] [] [] []) ≡ some 1)
-    × (refusal_of some evaluating (lend (record { head = base.head; customers = depot ∷ asking no_load no_road none none ∷ anyone ∷ []; legs = base.legs }) [] [] [] [] []) ≡ some 1)
+range-closed : (refusal_of Some evaluating (lend ford [] [] [] [] []) ≡ None)
+    × (refusal_of Some evaluating (lend (roads ford.legs.distances ford.legs.distances) [] [] [] [] []) ≡ None)
+    × (refusal_of Some evaluating (lend (roads (0 ∷ 10 ∷ 12 ∷ 10 ∷ 0 ∷ 268435454 ∷ 12 ∷ 5 ∷ 0 ∷ []) []) [] [] [] [] []) ≡ Some 1)
+    × (refusal_of Some evaluating (lend (roads (0 ∷ 10 ∷ 12 ∷ 10 ∷ 0 ∷ 268435456 ∷ 12 ∷ 5 ∷ 0 ∷ []) []) [] [] [] [] []) ≡ Some 1)
+    × (refusal_of Some evaluating (lend (roads legs (0 ∷ 10 ∷ 12 ∷ 10 ∷ 0 ∷ 10000001 ∷ 12 ∷ 5 ∷ 0 ∷ [])) [] [] [] [] []) ≡ Some 1)
+    × (refusal_of Some evaluating (lend (record { head = base.head; customers = depot ∷ asking no_load no_road None None ∷ anyone ∷ []; legs = base.legs }) [] [] [] [] []) ≡ Some 1)
 unfolding refusing
 range-closed = (refl, refl, refl, refl, refl, refl)
 
 -- 22: closed by the distance alone, by the time alone, on the diagonal
-disagreeing : (refusal_of some evaluating (lend (roads ford.legs.distances legs) [] [] [] [] []) ≡ some 22)
-    × (refusal_of some evaluating (lend (roads legs ford.legs.distances) [] [] [] [] []) ≡ some 22)
-    × (refusal_of some evaluating (lend (roads no_stay.legs.distances legs) [] [] [] [] []) ≡ some 22)
-    × (refusal_of some evaluating (lend (roads no_stay.legs.distances ford.legs.distances) [] [] [] [] []) ≡ some 22)
+disagreeing : (refusal_of Some evaluating (lend (roads ford.legs.distances legs) [] [] [] [] []) ≡ Some 22)
+    × (refusal_of Some evaluating (lend (roads legs ford.legs.distances) [] [] [] [] []) ≡ Some 22)
+    × (refusal_of Some evaluating (lend (roads no_stay.legs.distances legs) [] [] [] [] []) ≡ Some 22)
+    × (refusal_of Some evaluating (lend (roads no_stay.legs.distances ford.legs.distances) [] [] [] [] []) ≡ Some 22)
 unfolding refusing
 disagreeing = (refl, refl, refl, refl)
 
 -- 22 after 2 and before 5; a customer 1 with a window that falls, and run ends that are not the number of calls
 abbrev falling : Customer
-falling = person (window 5 4) none
+falling = person (window 5 4) None
 
 abbrev falling_apart : Sheet
 falling_apart = record { head = base.head; customers = depot ∷ falling ∷ anyone ∷ []; legs = record { distances = ford.legs.distances; times = legs } }
 
-order-22 : (refusal_of some marking (lend falling_apart [] [] (1 ∷ []) (0 ∷ []) []) ≡ some 2)
-    × (refusal_of some marking (lend (roads ford.legs.distances legs) [] [] (1 ∷ []) (0 ∷ []) []) ≡ some 22)
-    × (refusal_of some marking (lend ford [] [] (1 ∷ []) (0 ∷ []) []) ≡ some 5)
+order-22 : (refusal_of Some marking (lend falling_apart [] [] (1 ∷ []) (0 ∷ []) []) ≡ Some 2)
+    × (refusal_of Some marking (lend (roads ford.legs.distances legs) [] [] (1 ∷ []) (0 ∷ []) []) ≡ Some 22)
+    × (refusal_of Some marking (lend ford [] [] (1 ∷ []) (0 ∷ []) []) ≡ Some 5)
 unfolding refusing
 order-22 = (refl, refl, refl)
 
 -- 23 for the improvers alone, whether a run uses the leg or not, and after 4
 abbrev paying : Sheet
-paying = record { head = base.head; customers = depot ∷ person (window 0 9) (some 0) ∷ anyone ∷ []; legs = ford.legs }
+paying = record { head = base.head; customers = depot ∷ person (window 0 9) (Some 0) ∷ anyone ∷ []; legs = ford.legs }
 
-order-23 : (refusal_of some reversing (lend ford [] (2 ∷ 1 ∷ []) [] [] (2 ∷ [])) ≡ some 23)
-    × (refusal_of some eliminating (lend ford [] [] [] [] (0 ∷ 0 ∷ [])) ≡ some 23)
-    × (refusal_of some reversing (lend no_stay [] tour [] [] (2 ∷ [])) ≡ some 23)
-    × (refusal_of some reversing (lend paying [] tour [] [] (2 ∷ [])) ≡ some 4)
-    × (refusal_of some cutting (lend ford tour [] [] [] (2 ∷ 2 ∷ 2 ∷ [])) ≡ none)
+order-23 : (refusal_of Some reversing (lend ford [] (2 ∷ 1 ∷ []) [] [] (2 ∷ [])) ≡ Some 23)
+    × (refusal_of Some eliminating (lend ford [] [] [] [] (0 ∷ 0 ∷ [])) ≡ Some 23)
+    × (refusal_of Some reversing (lend no_stay [] tour [] [] (2 ∷ [])) ≡ Some 23)
+    × (refusal_of Some reversing (lend paying [] tour [] [] (2 ∷ [])) ≡ Some 4)
+    × (refusal_of Some cutting (lend ford tour [] [] [] (2 ∷ 2 ∷ 2 ∷ [])) ≡ None)
 unfolding refusing
 order-23 = (refl, refl, refl, refl, refl)
 
@@ -250,8 +250,8 @@ words distances times n =
 abbrev said : (distances times : List ℕ) → Sheet
 said distances times =
     record {
-      head = record { places = 2; capacity = of_seats 5; fixed = 0; max_distance = none; max_duration = none; rest = none };
-      customers = depot ∷ asking (of_seats 2) 0 none none ∷ [];
+      head = record { places = 2; capacity = of_seats 5; fixed = 0; max_distance = None; max_duration = None; rest = None };
+      customers = depot ∷ asking (of_seats 2) 0 None None ∷ [];
       legs = record { distances = distances; times = times };
     }
 

@@ -3,7 +3,7 @@ use Prim.Native.Nat.{ℕ}
 use mathlib.Core.Path.{◌≡◌, refl}
 use mathlib.Core.Bool.{true, false}
 use mathlib.Core.List.{List, [], ◌∷◌, ◌++◌, map}
-use mathlib.Core.Option.{none, some}
+use Rattle.std.specs.Prelude.{None, Some}
 use lib.ListN.{replicate}
 use Rattle.definitions.specs.Load.{Load, no_load, of_seats}
 use Rattle.definitions.specs.Sheet.{asking, Sheet, depot, any_soft}
@@ -43,8 +43,8 @@ load seats wheelchairs = record { seats = seats; wheelchairs = wheelchairs }
 abbrev line : (capacity first second third : Load) → Sheet
 line capacity first second third =
     record {
-      head = record { places = 4; capacity = capacity; fixed = 0; max_distance = none; max_duration = none; rest = none };
-      customers = depot ∷ asking first 0 none none ∷ asking second 0 none none ∷ asking third 0 none none ∷ [];
+      head = record { places = 4; capacity = capacity; fixed = 0; max_distance = None; max_duration = None; rest = None };
+      customers = depot ∷ asking first 0 None None ∷ asking second 0 None None ∷ asking third 0 None None ∷ [];
       legs = record { distances = 0 ∷ 10 ∷ 15 ∷ 22 ∷ 10 ∷ 0 ∷ 5 ∷ 12 ∷ 15 ∷ 5 ∷ 0 ∷ 7 ∷ 22 ∷ 12 ∷ 7 ∷ 0 ∷ []; times = [] };
     }
 
@@ -62,46 +62,46 @@ abbrev cut : (served ends dropped : List ℕ) → ℕ → Result
 cut served ends dropped cost =
     record { served = served; ends = ends; places = map (λ (e : ℕ). 0) ends; dropped = dropped; cost = cost; distance = cost }
 
-cut-by-wheelchairs : split_tw_of some (lend ramps tour [] [] [] (3 ∷ 3 ∷ 3 ∷ []))
+cut-by-wheelchairs : split_tw_of Some (lend ramps tour [] [] [] (3 ∷ 3 ∷ 3 ∷ []))
     ≡ gives (cut tour (2 ∷ 3 ∷ []) [] 74)
 unfolding answering
 cut-by-wheelchairs = refl
 
-split-by-wheelchairs : split_of some (lend ramps tour [] [] [] (3 ∷ 3 ∷ 3 ∷ []))
+split-by-wheelchairs : split_of Some (lend ramps tour [] [] [] (3 ∷ 3 ∷ 3 ∷ []))
     ≡ gives (cut tour (2 ∷ 3 ∷ []) [] 74)
 unfolding answering
 split-by-wheelchairs = refl
 
 -- one more holds all: the second measure alone decides
-one-place-more : split_tw_of some (lend (line (load 9 4) (load 1 1) (load 2 1) (load 1 2)) tour [] [] [] (3 ∷ 3 ∷ 3 ∷ []))
+one-place-more : split_tw_of Some (lend (line (load 9 4) (load 1 1) (load 2 1) (load 1 2)) tour [] [] [] (3 ∷ 3 ∷ 3 ∷ []))
     ≡ gives (cut tour (3 ∷ []) [] 44)
 unfolding answering
 one-place-more = refl
 
 -- without a second capacity a second demand fits nowhere, in `split` too
-no-second-capacity : (split_tw_of some (lend (line (of_seats 9) (load 1 0) (load 2 1) (load 1 0)) tour [] [] [] (3 ∷ 3 ∷ 3 ∷ []))
+no-second-capacity : (split_tw_of Some (lend (line (of_seats 9) (load 1 0) (load 2 1) (load 1 0)) tour [] [] [] (3 ∷ 3 ∷ 3 ∷ []))
     ≡ gives (cut (1 ∷ 3 ∷ []) (2 ∷ []) (2 ∷ []) 44))
-    × (split_of some (lend (line (of_seats 9) (load 1 0) (load 2 1) (load 1 0)) tour [] [] [] (3 ∷ 3 ∷ 3 ∷ []))
+    × (split_of Some (lend (line (of_seats 9) (load 1 0) (load 2 1) (load 1 0)) tour [] [] [] (3 ∷ 3 ∷ 3 ∷ []))
     ≡ gives (cut (1 ∷ 3 ∷ []) (2 ∷ []) (2 ∷ []) 44))
 unfolding answering
 no-second-capacity = (refl, refl)
 
 -- a second capacity alone changes nothing
-second-capacity-alone : split_tw_of some (lend (line (load 4 7) (of_seats 1) (of_seats 2) (of_seats 1)) tour [] [] [] (3 ∷ 3 ∷ 3 ∷ []))
-    ≡ split_tw_of some (lend (line (of_seats 4) (of_seats 1) (of_seats 2) (of_seats 1)) tour [] [] [] (3 ∷ 3 ∷ 3 ∷ []))
+second-capacity-alone : split_tw_of Some (lend (line (load 4 7) (of_seats 1) (of_seats 2) (of_seats 1)) tour [] [] [] (3 ∷ 3 ∷ 3 ∷ []))
+    ≡ split_tw_of Some (lend (line (of_seats 4) (of_seats 1) (of_seats 2) (of_seats 1)) tour [] [] [] (3 ∷ 3 ∷ 3 ∷ []))
 unfolding answering
 second-capacity-alone = refl
 
 -- seats to spare are no wheelchair places, nor the other way round
-not-the-sum : (split_tw_of some (lend (line (load 1 9) (load 1 1) (load 2 0) (load 1 1)) tour [] [] [] (3 ∷ 3 ∷ 3 ∷ []))
+not-the-sum : (split_tw_of Some (lend (line (load 1 9) (load 1 1) (load 2 0) (load 1 1)) tour [] [] [] (3 ∷ 3 ∷ 3 ∷ []))
     ≡ gives (cut (1 ∷ 3 ∷ []) (1 ∷ 2 ∷ []) (2 ∷ []) 64))
-    × (split_tw_of some (lend (line (load 9 1) (load 1 1) (load 1 2) (load 1 0)) tour [] [] [] (3 ∷ 3 ∷ 3 ∷ []))
+    × (split_tw_of Some (lend (line (load 9 1) (load 1 1) (load 1 2) (load 1 0)) tour [] [] [] (3 ∷ 3 ∷ 3 ∷ []))
     ≡ gives (cut (1 ∷ 3 ∷ []) (2 ∷ []) (2 ∷ []) 44))
 unfolding answering
 not-the-sum = (refl, refl)
 
 -- no evaluation looks at load
-evaluated-all-the-same : route_feasible_of some (lend ramps [] tour [] [] []) ≡ gives true
+evaluated-all-the-same : route_feasible_of Some (lend ramps [] tour [] [] []) ≡ gives true
 unfolding answering
 evaluated-all-the-same = refl
 
@@ -119,8 +119,8 @@ marked-seats-first = refl
 abbrev shut : Sheet
 shut =
     record {
-      head = record { places = 3; capacity = load 9 2; fixed = 0; max_distance = none; max_duration = none; rest = none };
-      customers = depot ∷ asking (load 1 1) 0 none none ∷ asking (load 1 2) 0 (window 0 12) none ∷ [];
+      head = record { places = 3; capacity = load 9 2; fixed = 0; max_distance = None; max_duration = None; rest = None };
+      customers = depot ∷ asking (load 1 1) 0 None None ∷ asking (load 1 2) 0 (window 0 12) None ∷ [];
       legs = record { distances = 0 ∷ 10 ∷ 12 ∷ 10 ∷ 0 ∷ 5 ∷ 12 ∷ 5 ∷ 0 ∷ []; times = [] };
     }
 
@@ -134,8 +134,8 @@ marked-within = refl
 
 -- ---- visits: both loads, seats before wheelchair places, these before the distance
 
-visits-both-loads : build_route_of some (lend (record {
-  head = record { places = 4; capacity = load 3 2; fixed = 0; max_distance = some 43; max_duration = none; rest = none };
+visits-both-loads : build_route_of Some (lend (record {
+  head = record { places = 4; capacity = load 3 2; fixed = 0; max_distance = Some 43; max_duration = None; rest = None };
   customers = ramps.customers;
   legs = ramps.legs;
 }) [] tour [] [] (3 ∷ 7 ∷ []))
@@ -146,7 +146,7 @@ visits-both-loads : build_route_of some (lend (record {
           ∷ [];
       totals = record { distance = 44; duration = 44; lateness = 0; pay = 0; place = 0 };
       load = load 4 4;
-      start = none;
+      start = None;
       violations = over_capacity 4 3 ∷ over_wheelchairs 4 2 ∷ over_distance 44 43 ∷ [];
     })
 unfolding answering
@@ -154,26 +154,26 @@ visits-both-loads = refl
 
 -- ---- elimination tests both, and moves by seats
 
-barred-by-wheelchairs : eliminate_of some (lend ramps [] tour (2 ∷ 3 ∷ []) [] (3 ∷ 2 ∷ [])) ≡ gives (record { calls = tour; ends = 2 ∷ 3 ∷ [] })
+barred-by-wheelchairs : eliminate_of Some (lend ramps [] tour (2 ∷ 3 ∷ []) [] (3 ∷ 2 ∷ [])) ≡ gives (record { calls = tour; ends = 2 ∷ 3 ∷ [] })
 unfolding answering
 barred-by-wheelchairs = refl
 
-taken-within-both : eliminate_of some (lend (line (load 9 4) (load 1 1) (load 2 1) (load 1 2)) [] tour (2 ∷ 3 ∷ []) [] (3 ∷ 2 ∷ []))
+taken-within-both : eliminate_of Some (lend (line (load 9 4) (load 1 1) (load 2 1) (load 1 2)) [] tour (2 ∷ 3 ∷ []) [] (3 ∷ 2 ∷ []))
     ≡ gives (record { calls = 1 ∷ 3 ∷ 2 ∷ []; ends = 3 ∷ [] })
 unfolding answering
 taken-within-both = refl
 
 -- ---- ranges
 
-out_of_range_lem : (refusal_of some evaluating (lend (line (load 1 1000001) no_load no_load no_load) [] [] [] [] []) ≡ some 1)
-    × (refusal_of some evaluating (lend (line (load 1 1000000) no_load no_load no_load) [] [] [] [] []) ≡ none)
-    × (refusal_of some evaluating (lend (line no_load no_load (load 0 32768) no_load) [] [] [] [] []) ≡ some 1)
-    × (refusal_of some evaluating (lend (line no_load no_load (load 0 32767) no_load) [] [] [] [] []) ≡ none)
+out_of_range_lem : (refusal_of Some evaluating (lend (line (load 1 1000001) no_load no_load no_load) [] [] [] [] []) ≡ Some 1)
+    × (refusal_of Some evaluating (lend (line (load 1 1000000) no_load no_load no_load) [] [] [] [] []) ≡ None)
+    × (refusal_of Some evaluating (lend (line no_load no_load (load 0 32768) no_load) [] [] [] [] []) ≡ Some 1)
+    × (refusal_of Some evaluating (lend (line no_load no_load (load 0 32767) no_load) [] [] [] [] []) ≡ None)
 unfolding answering
 out_of_range_lem = (refl, refl, refl, refl)
 
 -- the depot's record has none
-depot-wheeled : refusal_of some evaluating (lend (record { head = ramps.head; customers = asking (load 0 1) 0 none none ∷ ramps.customers; legs = ramps.legs }) [] [] [] [] []) ≡ some 1
+depot-wheeled : refusal_of Some evaluating (lend (record { head = ramps.head; customers = asking (load 0 1) 0 None None ∷ ramps.customers; legs = ramps.legs }) [] [] [] [] []) ≡ Some 1
 unfolding answering
 depot-wheeled = refl
 
@@ -187,8 +187,8 @@ words head customer n =
 abbrev said : (capacity demand : Load) → Sheet
 said capacity demand =
     record {
-      head = record { places = 2; capacity = capacity; fixed = 0; max_distance = none; max_duration = none; rest = none };
-      customers = depot ∷ asking demand 0 none none ∷ [];
+      head = record { places = 2; capacity = capacity; fixed = 0; max_distance = None; max_duration = None; rest = None };
+      customers = depot ∷ asking demand 0 None None ∷ [];
       legs = record { distances = replicate 4 3; times = [] };
     }
 

@@ -1,7 +1,6 @@
 -- The complete answer of each public call over what it is lent: refused by number with nothing written, or its result and what it
 -- writes at the front of each lent list. Definitions only.
-use Rattle.std.specs.Prelude.{ℕ, Bool, List, []}
-use Rattle.std.proofs.Math.Option.{Option, none, some}
+use Rattle.std.specs.Prelude.{ℕ, Bool, List, [], Option, None, Some}
 use Rattle.definitions.specs.Sheet.{Customer, Sheet}
 use Rattle.definitions.specs.Placement.{Placement, by_clock}
 use Rattle.definitions.specs.Evaluation.{Evaluation, route_feasible, eval_by, effective_cost}
@@ -27,8 +26,8 @@ front list (refused number) = []
 front list (gives result) = list result
 
 abbrev pub unless_refused : {A : Type 0} → Option ℕ → A → Answer A
-unless_refused (some number) result = refused number
-unless_refused none result = gives result
+unless_refused (Some number) result = refused number
+unless_refused None result = gives result
 
 -- what the improvers give: calls and distance; calls and run ends
 pub record Improved : Type 0 where

@@ -1,6 +1,5 @@
 -- Demand 3 sentence by sentence, over what a caller is given: served customers, run ends, dropped positions and cost. Definitions only.
-use Rattle.std.specs.Prelude.{ℕ, ◌≤◌, ◌≡◌, true, false, List, map, length}
-use Rattle.std.proofs.Math.Option.{none}
+use Rattle.std.specs.Prelude.{ℕ, ◌≤◌, ◌≡◌, true, false, List, map, length, None}
 use Rattle.basics.specs.Lists.{count}
 use Rattle.definitions.specs.Sheet.{Customer, Sheet, lateness_pay}
 use Rattle.definitions.specs.Run.{Run}
@@ -52,7 +51,7 @@ Partition tour held dropped = Parts (count 1 (length tour)) held dropped
 -- ---- `split` keeps the same of what it looks at: the sheet without windows, limits and break
 
 abbrev pub bare_customer : Customer → Customer
-bare_customer c = record { demand = c.demand; service = c.service; window = none; penalty = none }
+bare_customer c = record { demand = c.demand; service = c.service; window = None; penalty = None }
 
 unfoldable pub bare : Sheet → Sheet
 bare s =
@@ -62,9 +61,9 @@ bare s =
             places = s.head.places;
             capacity = s.head.capacity;
             fixed = s.head.fixed;
-            max_distance = none;
-            max_duration = none;
-            rest = none;
+            max_distance = None;
+            max_duration = None;
+            rest = None;
           };
       customers = map bare_customer s.customers;
       legs = record { distances = s.legs.distances; times = s.legs.times };

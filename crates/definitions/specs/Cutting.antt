@@ -1,9 +1,8 @@
 -- A cutting divides calls, in order, into runs. The least cost is Prins's split of a tour (2004), a shortest path: the cut
 -- points are nodes, a run between two of them is an arc that costs what the run does, and the best cutting of the calls
 -- before a cut point is its label. Definitions only.
-use Rattle.std.specs.Prelude.{ℕ, suc, ◌+◌, Bool, cond, ltb}
+use Rattle.std.specs.Prelude.{ℕ, suc, ◌+◌, Bool, cond, ltb, Option, None, Some}
 use mathlib.Core.List.{List, [], ◌∷◌, ◌++◌, map, tail}
-use Rattle.std.proofs.Math.Option.{Option, none, some}
 use Rattle.basics.specs.Options.{◌>>=◌, present}
 use Rattle.basics.specs.Lists.{all, sum}
 use Rattle.definitions.specs.Sheet.{Sheet}
@@ -45,9 +44,9 @@ abbrev pub lower : Best → Best → Bool
 lower new old = ltb new.cost old.cost
 
 abbrev pub better : Option Best → Option Best → Option Best
-better none old = old
-better (some new) none = some new
-better (some new) (some old) = cond (lower new old) (some new) (some old)
+better None old = old
+better (Some new) None = Some new
+better (Some new) (Some old) = cond (lower new old) (Some new) (Some old)
 
 -- a cut point: the best cutting of the calls before it, if they have a legal one, and the calls since
 pub record Point : Type 0 where
@@ -68,7 +67,7 @@ module _ (arc : List ℕ → Option Arc) where
   close p = do
     b ← p.best
     r ← arc p.since
-    some (record { cost = b.cost + r.cost; runs = b.runs ++ (record { calls = p.since; place = r.place } ∷ []) })
+    Some (record { cost = b.cost + r.cost; runs = b.runs ++ (record { calls = p.since; place = r.place } ∷ []) })
 
   -- the cut points in order; equal keeps the earlier one
   abbrev pub least : Option Best → List Point → Option Best
@@ -77,7 +76,7 @@ module _ (arc : List ℕ → Option Arc) where
 
   -- one more call, and one more cut point after it
   abbrev pub grow : List Point → ℕ → List Point
-  grow ps c = map (longer c) ps ++ (record { best = least none (map (longer c) ps); since = [] } ∷ [])
+  grow ps c = map (longer c) ps ++ (record { best = least None (map (longer c) ps); since = [] } ∷ [])
 
   unfoldable pub points_from : List Point → List ℕ → List Point
   points_from ps [] = ps
@@ -85,7 +84,7 @@ module _ (arc : List ℕ → Option Arc) where
 
   -- the cut points of calls: one for each beginning, the empty one first
   abbrev pub points : List ℕ → List Point
-  points calls = points_from (record { best = some nothing; since = [] } ∷ []) calls
+  points calls = points_from (record { best = Some nothing; since = [] } ∷ []) calls
 
 -- the best of the last point
 abbrev pub last_best : Option Best → List Point → Option Best
@@ -94,13 +93,13 @@ last_best b (p ∷ ps) = last_best p.best ps
 
 -- the number of the first point without a cutting
 abbrev pub shortest : ℕ → List Point → Option ℕ
-shortest j [] = none
-shortest j (p ∷ ps) = cond (present p.best) (shortest (suc j) ps) (some j)
+shortest j [] = None
+shortest j (p ∷ ps) = cond (present p.best) (shortest (suc j) ps) (Some j)
 
 module _ (arc : List ℕ → Option Arc) where
   -- the cutting of all the calls with the least cost, of equals the one with the earlier cut points
   unfoldable pub cheapest : List ℕ → Option Best
-  cheapest calls = last_best none (points arc calls)
+  cheapest calls = last_best None (points arc calls)
 
   -- the last call, numbered from 0, of the shortest beginning without a legal cutting (the first point is before any call, and has one)
   unfoldable pub stuck : List ℕ → Option ℕ

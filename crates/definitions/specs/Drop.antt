@@ -1,6 +1,5 @@
 -- Which calls are served and which dropped; the complete results of `split_tw` and `split`. Definitions only.
-use Rattle.std.specs.Prelude.{ℕ, zero, suc, ◌+◌, ◌-◌, not, ◌&&◌, List, [], ◌∷◌, ◌++◌, map, length, get_or}
-use Rattle.std.proofs.Math.Option.{Option, none, some}
+use Rattle.std.specs.Prelude.{ℕ, zero, suc, ◌+◌, ◌-◌, not, ◌&&◌, List, [], ◌∷◌, ◌++◌, map, length, get_or, Option, None, Some}
 use Rattle.basics.specs.Options.{◌>>=◌, value_or, given}
 use Rattle.basics.specs.Lists.{is_empty, sum, without, count}
 use Rattle.definitions.specs.Sheet.{Sheet}
@@ -31,8 +30,8 @@ unfoldable pub drop_from : (List ℕ → Option Arc) → List ℕ → ℕ → He
 drop_from arc tour zero h = h
 drop_from arc tour (suc turns) h =
     elim (stuck arc (calls_at tour h.held)) [
-      | none ↦ h
-      | some k ↦ drop_from arc tour turns (drop_at k h)
+      | None ↦ h
+      | Some k ↦ drop_from arc tour turns (drop_at k h)
     ]
 
 -- held at first are all positions of the tour

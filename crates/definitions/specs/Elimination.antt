@@ -1,8 +1,6 @@
 -- eliminate_routes on whole numbers. What a customer adds is a difference of distances: the distances of all runs are compared as they are.
 -- They add less than is saved when the runs that are left are shorter than those before, with one fixed cost on top.
-use Rattle.std.specs.Prelude.{ℕ, zero, suc, ◌+◌, cond, ◌&&◌, List, [], ◌∷◌, ◌++◌, map, length, ltb}
-use Rattle.std.proofs.Math.Option
-use Rattle.std.proofs.Math.Option.{Option, none, some}
+use Rattle.std.specs.Prelude.{ℕ, zero, suc, ◌+◌, cond, ◌&&◌, List, [], ◌∷◌, ◌++◌, map, length, ltb, Option, None, Some, option_map}
 use Rattle.basics.specs.Options.{◌>>=◌, value_or, or_else}
 use Rattle.definitions.specs.Sort.{rising, falling, sort}
 use Rattle.definitions.specs.Load.{fits_by}
@@ -50,8 +48,8 @@ module _ (G : Given) where
 
   -- the first that is allowed and leaves the distance below the bound
   unfoldable pub first_below : ℕ → List Put → Option (List (List ℕ))
-  first_below bound [] = none
-  first_below bound (p ∷ ps) = cond (ltb (total G p.runs) bound && allowed G p.grown) (some p.runs) (first_below bound ps)
+  first_below bound [] = None
+  first_below bound (p ∷ ps) = cond (ltb (total G p.runs) bound && allowed G p.grown) (Some p.runs) (first_below bound ps)
 
   -- candidates by cost, that is by the distance they lead to
   unfoldable pub placed : ℕ → ℕ → List (List ℕ) → Option (List (List ℕ))
@@ -59,7 +57,7 @@ module _ (G : Given) where
 
   -- all of the customers, one after the other
   unfoldable pub placed_all : ℕ → List ℕ → List (List ℕ) → Option (List (List ℕ))
-  placed_all bound [] runs = some runs
+  placed_all bound [] runs = Some runs
   placed_all bound (c ∷ cs) runs = placed bound c runs >>= placed_all bound cs
 
   -- the run's customers by falling demand go to the others
@@ -68,7 +66,7 @@ module _ (G : Given) where
       placed_all (total G (p.run ∷ p.rest) + G.fixed) (sort (falling (λ (c : ℕ). (G.demand c).seats)) p.run) p.rest
 
   unfoldable pub first_emptied : List Parted → Option (List (List ℕ))
-  first_emptied [] = none
+  first_emptied [] = None
   first_emptied (p ∷ ps) = or_else (emptied p) (first_emptied ps)
 
   -- the shortest run first: what is left after the first that can go
@@ -78,7 +76,7 @@ module _ (G : Given) where
   -- the search begins again after a success; each success has a run less, which bounds how many there are
   unfoldable pub searches : ℕ → List (List ℕ) → List (List ℕ)
   searches zero runs = non_empty runs
-  searches (suc bound) runs = value_or (non_empty runs) (Option.map (searches bound) (search (non_empty runs)))
+  searches (suc bound) runs = value_or (non_empty runs) (option_map (searches bound) (search (non_empty runs)))
 
   -- the runs that eliminate_routes gives
   unfoldable pub eliminated : List (List ℕ) → List (List ℕ)

@@ -1,13 +1,12 @@
 -- The words of a sheet and its tour, in order. Definitions only.
-use Rattle.std.specs.Prelude.{ℕ, zero, suc, Bool, true, false, length}
+use Rattle.std.specs.Prelude.{ℕ, zero, suc, Bool, true, false, length, Option, None, Some}
 use mathlib.Core.List.{List, [], ◌∷◌, ◌++◌, map, tail}
-use Rattle.std.proofs.Math.Option.{Option, none, some}
 use Rattle.definitions.specs.Sheet.{Window, Break, Customer, Sheet}
 use Rattle.definitions.specs.Words.{Word, word}
 
 abbrev pub optional : ℕ → Option ℕ → List Word
-optional k none = []
-optional k (some v) = word k v ∷ []
+optional k None = []
+optional k (Some v) = word k v ∷ []
 
 -- A second capacity or demand. One that is 0 may be left out: whether it is said is a list of its own, the capacity's first and then each
 -- customer's; what the list does not reach is left out.
@@ -21,12 +20,12 @@ second_words false zero = []
 second_words false (suc n) = word 0 (suc n) ∷ []
 
 abbrev pub break_words : Option Break → List Word
-break_words none = []
-break_words (some b) = word 6 b.earliest ∷ word 6 b.latest ∷ word 6 b.duration ∷ []
+break_words None = []
+break_words (Some b) = word 6 b.earliest ∷ word 6 b.latest ∷ word 6 b.duration ∷ []
 
 abbrev pub window_words : Option Window → List Word
-window_words none = []
-window_words (some w) = word 9 w.ready ∷ word 0xA w.due ∷ []
+window_words None = []
+window_words (Some w) = word 9 w.ready ∷ word 0xA w.due ∷ []
 
 abbrev pub customer_words : List Bool → List Customer → List Word
 customer_words said [] = []

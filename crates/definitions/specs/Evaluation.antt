@@ -1,8 +1,7 @@
 -- Run evaluation: what `route_feasible`, `route_eval` and `effective_cost` answer. They don't look at load, and an empty run
 -- is the leg from depot to depot. A run with a closed leg is not
 -- allowed. Definitions only.
-use Rattle.std.specs.Prelude.{ℕ, ◌+◌, Bool, List}
-use Rattle.std.proofs.Math.Option.{Option, some}
+use Rattle.std.specs.Prelude.{ℕ, ◌+◌, Bool, List, Option, Some}
 use Rattle.basics.specs.Options.{◌>>=◌, present, given}
 use Rattle.definitions.specs.Sheet.{Sheet}
 use Rattle.definitions.specs.Run.{Totals, allowed}
@@ -40,4 +39,4 @@ route_feasible s calls = present (route_eval s calls)
 unfoldable pub effective_cost : Sheet → List ℕ → Option ℕ
 effective_cost s calls = do
   e ← route_eval s calls
-  some (e.totals.distance + e.totals.pay)
+  Some (e.totals.distance + e.totals.pay)

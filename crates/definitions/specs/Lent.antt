@@ -1,6 +1,5 @@
 -- What a call is lent, and what it needs. Definitions only.
-use Rattle.std.specs.Prelude.{ℕ, ◌+◌, Bool, true, false, List, [], ◌∷◌}
-use Rattle.std.proofs.Math.Option.{Option}
+use Rattle.std.specs.Prelude.{ℕ, ◌+◌, Bool, true, false, List, [], ◌∷◌, Option}
 use Rattle.basics.specs.Options.{value_or}
 use Rattle.definitions.specs.Sheet.{SheetOf, Sheet, own, map_sheet}
 

@@ -1,12 +1,11 @@
 -- Limits: distance and duration each at most their limit, if given; and who needs no break. Definitions only.
-use Rattle.std.specs.Prelude.{ℕ, Bool, true, ◌&&◌, ltb, leb}
-use Rattle.std.proofs.Math.Option.{Option, none, some}
+use Rattle.std.specs.Prelude.{ℕ, Bool, true, ◌&&◌, ltb, leb, Option, None, Some}
 use Rattle.definitions.specs.Sheet.{Break, Sheet}
 
 -- at most the limit, if given
 abbrev pub within : Option ℕ → ℕ → Bool
-within none n = true
-within (some limit) n = leb n limit
+within None n = true
+within (Some limit) n = leb n limit
 
 -- `RouteLimits::allow`
 abbrev pub allow : Sheet → ℕ → ℕ → Bool

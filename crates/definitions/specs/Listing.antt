@@ -1,8 +1,7 @@
 -- The listing: what the program prints for any bytes. Definitions only.
-use Rattle.std.specs.Prelude.{ℕ, zero, suc, ◌+◌, ◌/◌, ◌%◌, Bool, cond, ◌&&◌, List, [], ◌∷◌, ◌++◌, length, ltb, leb}
+use Rattle.std.specs.Prelude.{ℕ, zero, suc, ◌+◌, ◌/◌, ◌%◌, Bool, cond, ◌&&◌, List, [], ◌∷◌, ◌++◌, length, ltb, leb, Option, None, Some}
 use Prim.Native.Char.{code}
 use Prim.Native.String.{String, [] as ended, ◌∷◌ as ◌then◌}
-use Rattle.std.proofs.Math.Option.{Option, none, some}
 use Rattle.definitions.specs.Sheet.{Sheet}
 use Rattle.definitions.specs.Run.{Run}
 use Rattle.definitions.specs.Clock.{start_of}
@@ -44,8 +43,8 @@ customers_text (c ∷ cs) = spaced c ++ customers_text cs
 
 -- with a break, its place and start
 abbrev pub rest_text : ℕ → Option ℕ → List ℕ
-rest_text place none = []
-rest_text place (some start) = text " rest" ++ spaced place ++ spaced start
+rest_text place None = []
+rest_text place (Some start) = text " rest" ++ spaced place ++ spaced start
 
 -- a run: customers, then its break
 unfoldable pub run_line : Sheet → Run → List ℕ

@@ -1,6 +1,5 @@
 -- The mark of a cutting with break places. Definitions only.
-use Rattle.std.specs.Prelude.{ℕ, suc, ◌+◌, ◌-◌, cond, not, List, [], ◌∷◌, length, ltb, eqb}
-use Rattle.std.proofs.Math.Option.{Option, none, some, map}
+use Rattle.std.specs.Prelude.{ℕ, suc, ◌+◌, ◌-◌, cond, not, List, [], ◌∷◌, length, ltb, eqb, Option, None, Some, option_map}
 use Rattle.basics.specs.Options.{◌>>=◌, value_or, or_else, given}
 use Rattle.definitions.specs.Load.{Load, seated}
 use Rattle.definitions.specs.Sheet.{Break, Sheet, customer, drive}
@@ -73,10 +72,10 @@ verdict_values (road_closed run leg) = run ∷ leg ∷ []
 
 -- the first position, from k, where they differ or one list has ended
 abbrev pub differ : ℕ → List ℕ → List ℕ → Option ℕ
-differ k [] [] = none
-differ k [] (y ∷ ys) = some k
-differ k (x ∷ xs) [] = some k
-differ k (x ∷ xs) (y ∷ ys) = cond (eqb x y) (differ (suc k) xs ys) (some k)
+differ k [] [] = None
+differ k [] (y ∷ ys) = Some k
+differ k (x ∷ xs) [] = Some k
+differ k (x ∷ xs) (y ∷ ys) = cond (eqb x y) (differ (suc k) xs ys) (Some k)
 
 abbrev pub break_or : Option Break → Break
 break_or b = value_or (record { earliest = 0; latest = 0; duration = 0 }) b
@@ -85,25 +84,25 @@ break_or b = value_or (record { earliest = 0; latest = 0; duration = 0 }) b
 abbrev pub arrival_fault : Sheet → ℕ → Option Break → ℕ → ℕ → ℕ → Verdict
 arrival_fault s n here k c arrival =
     elim (ready here arrival) [
-      | none ↦ break_too_late n k c (break_start (break_or here) arrival) (break_or here).latest
-      | some readiness ↦ window_missed n k c readiness (due_of (customer s c).window)
+      | None ↦ break_too_late n k c (break_start (break_or here) arrival) (break_or here).latest
+      | Some readiness ↦ window_missed n k c readiness (due_of (customer s c).window)
     ]
 
 -- why a call fails
 abbrev pub call_fault : Sheet → ℕ → Option Break → ℕ → ℕ → ℕ → Label → Verdict
 call_fault s n here k a c l =
     elim (drive s a c) [
-      | none ↦ road_closed n k
-      | some leg ↦ arrival_fault s n here k c (l.time + leg.travel)
+      | None ↦ road_closed n k
+      | Some leg ↦ arrival_fault s n here k c (l.time + leg.travel)
     ]
 
 -- the first fault walking the calls of run n
 unfoldable pub walk_fault : Sheet → ℕ → ℕ → ℕ → ℕ → Label → List ℕ → Option Verdict
-walk_fault s n place k a l [] = none
+walk_fault s n place k a l [] = None
 walk_fault s n place k a l (c ∷ cs) =
     elim (serve s (break_at s place k) k a c l) [
-      | none ↦ some (call_fault s n (break_at s place k) k a c l)
-      | some m ↦ walk_fault s n place (suc k) c m cs
+      | None ↦ Some (call_fault s n (break_at s place k) k a c l)
+      | Some m ↦ walk_fault s n place (suc k) c m cs
     ]
 
 -- In what the run comes to: a missing break where one is needed, distance, duration. Where the break's place is not legal, the
@@ -125,13 +124,13 @@ overload_of n load capacity =
 -- the first fault of run n: a closed leg, wherever it is in the run, then load, the calls, the totals
 unfoldable pub run_fault : Sheet → ℕ → Run → Option Verdict
 run_fault s n r =
-    or_else (map (road_closed n) (first_closed s r.calls))
+    or_else (option_map (road_closed n) (first_closed s r.calls))
     (or_else (given (not (fits s r.calls)) (overload_of n (load s r.calls) s.head.capacity))
     (or_else (walk_fault s n r.place 1 0 start r.calls)
     (ride s r >>= total_fault s n r)))
 
 abbrev pub first_fault : Sheet → ℕ → List Run → Option Verdict
-first_fault s n [] = none
+first_fault s n [] = None
 first_fault s n (r ∷ rs) = or_else (run_fault s n r) (first_fault s (suc n) rs)
 
 -- ---- the mark
@@ -144,8 +143,8 @@ against planner cost = cond (ltb planner cost) (dearer (cost - planner)) (cond (
 unfoldable pub mark_against : Sheet → Result → List Run → Verdict
 mark_against s plan runs =
     elim (differ 1 (joined runs) plan.served) [
-      | some position ↦ other_calls position
-      | none ↦ value_or (against plan.cost (cutting_cost s runs)) (first_fault s 1 runs)
+      | Some position ↦ other_calls position
+      | None ↦ value_or (against plan.cost (cutting_cost s runs)) (first_fault s 1 runs)
     ]
 
 -- the planner's is that of `split_tw`, for either placement of its breaks ..

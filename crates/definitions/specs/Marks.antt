@@ -1,6 +1,5 @@
 -- What each mark means, verdict by verdict. Definitions only.
-use Rattle.std.specs.Prelude.{ℕ, suc, ◌+◌, ◌≤◌, ◌<◌, ◌≡◌, true, false, cond, not, List, ◌∷◌, ◌++◌, length, get_or, take}
-use Rattle.std.proofs.Math.Option.{Option, none, some}
+use Rattle.std.specs.Prelude.{ℕ, suc, ◌+◌, ◌≤◌, ◌<◌, ◌≡◌, true, false, cond, not, List, ◌∷◌, ◌++◌, length, get_or, take, Option, None, Some}
 use Rattle.basics.specs.Options.{present}
 use Rattle.basics.specs.Lists.{is_empty}
 use Rattle.definitions.specs.Load.{seated}
@@ -44,11 +43,11 @@ pub record Closed (s : Sheet) (calls : List ℕ) (leg : ℕ) : Type 0 where
   pub number : suc before ≡ leg
   pub inside : before ≤ length calls
   pub open-before : (i : ℕ) → i < before → present (leg_of s calls i) ≡ true
-  pub closed : leg_of s calls before ≡ none
+  pub closed : leg_of s calls before ≡ None
 
 -- no leg of the calls is closed
 abbrev pub Open : Sheet → List ℕ → Type 0
-Open s calls = first_closed s calls ≡ none
+Open s calls = first_closed s calls ≡ None
 
 -- no leg is closed, and the seats are over capacity
 pub record Overloaded (s : Sheet) (r : Run) (value limit : ℕ) : Type 0 where
@@ -75,9 +74,9 @@ pub record Reached (s : Sheet) (r : Run) (k c : ℕ) : Type 0 where
   pub inside : before < length r.calls
   pub call-is : get_or r.calls before 0 ≡ c
   pub label : Label
-  pub served : serve_all s r.place 1 0 (some start) (take before r.calls) ≡ some label
+  pub served : serve_all s r.place 1 0 (Some start) (take before r.calls) ≡ Some label
   pub leg : Leg
-  pub leg-is : leg_of s r.calls before ≡ some leg
+  pub leg-is : leg_of s r.calls before ≡ Some leg
 
 -- when it is reached
 abbrev pub arrival : {s : Sheet} {r : Run} {k c : ℕ} → Reached s r k c → ℕ
@@ -87,7 +86,7 @@ arrival x = x.label.time + x.leg.travel
 pub record BreakLate (s : Sheet) (r : Run) (k c value limit : ℕ) : Type 0 where
   pub reached : Reached s r k c
   pub break : Break
-  pub rested : s.head.rest ≡ some break
+  pub rested : s.head.rest ≡ Some break
   pub here : r.place ≡ k
   pub value-is : break_start break (arrival reached) ≡ value
   pub limit_is : break.latest ≡ limit
@@ -96,10 +95,10 @@ pub record BreakLate (s : Sheet) (r : Run) (k c value limit : ℕ) : Type 0 wher
 -- the break, if it is at that call, can start; readiness is after due, and there is no penalty
 pub record WindowLate (s : Sheet) (r : Run) (k c value limit : ℕ) : Type 0 where
   pub reached : Reached s r k c
-  pub value-is : ready (break_at s r.place k) (arrival reached) ≡ some value
+  pub value-is : ready (break_at s r.place k) (arrival reached) ≡ Some value
   pub window : Window
-  pub shuts : (customer s c).window ≡ some window
-  pub hard : (customer s c).penalty ≡ none
+  pub shuts : (customer s c).window ≡ Some window
+  pub hard : (customer s c).penalty ≡ None
   pub limit_is : window.due ≡ limit
   pub over : limit < value
 
@@ -107,14 +106,14 @@ pub record WindowLate (s : Sheet) (r : Run) (k c value limit : ℕ) : Type 0 whe
 pub record Home (s : Sheet) (r : Run) (t : Totals) : Type 0 where
   pub roads : Open s r.calls
   pub room : fits s r.calls ≡ true
-  pub rode : ride s r ≡ some t
+  pub rode : ride s r ≡ Some t
 
 -- there is a break on the sheet and none in the run, which is not excused
 pub record BreakLeftOut (s : Sheet) (r : Run) (value limit : ℕ) : Type 0 where
   pub totals : Totals
   pub at_home : Home s r totals
   pub break : Break
-  pub rested : s.head.rest ≡ some break
+  pub rested : s.head.rest ≡ Some break
   pub nowhere : r.place ≡ 0
   pub value-is : totals.duration ≡ value
   pub limit_is : break.earliest ≡ limit
@@ -126,7 +125,7 @@ pub record Far (s : Sheet) (r : Run) (value limit : ℕ) : Type 0 where
   pub at_home : Home s r totals
   pub break-placed : placed s.head.rest r.place (length r.calls) totals.duration ≡ true
   pub value-is : totals.distance ≡ value
-  pub limit_is : s.head.max_distance ≡ some limit
+  pub limit_is : s.head.max_distance ≡ Some limit
   pub over : limit < value
 
 -- the distance is within its limit, and the duration over its own
@@ -136,7 +135,7 @@ pub record Long (s : Sheet) (r : Run) (value limit : ℕ) : Type 0 where
   pub break-placed : placed s.head.rest r.place (length r.calls) totals.duration ≡ true
   pub near : within s.head.max_distance totals.distance ≡ true
   pub value-is : totals.duration ≡ value
-  pub limit_is : s.head.max_duration ≡ some limit
+  pub limit_is : s.head.max_duration ≡ Some limit
   pub over : limit < value
 
 -- the verdict is a fault of run number n: what it then says

@@ -1,6 +1,5 @@
 -- Where the break goes in a run with no place named: where the clock puts it, or where the least is paid for lateness. Definitions only.
-use Rattle.std.specs.Prelude.{ℕ, Bool, cond, ◌&&◌, ◌||◌, List, [], ◌∷◌, map, length, ltb, eqb}
-use Rattle.std.proofs.Math.Option.{Option, none, some}
+use Rattle.std.specs.Prelude.{ℕ, Bool, cond, ◌&&◌, ◌||◌, List, [], ◌∷◌, map, length, ltb, eqb, Option, None, Some}
 use Rattle.basics.specs.Options.{◌>>=◌, given}
 use Rattle.basics.specs.Lists.{count}
 use Rattle.definitions.specs.Sheet.{Sheet}
@@ -26,9 +25,9 @@ preferred new old = ltb new.pay old.pay || (eqb new.pay old.pay && ltb new.durat
 
 -- a tie keeps the old one
 abbrev pub pick : Option Totals → Option Totals → Option Totals
-pick none new = new
-pick (some old) none = some old
-pick (some old) (some new) = cond (preferred new old) (some new) (some old)
+pick None new = new
+pick (Some old) None = Some old
+pick (Some old) (Some new) = cond (preferred new old) (Some new) (Some old)
 
 -- one after the other
 abbrev pub pick_all : Option Totals → List (Option Totals) → Option Totals

@@ -1,7 +1,6 @@
 -- What reading gives for any bytes: the sheet, or a refusal's number and the index of its word.
-use Rattle.std.specs.Prelude.{ℕ, suc, ◌*◌, pred, Bool, true, false, cond, ◌&&◌, ◌||◌, not, get_or, ltb, eqb}
+use Rattle.std.specs.Prelude.{ℕ, suc, ◌*◌, pred, Bool, true, false, cond, ◌&&◌, ◌||◌, not, get_or, ltb, eqb, Option, None, Some}
 use mathlib.Core.List.{List, [], ◌∷◌, ◌++◌, tail}
-use Rattle.std.proofs.Math.Option.{Option, none, some}
 use Rattle.basics.specs.Options.{value_or}
 use Rattle.basics.specs.Lists.{any}
 use Rattle.definitions.specs.Domain.{most_places, most_calls, is_places, is_demand, is_capacity, is_penalty, is_number, closed_apart, is_leg, is_call}
@@ -162,8 +161,8 @@ behind i (w ∷ ws) left = refused 3 i
 
 -- a fault ends the reading at its word
 abbrev pub unless : Option ℕ → ℕ → Outcome → Outcome
-unless (some n) i v = refused n i
-unless none i v = v
+unless (Some n) i v = refused n i
+unless None i v = v
 
 -- from state s, where the next word has index i; bytes left over count as the end of the words
 unfoldable pub walk : State → ℕ → List Word → Bool → Outcome
@@ -183,8 +182,8 @@ values_of k (w ∷ ws) = cond (eqb w.kind k) (w.value ∷ values_of k ws) (value
 
 -- the first of them
 abbrev pub first_of : List ℕ → Option ℕ
-first_of [] = none
-first_of (v ∷ vs) = some v
+first_of [] = None
+first_of (v ∷ vs) = Some v
 
 -- the words of a customer behind its 7: those up to the next 7
 abbrev pub own : List Word → List Word
@@ -192,15 +191,15 @@ own [] = []
 own (w ∷ ws) = cond (eqb w.kind 7) [] (w ∷ own ws)
 
 abbrev pub window_of : List ℕ → List ℕ → Option Window
-window_of [] ds = none
-window_of (r ∷ rs) [] = none
-window_of (r ∷ rs) (d ∷ ds) = some (record { ready = r; due = d })
+window_of [] ds = None
+window_of (r ∷ rs) [] = None
+window_of (r ∷ rs) (d ∷ ds) = Some (record { ready = r; due = d })
 
 abbrev pub break_of : List ℕ → Option Break
-break_of [] = none
-break_of (e ∷ []) = none
-break_of (e ∷ l ∷ []) = none
-break_of (e ∷ l ∷ d ∷ more) = some (record { earliest = e; latest = l; duration = d })
+break_of [] = None
+break_of (e ∷ []) = None
+break_of (e ∷ l ∷ []) = None
+break_of (e ∷ l ∷ d ∷ more) = Some (record { earliest = e; latest = l; duration = d })
 
 -- so many seats and, in the words before the next customer, the second capacity or demand; absent it is 0
 abbrev pub load_of : ℕ → List Word → Load

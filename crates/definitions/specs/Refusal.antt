@@ -1,6 +1,5 @@
 -- Refusals in order: the first that fits is given. Definitions only.
-use Rattle.std.specs.Prelude.{ℕ, Bool, cond, List, [], ◌∷◌}
-use Rattle.std.proofs.Math.Option.{Option, none, some}
+use Rattle.std.specs.Prelude.{ℕ, Bool, cond, List, [], ◌∷◌, Option, None, Some}
 
 -- a refusal: its number in the scope document, and whether it fits
 pub record Refusal : Type 0 where
@@ -12,5 +11,5 @@ refusal n b = record { number = n; fits = b }
 
 -- the number of the first that fits; none when no refusal fits
 abbrev pub first_fit : List Refusal → Option ℕ
-first_fit [] = none
-first_fit (r ∷ rs) = cond r.fits (some r.number) (first_fit rs)
+first_fit [] = None
+first_fit (r ∷ rs) = cond r.fits (Some r.number) (first_fit rs)

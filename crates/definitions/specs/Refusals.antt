@@ -1,6 +1,5 @@
 -- The refusals of every call but the reader's, over the data as lent: one list, in the scope document's order. Definitions only.
-use Rattle.std.specs.Prelude.{ℕ, ◌-◌, ◌*◌, ◌≡◌, Bool, false, cond, ◌&&◌, ◌||◌, not, List, [], ◌∷◌, length, ltb, eqb}
-use Rattle.std.proofs.Math.Option.{Option, none, some}
+use Rattle.std.specs.Prelude.{ℕ, ◌-◌, ◌*◌, ◌≡◌, Bool, false, cond, ◌&&◌, ◌||◌, not, List, [], ◌∷◌, length, ltb, eqb, Option, None, Some}
 use Rattle.basics.specs.Tests.{either}
 use Rattle.basics.specs.Options.{holds, present}
 use Rattle.basics.specs.Lists.{is_empty, any}
@@ -54,16 +53,16 @@ module _ {F : Type 0} (value : F → Option ℕ) where
 
   -- a limit or a penalty that is given
   abbrev pub bad_optional : (ℕ → Bool) → Option F → Bool
-  bad_optional p none = false
-  bad_optional p (some x) = unfit p x
+  bad_optional p None = false
+  bad_optional p (Some x) = unfit p x
 
   abbrev pub bad_break : Option (BreakOf F) → Bool
-  bad_break none = false
-  bad_break (some b) = either (unfit is_number b.earliest ∷ unfit is_number b.latest ∷ unfit is_number b.duration ∷ [])
+  bad_break None = false
+  bad_break (Some b) = either (unfit is_number b.earliest ∷ unfit is_number b.latest ∷ unfit is_number b.duration ∷ [])
 
   abbrev pub bad_window : Option (WindowOf F) → Bool
-  bad_window none = false
-  bad_window (some w) = unfit is_number w.ready || unfit is_number w.due
+  bad_window None = false
+  bad_window (Some w) = unfit is_number w.ready || unfit is_number w.due
 
   abbrev pub bad_customer : CustomerOf F → Bool
   bad_customer c =
@@ -110,12 +109,12 @@ module _ {F : Type 0} (value : F → Option ℕ) where
   above x y = ltb (whole value y) (whole value x)
 
   abbrev pub window_falls : Option (WindowOf F) → Bool
-  window_falls none = false
-  window_falls (some w) = above w.ready w.due
+  window_falls None = false
+  window_falls (Some w) = above w.ready w.due
 
   abbrev pub break_falls : Option (BreakOf F) → Bool
-  break_falls none = false
-  break_falls (some b) = above b.earliest b.latest
+  break_falls None = false
+  break_falls (Some b) = above b.earliest b.latest
 
   unfoldable pub pairs_fall : SheetOf F → Bool
   pairs_fall s = break_falls s.head.rest || any (λ (c : CustomerOf F). window_falls c.window) (records s)
@@ -186,9 +185,9 @@ refusal_of value k l = first_fit (refusals value k l)
 pub record Within (s : Sheet) : Type 0 where
   pub counted : length s.customers ≡ s.head.places
   pub tables : tables_odd s ≡ false
-  pub ranged : bad_sheet some s ≡ false
-  pub paired : pairs_fall some s ≡ false
-  pub closed-alike : closures_differ some s.legs ≡ false
+  pub ranged : bad_sheet Some s ≡ false
+  pub paired : pairs_fall Some s ≡ false
+  pub closed-alike : closures_differ Some s.legs ≡ false
 
 -- calls of such a sheet, as a tour or a run list has them
 abbrev pub WithinCalls : Sheet → List ℕ → Type 0

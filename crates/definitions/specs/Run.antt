@@ -1,7 +1,6 @@
 -- A run leaves the depot, serves some calls in order and returns. It is a route of Solomon's problem (1987): within capacity, each service
 -- started in its window, and each start carried forward along the legs to the next arrival; the break is added. Definitions only.
-use Rattle.std.specs.Prelude.{ℕ, zero, suc, ◌+◌, max, Bool, cond, not, ◌&&◌, List, [], ◌∷◌, length, ltb, leb, eqb}
-use Rattle.std.proofs.Math.Option.{Option, none, some, map}
+use Rattle.std.specs.Prelude.{ℕ, zero, suc, ◌+◌, max, Bool, cond, not, ◌&&◌, List, [], ◌∷◌, length, ltb, leb, eqb, Option, None, Some, option_map}
 use Rattle.basics.specs.Options.{◌>>=◌, holds, present, value_or}
 use Rattle.basics.specs.Lists.{is_empty}
 use Rattle.definitions.specs.Load.{Load, load_by, fits_by}
@@ -21,8 +20,8 @@ too_late b arrival = ltb b.latest (break_start b arrival)
 
 -- readiness: after the break, if it is here, and else the arrival
 unfoldable pub ready : Option Break → ℕ → Option ℕ
-ready none arrival = some arrival
-ready (some b) arrival = cond (too_late b arrival) none (some (break_start b arrival + b.duration))
+ready None arrival = Some arrival
+ready (Some b) arrival = cond (too_late b arrival) None (Some (break_start b arrival + b.duration))
 
 -- ---- serving a call
 
@@ -40,15 +39,15 @@ abbrev pub start : Label
 start = record { time = 0; lateness = 0; pay = 0; place = 0 }
 
 abbrev pub place_after : Option Break → ℕ → ℕ → ℕ
-place_after none k place = place
-place_after (some b) k place = k
+place_after None k place = place
+place_after (Some b) k place = k
 
 -- the run's call number k, at customer c, a travel time away, with the break there if `here` has one
 unfoldable pub serve_at : Customer → Option Break → ℕ → ℕ → Label → Option Label
 serve_at c here k travel l = do
   readiness ← ready here (l.time + travel)
   e ← enter c.window c.penalty readiness
-  some (record {
+  Some (record {
     time = e.start + c.service;
     lateness = l.lateness + e.lateness;
     pay = l.pay + e.pay;
@@ -69,7 +68,7 @@ pub record Run : Type 0 where
 
 -- the break, at the call that has it alone
 abbrev pub break_at : Sheet → ℕ → ℕ → Option Break
-break_at s place k = cond (eqb place k) s.head.rest none
+break_at s place k = cond (eqb place k) s.head.rest None
 
 -- the calls from number k on, served from a with the label m
 unfoldable pub serve_all : Sheet → ℕ → ℕ → ℕ → Option Label → List ℕ → Option Label
@@ -83,16 +82,16 @@ last_of a (c ∷ cs) = last_of c cs
 
 -- all legs from a on, the one to the depot too; none where one of them is closed
 abbrev pub distance_from : Sheet → ℕ → List ℕ → Option ℕ
-distance_from s a [] = map (λ leg. leg.length) (drive s a 0)
+distance_from s a [] = option_map (λ leg. leg.length) (drive s a 0)
 distance_from s a (c ∷ cs) = do
   leg ← drive s a c
   rest ← distance_from s c cs
-  some (leg.length + rest)
+  Some (leg.length + rest)
 
 -- the number of the first closed leg from a on, where that leg is number k: in a run leg 1 leaves the depot
 unfoldable pub closed_from : Sheet → ℕ → ℕ → List ℕ → Option ℕ
-closed_from s k a [] = cond (present (drive s a 0)) none (some k)
-closed_from s k a (c ∷ cs) = cond (present (drive s a c)) (closed_from s (suc k) c cs) (some k)
+closed_from s k a [] = cond (present (drive s a 0)) None (Some k)
+closed_from s k a (c ∷ cs) = cond (present (drive s a c)) (closed_from s (suc k) c cs) (Some k)
 
 abbrev pub first_closed : Sheet → List ℕ → Option ℕ
 first_closed s calls = closed_from s 1 0 calls
@@ -114,7 +113,7 @@ unfoldable pub home : Sheet → List ℕ → Label → Option Totals
 home s calls l = do
   distance ← distance_from s 0 calls
   back ← drive s (last_of 0 calls) 0
-  some (record {
+  Some (record {
     distance = distance;
     duration = l.time + back.travel;
     lateness = l.lateness;
@@ -125,7 +124,7 @@ home s calls l = do
 -- the run's totals, if nothing fails
 unfoldable pub ride : Sheet → Run → Option Totals
 ride s r = do
-  l ← serve_all s r.place 1 0 (some start) r.calls
+  l ← serve_all s r.place 1 0 (Some start) r.calls
   home s r.calls l
 
 -- ---- legal runs
@@ -144,9 +143,9 @@ allowed s t = allow s t.distance t.duration
 -- A place that the break may have in a run of n calls that is home at `duration`: with 0 on a sheet with a break it is excused; a break not
 -- needed may be taken; on a sheet without one only 0 is legal.
 unfoldable pub placed : Option Break → ℕ → ℕ → ℕ → Bool
-placed none place n duration = eqb place 0
-placed (some b) zero n duration = excused b duration
-placed (some b) (suc k) n duration = leb (suc k) n
+placed None place n duration = eqb place 0
+placed (Some b) zero n duration = excused b duration
+placed (Some b) (suc k) n duration = leb (suc k) n
 
 -- Legal with its break place: it is not empty, its load is at most capacity, no leg is closed and no call fails, its totals
 -- are allowed, and the break may be there.
@@ -161,8 +160,8 @@ price s distance pay = s.head.fixed + distance + pay
 
 -- the lateness pay, where nothing fails
 abbrev pub pay_of : Option Totals → ℕ
-pay_of none = 0
-pay_of (some t) = t.pay
+pay_of None = 0
+pay_of (Some t) = t.pay
 
 -- how far a run goes. No cutting has a run with a closed leg, so the 0 is never read.
 abbrev pub length_of : Sheet → List ℕ → ℕ

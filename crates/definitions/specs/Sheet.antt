@@ -1,8 +1,6 @@
 -- A sheet: places (0 is the depot, the others customers), legs, limits, and, beside this record, a tour of customer numbers. Definitions
 -- only. F is how a number is held that may be a float in lent memory: a whole number in all that follows.
-use Rattle.std.specs.Prelude.{ℕ, ◌+◌, ◌*◌, Bool, not, ◌&&◌, List, [], ◌∷◌, map, get_or, take}
-use Rattle.std.proofs.Math.Option
-use Rattle.std.proofs.Math.Option.{Option, none, some}
+use Rattle.std.specs.Prelude.{ℕ, ◌+◌, ◌*◌, Bool, not, ◌&&◌, List, [], ◌∷◌, map, get_or, take, Option, None, Some, option_map}
 use Rattle.basics.specs.Options.{◌>>=◌, present, given}
 use Rattle.basics.specs.Lists.{any}
 use Rattle.definitions.specs.Domain.{is_closed}
@@ -77,8 +75,8 @@ module _ {F G : Type 0} (hold : F → G) where
       record {
         demand = c.demand;
         service = hold c.service;
-        window = Option.map map_window c.window;
-        penalty = Option.map hold c.penalty;
+        window = option_map map_window c.window;
+        penalty = option_map hold c.penalty;
       }
 
   abbrev pub map_head : HeadOf F → HeadOf G
@@ -87,9 +85,9 @@ module _ {F G : Type 0} (hold : F → G) where
         places = h.places;
         capacity = h.capacity;
         fixed = hold h.fixed;
-        max_distance = Option.map hold h.max_distance;
-        max_duration = Option.map hold h.max_duration;
-        rest = Option.map map_break h.rest;
+        max_distance = option_map hold h.max_distance;
+        max_duration = option_map hold h.max_duration;
+        rest = option_map map_break h.rest;
       }
 
   abbrev pub map_legs : LegsOf F → LegsOf G
@@ -114,7 +112,7 @@ Sheet = SheetOf ℕ
 
 -- the depot has demand and service 0 and no window
 abbrev pub depot : Customer
-depot = asking no_load 0 none none
+depot = asking no_load 0 None None
 
 -- ---- lookups
 
@@ -154,7 +152,7 @@ unfoldable pub drive : Sheet → ℕ → ℕ → Option Leg
 drive s a b = do
   d ← distance s a b
   t ← time s a b
-  some (record { length = d; travel = t })
+  Some (record { length = d; travel = t })
 
 -- ---- lateness pay
 

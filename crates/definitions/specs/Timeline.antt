@@ -1,7 +1,6 @@
 -- The timeline of a run whose break is at a given place: its visits with when break and service start, its totals, and all that it
 -- violates. Where the place is the clock's these are the visits of `build_route` (timeline/proofs/AtTheClock). Definitions only.
-use Rattle.std.specs.Prelude.{ℕ, suc, Bool, true, false, not, ◌&&◌, ◌||◌, List, [], ◌∷◌, map, eqb}
-use Rattle.std.proofs.Math.Option.{Option, none, some}
+use Rattle.std.specs.Prelude.{ℕ, suc, Bool, true, false, not, ◌&&◌, ◌||◌, List, [], ◌∷◌, map, eqb, Option, None, Some}
 use Rattle.basics.specs.Options.{◌>>=◌, present, value_or, given, or_else}
 use Rattle.basics.specs.Lists.{is_empty}
 use Rattle.definitions.specs.Load.{Load, no_load, plus}
@@ -43,7 +42,7 @@ module _ (s : Sheet) (place : ℕ) where
 
 -- when the break of these stops starts, if it is taken at one of them
 abbrev pub rest_of : List Stop → Option ℕ
-rest_of [] = none
+rest_of [] = None
 rest_of (x ∷ xs) = or_else x.rest (rest_of xs)
 
 -- ---- the timeline
@@ -58,8 +57,8 @@ pub record Timeline : Type 0 where
 -- A run needs its break and does not take it: at the given place it would start past latest, or no place is given and the run is home too
 -- late to be excused.
 abbrev pub untaken : Option Break → ℕ → List Stop → ℕ → Bool
-untaken none place stops duration = false
-untaken (some b) place stops duration = not (present (rest_of stops) || (eqb place 0 && excused b duration))
+untaken None place stops duration = false
+untaken (Some b) place stops duration = not (present (rest_of stops) || (eqb place 0 && excused b duration))
 
 -- of a run with a closed leg nothing but that is told
 abbrev pub closed_timeline : ℕ → Timeline
@@ -82,8 +81,8 @@ open_timeline s r =
 unfoldable pub timeline : Sheet → Run → Timeline
 timeline s r =
     elim (first_closed s r.calls) [
-      | some leg ↦ closed_timeline leg
-      | none ↦ open_timeline s r
+      | Some leg ↦ closed_timeline leg
+      | None ↦ open_timeline s r
     ]
 
 -- the same as a route

@@ -1,6 +1,5 @@
 -- Visits: what `build_route` answers. Definitions only.
-use Rattle.std.specs.Prelude.{ℕ, suc, ◌+◌, Bool, true, false, cond, not, ◌&&◌, List, [], ◌∷◌, ◌++◌}
-use Rattle.std.proofs.Math.Option.{Option, none, some}
+use Rattle.std.specs.Prelude.{ℕ, suc, ◌+◌, Bool, true, false, cond, not, ◌&&◌, List, [], ◌∷◌, ◌++◌, Option, None, Some}
 use Rattle.basics.specs.Options.{present, value_or}
 use Rattle.basics.specs.Lists.{is_empty}
 use Rattle.definitions.specs.Load.{Load, no_load, plus, seated, wheeled}
@@ -126,7 +125,7 @@ no_totals = record { distance = 0; duration = 0; lateness = 0; pay = 0; place = 
 
 -- of a run with a closed leg its first is the only thing reported: nothing is visited
 abbrev pub closed_route : ℕ → Route
-closed_route leg = record { visits = []; totals = no_totals; load = no_load; start = none; violations = closed_leg leg ∷ [] }
+closed_route leg = record { visits = []; totals = no_totals; load = no_load; start = None; violations = closed_leg leg ∷ [] }
 
 -- What a run violates: windows by visit, break not placeable (`told`; only if no window violation), capacity, distance, duration.
 abbrev pub violations_of : Sheet → List ℕ → List Violation → Bool → Totals → List Violation
@@ -156,6 +155,6 @@ open_route s calls =
 unfoldable pub build_route : Sheet → List ℕ → Route
 build_route s calls =
     elim (first_closed s calls) [
-      | some leg ↦ closed_route leg
-      | none ↦ open_route s calls
+      | Some leg ↦ closed_route leg
+      | None ↦ open_route s calls
     ]

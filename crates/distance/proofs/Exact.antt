@@ -5,8 +5,7 @@ use native.Mathlib.Nat.{not-suc-le-zero, le_of_suc-le-suc}
 use mathlib.Core.Path.{◌≡◌, refl, sym, ap, ap₂, subst, ◌∙◌}
 use mathlib.Core.Bool.{false}
 use mathlib.Core.List.{List, [], ◌∷◌, map}
-use mathlib.Core.Option
-use mathlib.Core.Option.{Option, none, some}
+use Rattle.std.specs.Prelude.{Option, None, Some, option_map}
 use lib.ListN.{length, get_or, length-map}
 use lib.Ieee.{Float, inf}
 use Rattle.basics.specs.Options.{◌>>=◌}
@@ -32,13 +31,13 @@ number-exact table size from to p q h =
     ∙ get_d_map table (from * size + to) (inf false) h
 
 -- a float is closed exactly where the number is
-pub road-exact : (n : ℕ) → n ≤ limit → road_f (fl n) ≡ Option.map fl (road n)
+pub road-exact : (n : ℕ) → n ≤ limit → road_f (fl n) ≡ option_map fl (road n)
 unfolding is_closed_f road_f
 road-exact n h =
     by-test (is_closed n) (λ t. rw (fl-eq n no_road h (omega arith), t) refl) (λ f. rw (fl-eq n no_road h (omega arith), f) refl)
 
 pub lookup-exact : (table : List ℕ) (size from to : ℕ) → from < size → to < size → from * size + to < length table → get_or table (from * size + to) 0 ≤ limit
-    → lookup_f (map fl table) size from to ≡ Option.map fl (leg table size from to)
+    → lookup_f (map fl table) size from to ≡ option_map fl (leg table size from to)
 lookup-exact table size from to p q h m = ap road_f (number-exact table size from to p q h) ∙ road-exact (get_or table (from * size + to) 0) m
 
 -- the time table in use is the image of the one in whole numbers
@@ -51,15 +50,15 @@ abbrev pub fl_leg : Sheet.Leg → Leg
 fl_leg l = record { distance = fl l.length; time = fl l.travel }
 
 -- by both tables
-pub drive-exact : (s : Sheet) (distances times : List Float) (size from to : ℕ) → lookup_f distances size from to ≡ Option.map fl (distance s from to)
-    → lookup_f (time_table distances times) size from to ≡ Option.map fl (time s from to) → drive_f distances times size from to ≡ Option.map fl_leg (drive s from to)
+pub drive-exact : (s : Sheet) (distances times : List Float) (size from to : ℕ) → lookup_f distances size from to ≡ option_map fl (distance s from to)
+    → lookup_f (time_table distances times) size from to ≡ option_map fl (time s from to) → drive_f distances times size from to ≡ option_map fl_leg (drive s from to)
 unfolding drive_f drive
 drive-exact s distances times size from to d t =
-    ap₂ (λ (x y : Option Float). x >>= λ d. y >>= λ t. some (record { distance = d; time = t })) d t ∙ go (distance s from to) (time s from to)
+    ap₂ (λ (x y : Option Float). x >>= λ d. y >>= λ t. Some (record { distance = d; time = t })) d t ∙ go (distance s from to) (time s from to)
   where
     go : (o p : Option ℕ)
-        → (Option.map fl o >>= λ d. Option.map fl p >>= λ t. some (record { distance = d; time = t }))
-        ≡ Option.map fl_leg (o >>= λ d. p >>= λ t. some (record { length = d; travel = t }))
-    go none p = refl
-    go (some a) none = refl
-    go (some a) (some b) = refl
+        → (option_map fl o >>= λ d. option_map fl p >>= λ t. Some (record { distance = d; time = t }))
+        ≡ option_map fl_leg (o >>= λ d. p >>= λ t. Some (record { length = d; travel = t }))
+    go None p = refl
+    go (Some a) None = refl
+    go (Some a) (Some b) = refl

@@ -1,17 +1,12 @@
 -- A lookup in a table of floats, as the code has it. Definitions only.
-use Rattle.std.specs.Prelude.{ℕ, ◌+◌, ◌*◌, Bool, false, cond, ◌&&◌, List, ltb, Float, get_or}
-use Rattle.std.proofs.Math.Option.{Option, none, some}
+use Rattle.std.specs.Prelude.{ℕ, ◌+◌, ◌*◌, Bool, false, cond, ◌&&◌, List, ltb, Float, get_or, Option, None, Some}
 use Rattle.std.specs.Float.{inf}
 use Rattle.std.specs.Float.Ieee as Ieee
 use Rattle.basics.specs.Options.{◌>>=◌}
 use Rattle.definitions.specs.Domain.{no_road}
 use Rattle.definitions.specs.Sheet.{time_table}
 use Rattle.whole.specs.Whole.{fl}
-use Rattle.distance.specs.declared.matrix.Road.{Road}
-use Rattle.distance.specs.declared.matrix.Road.TheVariants.{Length, Closed}
 use Rattle.distance.specs.declared.leg.Leg.{Leg}
-use Rattle.distance.specs.declared.leg.Drive.{Drive}
-use Rattle.distance.specs.declared.leg.Drive.TheVariants as Drive
 
 -- what stands in row `from` and column `to` of a table with `size` rows; infinity outside the table
 unfoldable pub number_f : List Float → ℕ → ℕ → ℕ → Float
@@ -23,7 +18,7 @@ is_closed_f x = Ieee.eq x (fl no_road)
 
 -- what a number of a leg table says: a length, or none where there is no road
 unfoldable pub road_f : Float → Option Float
-road_f x = cond (is_closed_f x) none (some x)
+road_f x = cond (is_closed_f x) None (Some x)
 
 -- a leg's length by a table; outside the table it is infinity
 abbrev pub lookup_f : List Float → ℕ → ℕ → ℕ → Option Float
@@ -34,14 +29,6 @@ unfoldable pub drive_f : (distances times : List Float) → ℕ → ℕ → ℕ 
 drive_f distances times size from to = do
   d ← lookup_f distances size from to
   t ← lookup_f (time_table distances times) size from to
-  some (record { distance = d; time = t })
+  Some (record { distance = d; time = t })
 
 -- ---- what the code's answers mean
-
-abbrev pub road_of : Road → Option Float
-road_of (Length x) = some x
-road_of Closed = none
-
-abbrev pub drive_of : Drive → Option Leg
-drive_of (Drive.Open leg) = some leg
-drive_of Drive.Closed = none

@@ -3,16 +3,9 @@ ghost use Rattle.std.specs.Prelude.{◌≡◌, ◌<◌};
 ghost use Rattle.definitions.specs.Sheet.{time_table};
 ghost use Rattle.definitions.specs.Domain.{no_road};
 ghost use Rattle.whole.specs.Whole.{fl};
-ghost use Rattle.distance.specs.Lookup.{is_closed_f, number_f, road_f, lookup_f, road_of};
+ghost use Rattle.distance.specs.Lookup.{is_closed_f, number_f, road_f, lookup_f};
 
 use whole::infinity;
-
-// What a leg table says of a leg: its length, or that there is no road.
-#[derive(Clone, Copy)]
-pub enum Road {
-    Length(f64),
-    Closed,
-}
 
 // What a table holds for a leg without a road.
 pub fn no_road() -> f64
@@ -28,14 +21,14 @@ pub fn is_closed(number: f64) -> bool
     number == no_road()
 }
 
-// What a number of a leg table says.
-pub fn road_of(number: f64) -> Road
-    ensures { road_of result ≡ road_f number }
+// What a number of a leg table says: a leg's length, or that there is no road.
+pub fn road_of(number: f64) -> Option<f64>
+    ensures { result ≡ road_f number }
 {
     if is_closed(number) {
-        Road::Closed
+        None
     } else {
-        Road::Length(number)
+        Some(number)
     }
 }
 
@@ -79,16 +72,16 @@ fn number_wide(table: &[f64], size: usize, from: usize, to: usize) -> f64
     table[i]
 }
 
-// The leg by a table.
-pub fn lookup(table: &[f64], size: usize, from: usize, to: usize) -> Road
-    ensures { road_of result ≡ lookup_f table.now size from to }
+// The length of a leg by a table, if there is a road.
+pub fn lookup(table: &[f64], size: usize, from: usize, to: usize) -> Option<f64>
+    ensures { result ≡ lookup_f table.now size from to }
 {
     road_of(number_at(table, size, from, to))
 }
 
 // By the time table, or without one by the distances.
-fn lookup_time(distances: &[f64], times: &[f64], size: usize, from: usize, to: usize) -> Road
-    ensures { road_of result ≡ lookup_f (time_table distances.now times.now) size from to }
+fn lookup_time(distances: &[f64], times: &[f64], size: usize, from: usize, to: usize) -> Option<f64>
+    ensures { result ≡ lookup_f (time_table distances.now times.now) size from to }
 {
     if times.len() == 0 {
         lookup(distances, size, from, to)
@@ -107,23 +100,23 @@ pub struct DistanceMatrix<'a, 'b> {
 
 // The two lookups over it.
 impl<'a, 'b> DistanceMatrix<'a, 'b> {
-    pub fn get(self, from: usize, to: usize) -> Road
-        ensures { road_of result ≡ lookup_f self.entry.distances.now self.entry.size from to }
+    pub fn get(self, from: usize, to: usize) -> Option<f64>
+        ensures { result ≡ lookup_f self.entry.distances.now self.entry.size from to }
     {
         lookup(self.distances, self.size, from, to)
     }
 
-    pub fn travel_time(self, from: usize, to: usize) -> Road
+    pub fn travel_time(self, from: usize, to: usize) -> Option<f64>
         ensures { let times = time_table self.entry.distances.now self.entry.times.now in
-            road_of result ≡ lookup_f times self.entry.size from to }
+            result ≡ lookup_f times self.entry.size from to }
     {
         lookup_time(self.distances, self.times, self.size, from, to)
     }
 }
 
 // The distance from one place to another.
-pub fn get(distances: &[f64], size: usize, from: usize, to: usize) -> Road
-    ensures { road_of result ≡ lookup_f distances.now size from to }
+pub fn get(distances: &[f64], size: usize, from: usize, to: usize) -> Option<f64>
+    ensures { result ≡ lookup_f distances.now size from to }
 {
     // no time is asked, so the distances stand for the times
     let matrix = DistanceMatrix {
@@ -135,8 +128,14 @@ pub fn get(distances: &[f64], size: usize, from: usize, to: usize) -> Road
 }
 
 // The travel time from one place to another; without a time table it is the distance.
-pub fn travel_time(distances: &[f64], times: &[f64], size: usize, from: usize, to: usize) -> Road
-    ensures { road_of result ≡ lookup_f (time_table distances.now times.now) size from to }
+pub fn travel_time(
+    distances: &[f64],
+    times: &[f64],
+    size: usize,
+    from: usize,
+    to: usize,
+) -> Option<f64>
+    ensures { result ≡ lookup_f (time_table distances.now times.now) size from to }
 {
     let matrix = DistanceMatrix {
         distances,

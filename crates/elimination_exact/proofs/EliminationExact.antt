@@ -5,7 +5,7 @@ use native.Mathlib.Nat.{zero-add, not-suc-le-zero}
 use mathlib.Core.Path.{◌≡◌, refl, sym, ap, ap₂, subst, ◌∙◌}
 use mathlib.Core.Bool.{true, false, cond}
 use mathlib.Core.List.{List, [], ◌∷◌}
-use mathlib.Core.Option.{Option, none, some, map}
+use Rattle.std.specs.Prelude.{Option, None, Some, option_map}
 use lib.ListN.{length, drop}
 use lib.Ieee as Ieee
 use lib.Ieee.{Float, binary64}
@@ -85,7 +85,7 @@ module _ (s : Sheet) (D : Within s) (T : GivenF) (I : Image s T) where
     abbrev left : Option (List (List ℕ))
     left = placed_all (given_of s) (saved + base) moving p.rest
 
-    placed-exact : place_all_f T (fl 0) (fl saved) (sort (by_seats (demand_f T)) p.run) p.rest ≡ map (answered s D T I base saved base-small (omega (arith, saved-small))) left
+    placed-exact : place_all_f T (fl 0) (fl saved) (sort (by_seats (demand_f T)) p.run) p.rest ≡ option_map (answered s D T I base saved base-small (omega (arith, saved-small))) left
     placed-exact =
         ap₂ (λ (z : Float) (l : List ℕ). place_all_f T z (fl saved) l p.rest) (sym (diff-none base)) (moving-exact p.run P.run_inside)
         ∙ all-exact s D T I base saved base-small (omega (arith, saved-small)) moving p.rest (calls p.rest) room moving-inside P.others
@@ -94,11 +94,11 @@ module _ (s : Sheet) (D : Within s) (T : GivenF) (I : Image s T) where
     left-good = all-good s D T I base saved base-small (omega (arith, saved-small)) moving p.rest (calls p.rest) room moving-inside P.others
 
     left_below : Holds (λ (new : List (List ℕ)). total (given_of s) new < saved + base) left
-    left_below = go moving (let e : 0 < length moving = omega (arith, some p.run P.run-calls, sort-length (by_seats (given_of s).demand) p.run) in e)
+    left_below = go moving (let e : 0 < length moving = omega (arith, Some p.run P.run-calls, sort-length (by_seats (given_of s).demand) p.run) in e)
       where
-        some : (run : List ℕ) → Calls run → 0 < length run
-        some [] c = absurd c
-        some (x ∷ xs) c = omega arith
+        Some : (run : List ℕ) → Calls run → 0 < length run
+        Some [] c = absurd c
+        Some (x ∷ xs) c = omega arith
 
         go : (l : List ℕ) → 0 < length l → Holds (λ (new : List (List ℕ)). total (given_of s) new < saved + base) (placed_all (given_of s) (saved + base) l p.rest)
         go [] z = absurd (not-suc-le-zero z)
@@ -111,25 +111,25 @@ module _ (s : Sheet) (D : Within s) (T : GivenF) (I : Image s T) where
       where
         go : (o : Option (List (List ℕ))) → Holds (Good s most_calls) o → Holds (λ (new : List (List ℕ)). total (given_of s) new < saved + base) o → Holds (λ (new : List (List ℕ)).
             Ieee.lt (answered s D T I base saved base-small (omega (arith, saved-small)) new).added (Ieee.sub binary64 (fl saved) (gain_floor_f (fl most))) ≡ true) o
-        go none W b = tt
-        go (some new) W b =
+        go None W b = tt
+        go (Some new) W b =
             let far = total (given_of s) new in
             let t = total-most s S new W.some-calls in
             elimination-test most far base m (omega (arith, t, W.few)) (omega (arith, base-small)) saved saved-small ∙ lt-ltb far (saved + base) b
 
     -- the runs that are left
-    runs-exact : (o : Option (List (List ℕ))) → map (λ (q : PlacedF). q.runs) (map (answered s D T I base saved base-small (omega (arith, saved-small))) o) ≡ o
-    runs-exact none = refl
-    runs-exact (some new) = refl
+    runs-exact : (o : Option (List (List ℕ))) → option_map (λ (q : PlacedF). q.runs) (option_map (answered s D T I base saved base-small (omega (arith, saved-small))) o) ≡ o
+    runs-exact None = refl
+    runs-exact (Some new) = refl
 
     emptied-exact : emptied_f T p ≡ emptied (given_of s) p
     unfolding emptied_f emptied
     emptied-exact =
         let bound : saved + base ≡ distance_of (given_of s) p.run + base + s.head.fixed = omega arith in
         let by : Float → Option (List (List ℕ)) =
-        λ x. cond (finite_f x) (map (λ (q : PlacedF). q.runs) (place_all_f T (fl 0) x (sort (by_seats (demand_f T)) p.run) p.rest)) none in
+        λ x. cond (finite_f x) (option_map (λ (q : PlacedF). q.runs) (place_all_f T (fl 0) x (sort (by_seats (demand_f T)) p.run) p.rest)) None in
         ap by (saved-exact s S T I p.run P.run_inside (omega (arith, P.few)))
-        ∙ rw (finite-exact saved (omega (arith, saved-small))) (ap (map (λ (q : PlacedF). q.runs)) placed-exact ∙ runs-exact left)
+        ∙ rw (finite-exact saved (omega (arith, saved-small))) (ap (option_map (λ (q : PlacedF). q.runs)) placed-exact ∙ runs-exact left)
         ∙ ap (λ (b : ℕ). placed_all (given_of s) b moving p.rest) bound
 
     emptied-good : Holds (Good s most_calls) (emptied (given_of s) p)
@@ -152,8 +152,8 @@ module _ (s : Sheet) (D : Within s) (T : GivenF) (I : Image s T) where
     first_good (p ∷ ps) a = go (emptied (given_of s) p) (emptied-good p n h a.0) (first_emptied (given_of s) ps) (first_good ps a.1)
       where
         go : (o : Option (List (List ℕ))) → Holds (Good s most_calls) o → (later : Option (List (List ℕ))) → Holds (Good s most_calls) later → Holds (Good s most_calls) (or_else o later)
-        go none x later y = y
-        go (some new) x later y = x
+        go None x later y = y
+        go (Some new) x later y = x
 
   module _ (rs : List (List ℕ)) (W : Good s most_calls rs) where
     parts : All (GoodPart s (calls rs)) (sort (rising (λ (p : Parted). length p.run)) (parted rs))
@@ -171,13 +171,13 @@ module _ (s : Sheet) (D : Within s) (T : GivenF) (I : Image s T) where
   unfolding searches_f searches
   searches-exact zero rs a h = refl
   searches-exact (suc bound) rs a h =
-      ap (λ (o : Option (List (List ℕ))). value_or (non_empty rs) (map (searches_f T bound) o)) (search-exact (non_empty rs) (non-empty-good s rs a h))
+      ap (λ (o : Option (List (List ℕ))). value_or (non_empty rs) (option_map (searches_f T bound) o)) (search-exact (non_empty rs) (non-empty-good s rs a h))
       ∙ go (λ new W. searches-exact bound new W.inside W.few) (search (given_of s) (non_empty rs)) (search-good (non_empty rs) (non-empty-good s rs a h))
     where
       go : ((new : List (List ℕ)) → Good s most_calls new → searches_f T bound new ≡ searches (given_of s) bound new) → (o : Option (List (List ℕ))) → Holds (Good s most_calls) o
-          → value_or (non_empty rs) (map (searches_f T bound) o) ≡ value_or (non_empty rs) (map (searches (given_of s) bound) o)
-      go ih none W = refl
-      go ih (some new) W = ih new W
+          → value_or (non_empty rs) (option_map (searches_f T bound) o) ≡ value_or (non_empty rs) (option_map (searches (given_of s) bound) o)
+      go ih None W = refl
+      go ih (Some new) W = ih new W
 
   -- the runs that eliminate_routes gives
   pub placed-elimination-exact : (rs : List (List ℕ)) → All (All (Place s)) rs → calls rs ≤ most_calls → eliminated_f T rs ≡ eliminated (given_of s) rs

@@ -4,8 +4,7 @@ use native.Mathlib.Omega.{arith}
 use mathlib.Core.Path.{◌≡◌, refl, sym, ap, ap₂, subst, ◌∙◌}
 use mathlib.Core.Bool.{Bool, true, false, cond, not, ◌&&◌, false≢true}
 use mathlib.Core.List.{List, [], ◌∷◌, map}
-use mathlib.Core.Option
-use mathlib.Core.Option.{Option, none, some}
+use Rattle.std.specs.Prelude.{Option, None, Some, option_map}
 use lib.ListN.{length}
 use lib.Dec.{ltb, leb}
 use lib.Ieee as Ieee
@@ -162,8 +161,8 @@ module _ (s : Sheet) (D : Within s) (T : GivenF) (I : Image s T) where
       -- ---- the scans, with no place so far or with one
 
       abbrev spot_or : Option Spot → Spot
-      spot_or none = nowhere_f
-      spot_or (some x) = x
+      spot_or None = nowhere_f
+      spot_or (Some x) = x
 
       module _ (f : Spot → Spot → Spot) (ok : Spot → Bool)
           (step : (o : Option Spot) → Holds Is o → (x : Spot) → Is x → f (spot_or o) x ≡ spot_or (lesser by o (given (ok x) x))) where
@@ -180,9 +179,9 @@ module _ (s : Sheet) (D : Within s) (T : GivenF) (I : Image s T) where
             here false = tt
             here true = a.0
 
-      cheaper-step : (o : Option Spot) → Holds Is o → (x : Spot) → Is x → cheaper_f (spot_or o) x ≡ spot_or (lesser by o (some x))
-      cheaper-step none h x X = rw (finite x X)
-      cheaper-step (some b) h x X =
+      cheaper-step : (o : Option Spot) → Holds Is o → (x : Spot) → Is x → cheaper_f (spot_or o) x ≡ spot_or (lesser by o (Some x))
+      cheaper-step None h x X = rw (finite x X)
+      cheaper-step (Some b) h x X =
           let e = below-exact s S T I c p rs n few W x b X h in
           by-test (leb (by b) (by x)) (λ t. (let u = e ∙ ap not t in rw (u, t))) (λ g. (let u = e ∙ ap not g in rw (u, g)))
 
@@ -207,17 +206,17 @@ module _ (s : Sheet) (D : Within s) (T : GivenF) (I : Image s T) where
       all_are = all-priced s S T I c p rs n few W
 
       least-is : folded cheaper_f nowhere_f cands ≡ spot_or (least by (any by) cands)
-      least-is = scan cheaper_f (any by) cheaper-step cands all_are none tt
+      least-is = scan cheaper_f (any by) cheaper-step cands all_are None tt
 
       tested-is : tested_f T m rs ≡ spot_or (least by pass cands)
-      tested-is = scan (better_of T m rs) pass better-step cands all_are none tt
+      tested-is = scan (better_of T m rs) pass better-step cands all_are None tt
 
       -- ---- the best place is the first least of those that pass
 
       best-exact : best_f T m rs ≡ least by pass cands
       unfolding best_f
       best-exact =
-          ap₂ (λ (x y : Spot). cond (pays_f m x.cost) (cond (allowed_f T c (run_at rs x.run) x) (some x) (given (pays_f m y.cost) y)) none) least-is tested-is
+          ap₂ (λ (x y : Spot). cond (pays_f m x.cost) (cond (allowed_f T c (run_at rs x.run) x) (Some x) (given (pays_f m y.cost) y)) None) least-is tested-is
           ∙ go (least by (any by) cands) (least by pass cands) (least-leads by pass cands) (least-holds by (any by) Is cands all_are) (least-holds by pass Is cands all_are)
           (least-passes by pass cands)
         where
@@ -225,19 +224,19 @@ module _ (s : Sheet) (D : Within s) (T : GivenF) (I : Image s T) where
           paying z e = by-test (pays_f m z.cost) (λ t. t) (λ f. absurd (false≢true ((let d : false ≡ pass z = rw f in d) ∙ e)))
 
           found : (o : Option Spot) → Holds (λ (z : Spot). pass z ≡ true) o → given (pays_f m (spot_or o).cost) (spot_or o) ≡ o
-          found none h = rw (pays-nowhere m)
-          found (some z) h = rw (paying z h)
+          found None h = rw (pays-nowhere m)
+          found (Some z) h = rw (paying z h)
 
-          stopped : (y : Spot) → Is y → pays_f m y.cost ≡ false → (o : Option Spot) → Holds (λ (z : Spot). by y ≤ by z) o → Holds Is o → Holds (λ (z : Spot). pass z ≡ true) o → none ≡ o
-          stopped y Y f none u X h = refl
-          stopped y Y f (some z) u X h =
+          stopped : (y : Spot) → Is y → pays_f m y.cost ≡ false → (o : Option Spot) → Holds (λ (z : Spot). by y ≤ by z) o → Holds Is o → Holds (λ (z : Spot). pass z ≡ true) o → None ≡ o
+          stopped y Y f None u X h = refl
+          stopped y Y f (Some z) u X h =
               let v = ltb-true (by z) (saved + base) (sym (pays-exact z X) ∙ paying z h) in
               absurd (false≢true (sym f ∙ pays-exact y Y ∙ lt-ltb (by y) (saved + base) (omega arith)))
 
           go : (o q : Option Spot) → Leads by pass o q → Holds Is o → Holds Is q → Holds (λ (z : Spot). pass z ≡ true) q
-              → cond (pays_f m (spot_or o).cost) (cond (allowed_f T c (run_at rs (spot_or o).run) (spot_or o)) (some (spot_or o)) (given (pays_f m (spot_or q).cost) (spot_or q))) none ≡ q
-          go none q L Y Z h = rw (pays-nowhere m) (sym L)
-          go (some y) q L Y Z h =
+              → cond (pays_f m (spot_or o).cost) (cond (allowed_f T c (run_at rs (spot_or o).run) (spot_or o)) (Some (spot_or o)) (given (pays_f m (spot_or q).cost) (spot_or q))) None ≡ q
+          go None q L Y Z h = rw (pays-nowhere m) (sym L)
+          go (Some y) q L Y Z h =
               by-test (pays_f m y.cost)
               (λ t.
               by-test (allowed_f T c (run_at rs y.run) y)
@@ -245,40 +244,40 @@ module _ (s : Sheet) (D : Within s) (T : GivenF) (I : Image s T) where
               (λ g. rw (t, g) (found q h)))
               (λ f. rw f (stopped y Y f q L.0 Z h))
 
-      found-exact : (xs : List Spot) → All Is xs → first_below (given_of s) (saved + base) (map (put_of c rs) xs) ≡ Option.map (λ (x : Spot). (put_of c rs x).runs) (first by pass xs)
+      found-exact : (xs : List Spot) → All Is xs → first_below (given_of s) (saved + base) (map (put_of c rs) xs) ≡ option_map (λ (x : Spot). (put_of c rs x).runs) (first by pass xs)
       unfolding first_below
       found-exact [] a = refl
       found-exact (x ∷ xs) a =
           let e : ltb (by x) (saved + base) && allowed (given_of s) (put_of c rs x).grown ≡ pass x = ap₂ (λ (u v : Bool). u && v) (sym (pays-exact x a.0)) (sym (grown-exact x a.0)) in
           by-test (pass x) (λ t. (let u = e ∙ t in rw (u, t))) (λ f. (let u = e ∙ f in rw (u, f) (found-exact xs a.1)))
 
-      placed-is : placed (given_of s) (saved + base) c rs ≡ Option.map (λ (x : Spot). (put_of c rs x).runs) (least by pass cands)
+      placed-is : placed (given_of s) (saved + base) c rs ≡ option_map (λ (x : Spot). (put_of c rs x).runs) (least by pass cands)
       unfolding placed
       placed-is =
           ap (λ (l : List Put). first_below (given_of s) (saved + base) (sort (rising key_of) l)) (sym (candidates-are s S T I c p rs n few W))
           ∙ ap (first_below (given_of s) (saved + base)) (sort-map (rising key_of) (put_of c rs) (rising by) Is (λ x y X Y. refl) cands all_are)
           ∙ found-exact (sort (rising by) cands) (sort-all (rising by) Is cands all_are)
-          ∙ ap (Option.map (λ (x : Spot). (put_of c rs x).runs)) (first-sorted by pass cands)
+          ∙ ap (option_map (λ (x : Spot). (put_of c rs x).runs)) (first-sorted by pass cands)
 
-      place-exact : place_f T now (fl saved) c rs ≡ Option.map answered (placed (given_of s) (saved + base) c rs)
+      place-exact : place_f T now (fl saved) c rs ≡ option_map answered (placed (given_of s) (saved + base) c rs)
       place-exact =
-          ap (Option.map (put_at m rs)) best-exact ∙ go (least by pass cands) (least-holds by pass Is cands all_are) ∙ ap (Option.map answered) (sym placed-is)
+          ap (option_map (put_at m rs)) best-exact ∙ go (least by pass cands) (least-holds by pass Is cands all_are) ∙ ap (option_map answered) (sym placed-is)
         where
-          go : (o : Option Spot) → Holds Is o → Option.map (put_at m rs) o ≡ Option.map answered (Option.map (λ (x : Spot). (put_of c rs x).runs) o)
-          go none h = refl
-          go (some x) h = rw (sum-exact x h)
+          go : (o : Option Spot) → Holds Is o → option_map (put_at m rs) o ≡ option_map answered (option_map (λ (x : Spot). (put_of c rs x).runs) o)
+          go None h = refl
+          go (Some x) h = rw (sum-exact x h)
 
       place-good : Holds (Good s (suc n)) (placed (given_of s) (saved + base) c rs)
       place-good = subst (Holds (Good s (suc n))) (sym placed-is) (go (least by pass cands) (least-holds by pass Is cands all_are))
         where
-          go : (o : Option Spot) → Holds Is o → Holds (Good s (suc n)) (Option.map (λ (x : Spot). (put_of c rs x).runs) o)
-          go none h = tt
-          go (some x) h = h.next
+          go : (o : Option Spot) → Holds Is o → Holds (Good s (suc n)) (option_map (λ (x : Spot). (put_of c rs x).runs) o)
+          go None h = tt
+          go (Some x) h = h.next
 
     -- ---- all of them
 
     pub all-exact : (cs : List ℕ) (rs : List (List ℕ)) (n : ℕ) → n + length cs ≤ most_calls → All (Place s) cs → Good s n rs
-        → place_all_f T (diff (total (given_of s) rs) base) (fl saved) cs rs ≡ Option.map answered (placed_all (given_of s) (saved + base) cs rs)
+        → place_all_f T (diff (total (given_of s) rs) base) (fl saved) cs rs ≡ option_map answered (placed_all (given_of s) (saved + base) cs rs)
     unfolding place_all_f placed_all
     all-exact [] rs n h a W = refl
     all-exact (c ∷ cs) rs n h a W =
@@ -286,11 +285,11 @@ module _ (s : Sheet) (D : Within s) (T : GivenF) (I : Image s T) where
         ap (λ (o : Option PlacedF). o >>= λ q. place_all_f T q.added (fl saved) cs q.runs) (place-exact c a.0 rs n few W)
         ∙ go (λ new Q. all-exact cs new (suc n) (omega arith) a.1 Q) (placed (given_of s) (saved + base) c rs) (place-good c a.0 rs n few W)
       where
-        go : ((new : List (List ℕ)) → Good s (suc n) new → place_all_f T (diff (total (given_of s) new) base) (fl saved) cs new ≡ Option.map answered (placed_all (given_of s) (saved + base) cs new))
+        go : ((new : List (List ℕ)) → Good s (suc n) new → place_all_f T (diff (total (given_of s) new) base) (fl saved) cs new ≡ option_map answered (placed_all (given_of s) (saved + base) cs new))
             → (o : Option (List (List ℕ))) → Holds (Good s (suc n)) o
-            → (Option.map answered o >>= λ q. place_all_f T q.added (fl saved) cs q.runs) ≡ Option.map answered (o >>= placed_all (given_of s) (saved + base) cs)
-        go ih none Q = refl
-        go ih (some new) Q = ih new Q
+            → (option_map answered o >>= λ q. place_all_f T q.added (fl saved) cs q.runs) ≡ option_map answered (o >>= placed_all (given_of s) (saved + base) cs)
+        go ih None Q = refl
+        go ih (Some new) Q = ih new Q
 
     pub all-good : (cs : List ℕ) (rs : List (List ℕ)) (n : ℕ) → n + length cs ≤ most_calls → All (Place s) cs → Good s n rs → Holds (Good s most_calls) (placed_all (given_of s) (saved + base) cs rs)
     unfolding placed_all
@@ -300,8 +299,8 @@ module _ (s : Sheet) (D : Within s) (T : GivenF) (I : Image s T) where
       where
         go : ((new : List (List ℕ)) → Good s (suc n) new → Holds (Good s most_calls) (placed_all (given_of s) (saved + base) cs new)) → (o : Option (List (List ℕ))) → Holds (Good s (suc n)) o
             → Holds (Good s most_calls) (o >>= placed_all (given_of s) (saved + base) cs)
-        go ih none Q = tt
-        go ih (some new) Q = ih new Q
+        go ih None Q = tt
+        go ih (Some new) Q = ih new Q
 
 -- ---- what is added stays below what is saved
 
@@ -323,8 +322,8 @@ module _ (s : Sheet) (bound : ℕ) where
   stays-below (c ∷ cs) rs h = go (λ new b. stays-below cs new b) (placed (given_of s) bound c rs) (first_below_lem (sort (rising (λ (q : Put). total (given_of s) q.runs)) (candidates (given_of s) c rs)))
     where
       go : ((new : List (List ℕ)) → Below new → Holds Below (placed_all (given_of s) bound cs new)) → (o : Option (List (List ℕ))) → Holds Below o → Holds Below (o >>= placed_all (given_of s) bound cs)
-      go ih none b = tt
-      go ih (some new) b = ih new b
+      go ih None b = tt
+      go ih (Some new) b = ih new b
 
   -- with one customer at least
   pub all-below : (c : ℕ) (cs : List ℕ) (rs : List (List ℕ)) → Holds Below (placed_all (given_of s) bound (c ∷ cs) rs)
@@ -332,5 +331,5 @@ module _ (s : Sheet) (bound : ℕ) where
   all-below c cs rs = go (placed (given_of s) bound c rs) (first_below_lem (sort (rising (λ (q : Put). total (given_of s) q.runs)) (candidates (given_of s) c rs)))
     where
       go : (o : Option (List (List ℕ))) → Holds Below o → Holds Below (o >>= placed_all (given_of s) bound cs)
-      go none b = tt
-      go (some new) b = stays-below cs new b
+      go None b = tt
+      go (Some new) b = stays-below cs new b

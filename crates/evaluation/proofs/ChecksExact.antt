@@ -2,8 +2,7 @@
 use mathlib.Core.Path.{◌≡◌, refl, ap, ap₂}
 use mathlib.Core.Bool.{Bool, true, false, ◌||◌}
 use mathlib.Core.List.{List, [], ◌∷◌, map}
-use mathlib.Core.Option
-use mathlib.Core.Option.{Option, none, some}
+use Rattle.std.specs.Prelude.{Option, None, Some, option_map}
 use Rattle.basics.specs.Options.{present}
 use Rattle.basics.specs.Lists.{any}
 use Rattle.definitions.specs.Sheet.{Customer, Sheet}
@@ -13,9 +12,9 @@ use Rattle.evaluation.specs.Records.{Tables}
 use Rattle.evaluation.specs.Image.{fl_limits, Image}
 use Rattle.evaluation.specs.Checks.{windowed_any, checks_needed_f}
 
-present-map : {A B : Type 0} (f : A → B) (o : Option A) → present (Option.map f o) ≡ present o
-present-map f none = refl
-present-map f (some a) = refl
+present-map : {A B : Type 0} (f : A → B) (o : Option A) → present (option_map f o) ≡ present o
+present-map f None = refl
+present-map f (Some a) = refl
 
 windows-exact : (l : List Customer) → windowed_any (map fl_customer l) ≡ any (λ c. present c.window) l
 windows-exact [] = refl

@@ -6,8 +6,7 @@ use native.Mathlib.Numerals.{add-one}
 use mathlib.Core.Path.{◌≡◌, refl, sym, ap, subst, ◌∙◌}
 use mathlib.Core.Bool.{Bool, true, ◌||◌}
 use mathlib.Core.List.{List, [], ◌∷◌, map}
-use mathlib.Core.Option
-use mathlib.Core.Option.{Option, none, some}
+use Rattle.std.specs.Prelude.{Option, None, Some, option_map}
 use lib.ListN.{length, get_or, take}
 use lib.Seq.{get_or-take}
 use lib.Ieee.{Float}
@@ -69,7 +68,7 @@ module _ (s : Sheet) (S : Sized s) (t : Tables) (I : Image s t) where
       (λ f. let e = eqb-true n no_road (subst (λ (b : Bool). b || is_closed n ≡ true) f h) in omega arith)
 
   -- the leg from a to b
-  pub leg-exact : (a b : ℕ) → Place s a → Place s b → leg_f t a b ≡ Option.map fl_leg (drive s a b)
+  pub leg-exact : (a b : ℕ) → Place s a → Place s b → leg_f t a b ≡ option_map fl_leg (drive s a b)
   leg-exact a b p q =
       let k : ℕ = a * s.head.places + b in
       drive-exact s t.distances t.times t.size a b
@@ -80,45 +79,45 @@ module _ (s : Sheet) (S : Sized s) (t : Tables) (I : Image s t) where
 
   -- ---- a call, along a leg that is open
 
-  module _ (k : ℕ) (few : k < most_calls) (here : Option Break) (H : Holds SmallBreak here) (j a c : ℕ) (g : Leg) (way : drive s a c ≡ some g) where
+  module _ (k : ℕ) (few : k < most_calls) (here : Option Break) (H : Holds SmallBreak here) (j a c : ℕ) (g : Leg) (way : drive s a c ≡ Some g) where
     near : Small g.travel
     near = (leg-small s S a c g way).1
 
     pub carried-early : (o : Option Whole.Label) → Holds (Early k) o → Holds (Early (suc k)) (o >>= serve s here j a c)
-    carried-early none E = tt
-    carried-early (some l) E = go (serve s here j a c l) refl
+    carried-early None E = tt
+    carried-early (Some l) E = go (serve s here j a c l) refl
       where
         go : (o : Option Whole.Label) → serve s here j a c l ≡ o → Holds (Early (suc k)) o
-        go none e = tt
-        go (some m) e = serve-early k few (customer s c) (customer-small s S c) here H j g.travel near l E m (rw way at e)
+        go None e = tt
+        go (Some m) e = serve-early k few (customer s c) (customer-small s S c) here H j g.travel near l E m (rw way at e)
 
     pub carry-exact : Place s c → (o : Option Whole.Label) → Holds (Early k) o
-        → carry_f (record_f t c) (Option.map fl_break here) j (fl g.travel) (Option.map fl_label o) ≡ Option.map fl_label (o >>= serve s here j a c)
-    carry-exact q none E = refl
-    carry-exact q (some l) E = rw (record-exact c q, way) (serve-exact k few (customer s c) (customer-small s S c) here H j g.travel near l E)
+        → carry_f (record_f t c) (option_map fl_break here) j (fl g.travel) (option_map fl_label o) ≡ option_map fl_label (o >>= serve s here j a c)
+    carry-exact q None E = refl
+    carry-exact q (Some l) E = rw (record-exact c q, way) (serve-exact k few (customer s c) (customer-small s S c) here H j g.travel near l E)
 
   -- ---- the clock
 
-  module _ (b : Break) (rest-is : s.head.rest ≡ some b) where
+  module _ (b : Break) (rest-is : s.head.rest ≡ Some b) where
     break-small : SmallBreak b
     break-small = subst (Holds SmallBreak) rest-is S.rest-small
 
     fit : (k : ℕ) → k ≤ most_calls → (o : Option Whole.Label) → Holds (Early k) o → Holds LabelFits o
-    fit k few none E = tt
-    fit k few (some l) E = label-fits k few l E
+    fit k few None E = tt
+    fit k few (Some l) E = label-fits k few l E
 
-    pub tick-exact : (k : ℕ) → k < most_calls → (j a c : ℕ) (g : Leg) → drive s a c ≡ some g → Place s c → (x : Clock) → EarlyClock k x
+    pub tick-exact : (k : ℕ) → k < most_calls → (j a c : ℕ) (g : Leg) → drive s a c ≡ Some g → Place s c → (x : Clock) → EarlyClock k x
         → push_f (fl_clock b a j x) c (record_f t c) (fl g.travel) ≡ fl_clock b c (j + 1) (tick s j a c x)
     unfolding push_f
     tick-exact k few j a c g way q x E =
-        let carried = x.after >>= serve s none j a c in
-        let broken = x.before >>= serve s (some b) j a c in
-        let carried-fits = fit (suc k) few carried (carried-early k few none tt j a c g way x.after E.after-early) in
-        let broken-fits = fit (suc k) few broken (carried-early k few (some b) break-small j a c g way x.before E.before-early) in
+        let carried = x.after >>= serve s None j a c in
+        let broken = x.before >>= serve s (Some b) j a c in
+        let carried-fits = fit (suc k) few carried (carried-early k few None tt j a c g way x.after E.after-early) in
+        let broken-fits = fit (suc k) few broken (carried-early k few (Some b) break-small j a c g way x.before E.before-early) in
         rw (
-          carry-exact k few none tt j a c g way q x.before E.before-early,
-          carry-exact k few none tt j a c g way q x.after E.after-early,
-          carry-exact k few (some b) break-small j a c g way q x.before E.before-early,
+          carry-exact k few None tt j a c g way q x.before E.before-early,
+          carry-exact k few None tt j a c g way q x.after E.after-early,
+          carry-exact k few (Some b) break-small j a c g way q x.before E.before-early,
         )
         (rw (earlier-exact carried broken carried-fits broken-fits, rest-is))
 
@@ -131,11 +130,11 @@ module _ (s : Sheet) (S : Sized s) (t : Tables) (I : Image s t) where
     end_of far j a x calls =
         distance_from s a calls
         >>= λ d. drive s (last_of a calls) 0
-        >>= λ g. counts (some b) g.travel (clock_from s j a x calls)
-        >>= λ l. some (ended (far + d) g.travel l)
+        >>= λ g. counts (Some b) g.travel (clock_from s j a x calls)
+        >>= λ l. Some (ended (far + d) g.travel l)
 
     pub end-exact : (k far j a : ℕ) (x : Clock) (calls : List ℕ) → k + length calls ≤ most_calls → far ≤ k * most_number → Place s a → All (Place s) calls → EarlyClock k x
-        → end_f t (fl_clock b a j x) (fl far) calls ≡ Option.map fl_totals (end_of far j a x calls)
+        → end_f t (fl_clock b a j x) (fl far) calls ≡ option_map fl_totals (end_of far j a x calls)
     unfolding end_f clock_from_f clock_from
     end-exact k far j a x [] h f p i E =
         by-leg s a 0 (λ e. rw (leg-exact a 0 p (depot-inside s S), e))
@@ -149,44 +148,44 @@ module _ (s : Sheet) (S : Sized s) (t : Tables) (I : Image s t) where
         rw (leg-exact a c p i.0, e, fl-add far g.length (omega arith) (omega (arith, m.0)))
         (ap (λ (z : ClockF). end_f t z (fl (far + g.length)) cs) (tick-exact k (omega arith) j a c g e i.0 x E ∙ ap (λ (n : ℕ). fl_clock b c n y) (add-one j))
         ∙ (end-exact (suc k) (far + g.length) (suc j) c y cs (omega arith) (omega (arith, m.0)) i.0 i.1 (tick-early k (omega arith) j a c x E)
-        ∙ ap (Option.map fl_totals) (farther far g (suc j) c y cs))))
+        ∙ ap (option_map fl_totals) (farther far g (suc j) c y cs))))
       where
         -- the leg counts with the way gone, or with the way to go
         farther : (far : ℕ) (g : Leg) (j c : ℕ) (y : Clock) (cs : List ℕ)
             → end_of (far + g.length) j c y cs
-            ≡ ((distance_from s c cs >>= λ d. some (g.length + d))
-            >>= λ d. drive s (last_of c cs) 0 >>= λ h. counts (some b) h.travel (clock_from s j c y cs) >>= λ l. some (ended (far + d) h.travel l))
+            ≡ ((distance_from s c cs >>= λ d. Some (g.length + d))
+            >>= λ d. drive s (last_of c cs) 0 >>= λ h. counts (Some b) h.travel (clock_from s j c y cs) >>= λ l. Some (ended (far + d) h.travel l))
         farther far g j c y cs = go (distance_from s c cs)
           where
             go : (o : Option ℕ)
-                → (o >>= λ d. drive s (last_of c cs) 0 >>= λ h. counts (some b) h.travel (clock_from s j c y cs) >>= λ l. some (ended (far + g.length + d) h.travel l))
-                ≡ ((o >>= λ d. some (g.length + d)) >>= λ d. drive s (last_of c cs) 0 >>= λ h. counts (some b) h.travel (clock_from s j c y cs) >>= λ l. some (ended (far + d) h.travel l))
-            go none = refl
-            go (some d) = ap (λ (n : ℕ). drive s (last_of c cs) 0 >>= λ h. counts (some b) h.travel (clock_from s j c y cs) >>= λ l. some (ended n h.travel l)) (add_assoc far g.length d)
+                → (o >>= λ d. drive s (last_of c cs) 0 >>= λ h. counts (Some b) h.travel (clock_from s j c y cs) >>= λ l. Some (ended (far + g.length + d) h.travel l))
+                ≡ ((o >>= λ d. Some (g.length + d)) >>= λ d. drive s (last_of c cs) 0 >>= λ h. counts (Some b) h.travel (clock_from s j c y cs) >>= λ l. Some (ended (far + d) h.travel l))
+            go None = refl
+            go (Some d) = ap (λ (n : ℕ). drive s (last_of c cs) 0 >>= λ h. counts (Some b) h.travel (clock_from s j c y cs) >>= λ l. Some (ended n h.travel l)) (add_assoc far g.length d)
 
   -- by the clock of the whole run
-  module _ (b : Break) (rest-is : s.head.rest ≡ some b) (calls : List ℕ) where
-    open-clock : (d : ℕ) → distance_from s 0 calls ≡ some d → (w : Leg) → drive s (last_of 0 calls) 0 ≡ some w → end_of b rest-is 0 1 0 begun calls ≡ clock s calls
+  module _ (b : Break) (rest-is : s.head.rest ≡ Some b) (calls : List ℕ) where
+    open-clock : (d : ℕ) → distance_from s 0 calls ≡ Some d → (w : Leg) → drive s (last_of 0 calls) 0 ≡ Some w → end_of b rest-is 0 1 0 begun calls ≡ clock s calls
     unfolding clock
     open-clock d e w f =
-        rw (e, f) (go (counts (some b) w.travel end) ∙ ap (λ (o : Option Break). counts o w.travel end >>= home s calls) (sym rest-is))
+        rw (e, f) (go (counts (Some b) w.travel end) ∙ ap (λ (o : Option Break). counts o w.travel end >>= home s calls) (sym rest-is))
       where
         end : Clock
         end = clock_from s 1 0 begun calls
 
-        go : (o : Option Whole.Label) → (o >>= λ l. some (ended (0 + d) w.travel l)) ≡ (o >>= home s calls)
-        go none = refl
-        go (some l) = ap (λ (n : ℕ). some (ended n w.travel l)) (zero-add d) ∙ sym (home-is s calls d w e f l)
+        go : (o : Option Whole.Label) → (o >>= λ l. Some (ended (0 + d) w.travel l)) ≡ (o >>= home s calls)
+        go None = refl
+        go (Some l) = ap (λ (n : ℕ). Some (ended n w.travel l)) (zero-add d) ∙ sym (home-is s calls d w e f l)
 
     whole : end_of b rest-is 0 1 0 begun calls ≡ clock s calls
     whole = go (distance_from s 0 calls) refl
       where
         go : (o : Option ℕ) → distance_from s 0 calls ≡ o → end_of b rest-is 0 1 0 begun calls ≡ clock s calls
-        go none e = rw e (sym (clock-closed s calls e))
-        go (some d) e = let w = distance-home s 0 calls d e in open-clock d e w.0 w.1
+        go None e = rw e (sym (clock-closed s calls e))
+        go (Some d) e = let w = distance-home s 0 calls d e in open-clock d e w.0 w.1
 
     -- the totals of a run of these calls
-    pub schedule-exact : length calls ≤ most_calls → All (Place s) calls → schedule_f t (fl_break b) calls ≡ Option.map fl_totals (clock s calls)
+    pub schedule-exact : length calls ≤ most_calls → All (Place s) calls → schedule_f t (fl_break b) calls ≡ option_map fl_totals (clock s calls)
     schedule-exact few i =
         end-exact b rest-is 0 0 1 0 begun calls (omega arith) (omega arith) (depot-inside s S) i (record { before-early = start-early; after-early = tt })
-        ∙ ap (Option.map fl_totals) whole
+        ∙ ap (option_map fl_totals) whole

@@ -4,7 +4,7 @@ use native.Mathlib.Omega.{arith}
 use native.Mathlib.Numerals.{add-one}
 use mathlib.Core.Path.{◌≡◌, refl, sym, ap, ◌∙◌}
 use mathlib.Core.List.{List, [], ◌∷◌}
-use mathlib.Core.Option.{Option, none, some}
+use Rattle.std.specs.Prelude.{Option, None, Some}
 use lib.ListN.{length, get_or, take, drop, drop_of_length-le}
 use lib.Seq.{drop-cons, take_all}
 use lib.Dec.{leb}
@@ -25,22 +25,22 @@ use Rattle.evaluation.specs.Route.{break_start_at_f, start_f}
 module _ (leg : ℕ → ℕ → Option Leg) (customer : ℕ → CustomerOf Float) (calls : List ℕ) (w : Way) (i : ℕ) where
   module _ (g : Option Leg) (h : i < length calls) (eg : g ≡ leg w.prev (get_or calls i 0)) where
     -- the leg to the call is closed
-    pub through-closed : g ≡ none → through_f leg customer w (drop i calls) ≡ none
+    pub through-closed : g ≡ None → through_f leg customer w (drop i calls) ≡ None
     unfolding through_f
     through-closed e = rw (drop-cons calls i 0 h, ← eg, e)
 
-    module _ (l : Leg) (el : g ≡ some l) (c : CustomerOf Float) (o : Option Way) (ec : c ≡ customer (get_or calls i 0)) (eo : o ≡ way_on_f c l.distance l.time w (get_or calls i 0)) where
+    module _ (l : Leg) (el : g ≡ Some l) (c : CustomerOf Float) (o : Option Way) (ec : c ≡ customer (get_or calls i 0)) (eo : o ≡ way_on_f c l.distance l.time w (get_or calls i 0)) where
       turns : through_f leg customer w (drop i calls) ≡ (o >>= λ v. through_f leg customer v (drop (i + 1) calls))
       unfolding through_f
       turns = rw (drop-cons calls i 0 h, ← eg, el, eo, ec, add-one)
 
-      pub through-turn : (v : Way) → o ≡ some v → through_f leg customer w (drop i calls) ≡ through_f leg customer v (drop (i + 1) calls)
+      pub through-turn : (v : Way) → o ≡ Some v → through_f leg customer w (drop i calls) ≡ through_f leg customer v (drop (i + 1) calls)
       through-turn v e = turns ∙ ap (λ (x : Option Way). x >>= λ y. through_f leg customer y (drop (i + 1) calls)) e
 
-      pub through-fails : o ≡ none → through_f leg customer w (drop i calls) ≡ none
+      pub through-fails : o ≡ None → through_f leg customer w (drop i calls) ≡ None
       through-fails e = turns ∙ ap (λ (x : Option Way). x >>= λ y. through_f leg customer y (drop (i + 1) calls)) e
 
-  pub through-end : length calls ≤ i → through_f leg customer w (drop i calls) ≡ some w
+  pub through-end : length calls ≤ i → through_f leg customer w (drop i calls) ≡ Some w
   unfolding through_f
   through-end h = rw (drop_of_length-le calls h)
 
@@ -48,56 +48,56 @@ module _ (leg : ℕ → ℕ → Option Leg) (customer : ℕ → CustomerOf Float
 
 module _ (leg : ℕ → ℕ → Option Leg) (calls : List ℕ) (a i : ℕ) where
   module _ (g : Option Leg) (h : i < length calls) (eg : g ≡ leg a (get_or calls i 0)) where
-    pub closed-here : g ≡ none → closed_f leg (i + 1) a (drop i calls) ≡ some (i + 1)
+    pub closed-here : g ≡ None → closed_f leg (i + 1) a (drop i calls) ≡ Some (i + 1)
     unfolding closed_f
     closed-here e = rw (drop-cons calls i 0 h, ← eg, e)
 
-    pub open-here : (l : Leg) → g ≡ some l → closed_f leg (i + 1) a (drop i calls) ≡ closed_f leg (i + 1 + 1) (get_or calls i 0) (drop (i + 1) calls)
+    pub open-here : (l : Leg) → g ≡ Some l → closed_f leg (i + 1) a (drop i calls) ≡ closed_f leg (i + 1 + 1) (get_or calls i 0) (drop (i + 1) calls)
     unfolding closed_f
     open-here l e = rw (drop-cons calls i 0 h, ← eg, e) (λ j. closed_f leg (sym (add-one (i + 1)) j) (get_or calls i 0) (drop (sym (add-one i) j) calls))
 
   module _ (g : Option Leg) (h : length calls ≤ i) (eg : g ≡ leg a 0) where
-    pub closed-home : g ≡ none → closed_f leg (i + 1) a (drop i calls) ≡ some (i + 1)
+    pub closed-home : g ≡ None → closed_f leg (i + 1) a (drop i calls) ≡ Some (i + 1)
     unfolding closed_f
     closed-home e = rw (drop_of_length-le calls h, ← eg, e)
 
-    pub open-home : (l : Leg) → g ≡ some l → closed_f leg (i + 1) a (drop i calls) ≡ none
+    pub open-home : (l : Leg) → g ≡ Some l → closed_f leg (i + 1) a (drop i calls) ≡ None
     unfolding closed_f
     open-home l e = rw (drop_of_length-le calls h, ← eg, e)
 
 -- ---- the number that this loop gives: 0 where no leg is closed
 
 module _ (leg : ℕ → ℕ → Option Leg) where
-  closed-from : (k a : ℕ) (calls : List ℕ) (n : ℕ) → closed_f leg k a calls ≡ some n → k ≤ n
+  closed-from : (k a : ℕ) (calls : List ℕ) (n : ℕ) → closed_f leg k a calls ≡ Some n → k ≤ n
   unfolding closed_f
   closed-from k a [] n q = by-test (present (leg a 0)) (λ t. clash (rw t at q)) (λ f. let e = same (rw f at q) in omega arith)
   closed-from k a (c ∷ cs) n q =
       by-test (present (leg a c)) (λ t. let h = closed-from (suc k) c cs n (rw t at q) in omega arith) (λ f. let e = same (rw f at q) in omega arith)
 
   module _ (calls : List ℕ) (n : ℕ) (e : n ≡ value_or 0 (closed_f leg 1 0 calls)) where
-    pub found-closed : 0 < n → closed_f leg 1 0 calls ≡ some n
+    pub found-closed : 0 < n → closed_f leg 1 0 calls ≡ Some n
     found-closed h = go (closed_f leg 1 0 calls) e
       where
-        go : (o : Option ℕ) → n ≡ value_or 0 o → o ≡ some n
-        go none q = absurd (off q)
+        go : (o : Option ℕ) → n ≡ value_or 0 o → o ≡ Some n
+        go None q = absurd (off q)
           where
             off : n ≡ 0 → ⊥
             off q = omega arith
-        go (some m) q = ap some (sym q)
+        go (Some m) q = ap Some (sym q)
 
-    pub found-open : n ≤ 0 → closed_f leg 1 0 calls ≡ none
+    pub found-open : n ≤ 0 → closed_f leg 1 0 calls ≡ None
     found-open h = go (closed_f leg 1 0 calls) refl
       where
-        go : (o : Option ℕ) → closed_f leg 1 0 calls ≡ o → o ≡ none
-        go none q = refl
-        go (some m) q = let k = closed-from 1 0 calls m q in absurd (off m k (e ∙ ap (λ (o : Option ℕ). value_or 0 o) q))
+        go : (o : Option ℕ) → closed_f leg 1 0 calls ≡ o → o ≡ None
+        go None q = refl
+        go (Some m) q = let k = closed-from 1 0 calls m q in absurd (off m k (e ∙ ap (λ (o : Option ℕ). value_or 0 o) q))
           where
             off : (m : ℕ) → 1 ≤ m → n ≡ m → ⊥
             off m k q = omega arith
 
 -- ---- the break of a place
 
-pub start-before : (t : Tables) (b : BreakOf Float) (place : ℕ) (route : List ℕ) → (place ≡ 0 → ⊥) → break_start_at_f t b (place - 1) route ≡ start_f t (some b) place route
+pub start-before : (t : Tables) (b : BreakOf Float) (place : ℕ) (route : List ℕ) → (place ≡ 0 → ⊥) → break_start_at_f t b (place - 1) route ≡ start_f t (Some b) place route
 unfolding start_f
 start-before t b zero route h = absurd (h refl)
 start-before t b (suc k) route h = let z : suc k - 1 ≡ k = omega arith in rw z

@@ -4,7 +4,7 @@ use native.Mathlib.Numerals.{add-one}
 use mathlib.Core.Path.{◌≡◌, refl, ap, ◌∙◌}
 use mathlib.Core.Bool.{false}
 use mathlib.Core.List.{List, [], ◌∷◌, ◌++◌}
-use mathlib.Core.Option.{Option, none, some}
+use Rattle.std.specs.Prelude.{Option, None, Some}
 use lib.ListN.{length, get_or, drop, drop_of_length-le}
 use lib.Seq.{drop-cons}
 use lib.Ieee as Ieee
@@ -24,10 +24,10 @@ use Rattle.evaluation.specs.Schedule.{TimedF, timed, tick_f, clock_from_f, clock
 -- ---- labels that are gone
 
 -- a run whose labels are gone, or that a closed leg has ended, comes to nothing
-home-gone : (t : Tables) (x : TimedF) → Gone x.clock → clock_home_f t x ≡ none
+home-gone : (t : Tables) (x : TimedF) → Gone x.clock → clock_home_f t x ≡ None
 home-gone t x g = unbound (leg_f t x.clock.prev 0) _ (λ l. finish-gone _ _ x.clock g)
 
-gone-on : (t : Tables) (x : TimedF) (calls : List ℕ) → Gone x.clock → (clock_from_f t x calls >>= clock_home_f t) ≡ none
+gone-on : (t : Tables) (x : TimedF) (calls : List ℕ) → Gone x.clock → (clock_from_f t x calls >>= clock_home_f t) ≡ None
 unfolding clock_from_f
 gone-on t x [] g = home-gone t x g
 gone-on t x (c ∷ cs) g = go (leg_f t x.clock.prev c) (λ l. gone-on t (after l) cs (push-gone x.clock c (record_f t c) l.time g))
@@ -35,13 +35,13 @@ gone-on t x (c ∷ cs) g = go (leg_f t x.clock.prev c) (λ l. gone-on t (after l
     after : Leg → TimedF
     after l = timed (push_f x.clock c (record_f t c) l.time) (Ieee.add binary64 x.distance l.distance)
 
-    go : (o : Option Leg) → ((l : Leg) → (clock_from_f t (after l) cs >>= clock_home_f t) ≡ none)
-        → (((o >>= λ l. some (after l)) >>= λ y. clock_from_f t y cs) >>= clock_home_f t) ≡ none
-    go none ih = refl
-    go (some l) ih = ih l
+    go : (o : Option Leg) → ((l : Leg) → (clock_from_f t (after l) cs >>= clock_home_f t) ≡ None)
+        → (((o >>= λ l. Some (after l)) >>= λ y. clock_from_f t y cs) >>= clock_home_f t) ≡ None
+    go None ih = refl
+    go (Some l) ih = ih l
 
 -- no run that goes on from here has a way to place the break either
-pub end-gone : (t : Tables) (x : ClockF) (far : Float) (calls : List ℕ) → alive_f x ≡ false → end_f t x far calls ≡ none
+pub end-gone : (t : Tables) (x : ClockF) (far : Float) (calls : List ℕ) → alive_f x ≡ false → end_f t x far calls ≡ None
 unfolding end_f
 end-gone t x far calls e = gone-on t (timed x far) calls (not-alive x e)
 
@@ -54,17 +54,17 @@ clock-append t x (c ∷ l) m = go (tick_f t x c) (λ y. clock-append t y l m)
   where
     go : (o : Option TimedF) → ((y : TimedF) → clock_from_f t y (l ++ m) ≡ (clock_from_f t y l >>= λ z. clock_from_f t z m))
         → (o >>= λ y. clock_from_f t y (l ++ m)) ≡ ((o >>= λ y. clock_from_f t y l) >>= λ y. clock_from_f t y m)
-    go none ih = refl
-    go (some y) ih = ih y
+    go None ih = refl
+    go (Some y) ih = ih y
 
 -- grown by one call
 pub clock-grown : (t : Tables) (x : TimedF) (l : List ℕ) (c : ℕ) → clock_from_f t x (l ++ (c ∷ [])) ≡ (clock_from_f t x l >>= λ y. tick_f t y c)
 unfolding clock_from_f
 clock-grown t x l c = clock-append t x l (c ∷ []) ∙ ap (λ (f : TimedF → Option TimedF). clock_from_f t x l >>= f) (λ i y. once (tick_f t y c) i)
   where
-    once : (o : Option TimedF) → (o >>= λ y. some y) ≡ o
-    once none = refl
-    once (some y) = refl
+    once : (o : Option TimedF) → (o >>= λ y. Some y) ≡ o
+    once None = refl
+    once (Some y) = refl
 
 pub last-append : (a : ℕ) (l m : List ℕ) → last_of a (l ++ m) ≡ last_of (last_of a l) m
 last-append a [] m = refl
@@ -75,11 +75,11 @@ last-append a (c ∷ l) m = last-append c l m
 module _ (t : Tables) (route : List ℕ) (x : ClockF) (far : Float) (i : ℕ) where
   module _ (g : Option Leg) (h : i < length route) (eg : g ≡ leg_f t x.prev (get_or route i 0)) where
     -- the leg to the call is closed
-    pub end-closed : g ≡ none → end_f t x far (drop i route) ≡ none
+    pub end-closed : g ≡ None → end_f t x far (drop i route) ≡ None
     unfolding end_f clock_from_f
     end-closed e = rw (drop-cons route i 0 h, ← eg, e)
 
-    pub end-turn : (l : Leg) → g ≡ some l → (y : ClockF) (c : CustomerOf Float) → c ≡ record_f t (get_or route i 0) → y ≡ push_f x (get_or route i 0) c l.time
+    pub end-turn : (l : Leg) → g ≡ Some l → (y : ClockF) (c : CustomerOf Float) → c ≡ record_f t (get_or route i 0) → y ≡ push_f x (get_or route i 0) c l.time
         → end_f t x far (drop i route) ≡ end_f t y (Ieee.add binary64 far l.distance) (drop (i + 1) route)
     unfolding end_f clock_from_f
     end-turn l el y c ec ey = rw (drop-cons route i 0 h, ← eg, el, ey, ec, add-one)

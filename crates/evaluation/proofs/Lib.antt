@@ -6,7 +6,6 @@ pub mod Loading
 pub mod Growing
 pub mod Driving
 -- The windows among the first customers.
-pub mod Asking
 -- On whole numbers within the limits all that is that of the definitions.
 pub mod ClockExact
 pub mod RouteExact

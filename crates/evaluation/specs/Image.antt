@@ -1,7 +1,5 @@
 -- A whole-number sheet and what its runs come to, each number held in a float. Definitions only.
-use Rattle.std.specs.Prelude.{ℕ, ◌≡◌, false, map, take, Float}
-use Rattle.std.proofs.Math.Option
-use Rattle.std.proofs.Math.Option.{Option, none, some}
+use Rattle.std.specs.Prelude.{ℕ, ◌≡◌, false, map, take, Float, Option, None, Some, option_map}
 use Rattle.std.specs.Float.{inf}
 use Rattle.definitions.specs.Sheet.{Sheet}
 use Rattle.definitions.specs.Evaluation.{Evaluation}
@@ -11,19 +9,19 @@ use Rattle.clock.specs.Image.{fl_totals}
 use Rattle.evaluation.specs.Records.{Tables, LimitsF, EvaluationF}
 
 abbrev pub fl_evaluation : Evaluation → EvaluationF
-fl_evaluation e = record { totals = fl_totals e.totals; start = Option.map fl e.start }
+fl_evaluation e = record { totals = fl_totals e.totals; start = option_map fl e.start }
 
 -- a cost that may be none is infinite there
 abbrev pub fl_cost : Option ℕ → Float
-fl_cost none = inf false
-fl_cost (some n) = fl n
+fl_cost None = inf false
+fl_cost (Some n) = fl n
 
 abbrev pub fl_limits : Sheet → LimitsF
 fl_limits s =
     record {
-      max_distance = Option.map fl s.head.max_distance;
-      max_duration = Option.map fl s.head.max_duration;
-      rest = Option.map fl_break s.head.rest;
+      max_distance = option_map fl s.head.max_distance;
+      max_duration = option_map fl s.head.max_duration;
+      rest = option_map fl_break s.head.rest;
     }
 
 abbrev pub fl_tables : Sheet → Tables

@@ -1,20 +1,13 @@
 -- What the code's structs and enums hold. Definitions only.
-use Rattle.std.specs.Prelude.{ℕ, List, map, Float}
-use Rattle.std.proofs.Math.Option.{Option, none, some}
+use Rattle.std.specs.Prelude.{ℕ, List, map, Float, Option, None, Some}
 use Rattle.definitions.specs.Sheet.{BreakOf, CustomerOf}
 use Rattle.models.specs.declared.customer.Customer.{Customer}
 use Rattle.models.specs.declared.limits.RouteLimits.{RouteLimits}
-use Rattle.models.specs.Records.{customer_of, rest_of, limit_of}
+use Rattle.models.specs.Records.{customer_of, rest_of}
 use Rattle.clock.specs.declared.schedule.Scheduled.{Scheduled}
 use Rattle.evaluation.specs.declared.way.Way.{Way}
-use Rattle.evaluation.specs.declared.way.Driven.{Driven}
-use Rattle.evaluation.specs.declared.way.Driven.TheVariants.{Failed, To}
-use Rattle.evaluation.specs.declared.route.Start.{Start}
-use Rattle.evaluation.specs.declared.route.Start.TheVariants as Starts
 use Rattle.evaluation.specs.declared.route.Taken.{Taken}
 use Rattle.evaluation.specs.declared.route.RouteEval.{RouteEval}
-use Rattle.evaluation.specs.declared.route.Evaluated.{Evaluated}
-use Rattle.evaluation.specs.declared.route.Evaluated.TheVariants.{NotAllowed, Allowed}
 
 -- ---- what is lent
 
@@ -30,21 +23,13 @@ lent customers distances times size = record { customers = map customer_of custo
 
 -- ---- the evaluations
 
-abbrev pub driven_of : Driven → Option Way
-driven_of Failed = none
-driven_of (To d) = some d
-
-abbrev pub start_of : Start → Option Float
-start_of Starts.Unbroken = none
-start_of (Starts.At t) = some t
-
 -- the place of a run's break, from 1, or 0, and when it starts
 pub record TakenF : Type 0 where
   pub place : ℕ
   pub start : Option Float
 
 abbrev pub taken_of : Taken → TakenF
-taken_of b = record { place = b.place; start = start_of b.start }
+taken_of b = record { place = b.place; start = b.start }
 
 -- a run's totals, and when its break starts
 pub record EvaluationF : Type 0 where
@@ -62,12 +47,12 @@ evaluation_of e =
             cost = e.lateness_cost;
             place = e.place;
           };
-      start = start_of e.start;
+      start = e.start;
     }
 
-abbrev pub evaluated_of : Evaluated → Option EvaluationF
-evaluated_of NotAllowed = none
-evaluated_of (Allowed e) = some (evaluation_of e)
+abbrev pub evaluated_of : Option RouteEval → Option EvaluationF
+evaluated_of None = None
+evaluated_of (Some e) = Some (evaluation_of e)
 
 -- what a run may not exceed, and its break
 pub record LimitsF : Type 0 where
@@ -76,4 +61,4 @@ pub record LimitsF : Type 0 where
   pub rest : Option (BreakOf Float)
 
 abbrev pub limits_of : RouteLimits → LimitsF
-limits_of l = record { max_distance = limit_of l.max_distance; max_duration = limit_of l.max_duration; rest = rest_of l.rest }
+limits_of l = record { max_distance = l.max_distance; max_duration = l.max_duration; rest = rest_of l.rest }

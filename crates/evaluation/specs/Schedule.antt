@@ -1,6 +1,5 @@
 -- The clock over the calls of a run, on floats. Definitions only.
-use Rattle.std.specs.Prelude.{ℕ, List, [], ◌∷◌, Float}
-use Rattle.std.proofs.Math.Option.{Option, some}
+use Rattle.std.specs.Prelude.{ℕ, List, [], ◌∷◌, Float, Option, Some}
 use Rattle.std.specs.Float.Ieee as Ieee
 use Rattle.std.specs.Float.{binary64}
 use Rattle.basics.specs.Options.{◌>>=◌}
@@ -24,10 +23,10 @@ timed x far = record { clock = x; distance = far }
 abbrev pub tick_f : Tables → TimedF → ℕ → Option TimedF
 tick_f t x c =
     leg_f t x.clock.prev c
-    >>= λ g. some (timed (push_f x.clock c (record_f t c) g.time) (Ieee.add binary64 x.distance g.distance))
+    >>= λ g. Some (timed (push_f x.clock c (record_f t c) g.time) (Ieee.add binary64 x.distance g.distance))
 
 unfoldable pub clock_from_f : Tables → TimedF → List ℕ → Option TimedF
-clock_from_f t x [] = some x
+clock_from_f t x [] = Some x
 clock_from_f t x (c ∷ cs) = tick_f t x c >>= λ y. clock_from_f t y cs
 
 -- and home

@@ -1,6 +1,5 @@
 -- What is looked up for a call: its record, what it asks for, and the leg to it. Definitions only.
-use Rattle.std.specs.Prelude.{ℕ, zero, suc, ◌+◌, cond, ◌≡◌, List, ltb, Float, get_or}
-use Rattle.std.proofs.Math.Option.{Option, none}
+use Rattle.std.specs.Prelude.{ℕ, zero, suc, ◌+◌, cond, ◌≡◌, List, ltb, Float, get_or, Option, None}
 use Rattle.definitions.specs.Load.{Load, no_load, load_by}
 use Rattle.definitions.specs.Sheet.{CustomerOf}
 use Rattle.whole.specs.Whole.{fl}
@@ -14,7 +13,7 @@ record_index c = cond (ltb c 64) c 0
 
 -- what stands where there is no record
 abbrev pub blank : CustomerOf Float
-blank = record { demand = no_load; service = fl 0; window = none; penalty = none }
+blank = record { demand = no_load; service = fl 0; window = None; penalty = None }
 
 unfoldable pub record_f : Tables → ℕ → CustomerOf Float
 record_f t c = get_or t.customers (record_index c) blank

@@ -1,13 +1,13 @@
 // Whether `route_feasible` has to be asked at all (route_checks_needed of evaluation/mod.rs).
 ghost use Rattle.std.specs.Prelude.{◌≡◌, map, take};
 ghost use Rattle.basics.specs.Options.{present};
-ghost use Rattle.models.specs.Records.{customer_of, limit_of};
+ghost use Rattle.models.specs.Records.{customer_of};
 ghost use Rattle.evaluation.specs.Records.{limits_of};
 ghost use Rattle.evaluation.specs.Checks.{windowed_any, limited_f, checks_needed_f};
 
 use models::count::fewer;
 use models::customer::{Customer, has_window};
-use models::limits::{Limit, RouteLimits};
+use models::limits::RouteLimits;
 use models::vehicle::has_rest;
 
 // Whether one of the first n customers has a window.
@@ -15,25 +15,16 @@ pub fn has_time_windows(customers: [Customer; 64], n: usize) -> bool
     ensures { result ≡ windowed_any (take n (map customer_of customers)) }
 {
     let end = fewer(n, 64);
-    let mut k = 0;
-    while k < end {
-        let customer = customers[k];
-        if has_window(customer) {
-            return true;
-        }
-        k += 1;
-    }
-    false
+    customers[..end]
+        .iter()
+        .any(|customer| has_window(*customer))
 }
 
 // Whether the limit is set.
-pub fn has_limit(limit: Limit) -> bool
-    ensures { result ≡ present (limit_of limit) }
+pub fn has_limit(limit: Option<f64>) -> bool
+    ensures { result ≡ present limit }
 {
-    match limit {
-        Limit::Unlimited => false,
-        Limit::At(_) => true,
-    }
+    limit.is_some()
 }
 
 // Whether a limit or a break is set.

@@ -16,12 +16,9 @@ pub fn demands_of(customers: [Customer; 64]) -> Demands
     ensures { (length result ≡ 128) × Asks (map customer_of customers) result }
 {
     let mut demands = [0u32; 128];
-    let mut i = 0;
-    while i < 64 {
-        let customer = customers[i];
+    for (i, customer) in customers.iter().enumerate() {
         demands[i] = customer.demand.seats;
         demands[64 + i] = customer.demand.wheelchairs;
-        i += 1;
     }
     demands
 }
@@ -42,11 +39,8 @@ pub fn load_of(calls: &[usize], demands: &Demands) -> Load
     ensures { (load_of result ≡ load_f demands.now calls.now) × UpTo 128 (load_of result) }
 {
     let mut load = Load::none();
-    let mut i = 0;
-    while i < calls.len() {
-        let cid = calls[i];
+    for &cid in calls {
         load = load.plus(demand_at(demands, cid));
-        i += 1;
     }
     load
 }

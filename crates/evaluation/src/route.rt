@@ -2,33 +2,25 @@
 // calls. None of them looks at load.
 ghost use Rattle.std.specs.Prelude.{◌≡◌, get_or};
 ghost use Rattle.models.specs.Records.{break_of, rest_of};
-ghost use Rattle.clock.specs.Records.{finished_of};
-ghost use Rattle.evaluation.specs.Records.{start_of, taken_of, evaluated_of, limits_of, lent};
+ghost use Rattle.evaluation.specs.Records.{taken_of, evaluated_of, limits_of, lent};
 ghost use Rattle.evaluation.specs.Tables.{place_before};
 ghost use Rattle.evaluation.specs.Route.{totals_f, allowed_f, break_start_at_f, start_f, break_f, eval_f, feasible_f, cost_f};
 
 use crate::schedule::schedule;
-use crate::way::{Driven, Way, plain_from, way_through};
-use clock::schedule::{Finished, break_start_at};
-use distance::leg::{Drive, leg_between};
+use crate::way::{Way, plain_from, way_through};
+use clock::schedule::{Scheduled, break_start_at};
+use distance::leg::leg_between;
 use models::count::fewer;
 use models::customer::Customer;
 use models::limits::RouteLimits;
-use models::vehicle::{Rest, VehicleBreak};
+use models::vehicle::VehicleBreak;
 use whole::infinity;
-
-// No break, or when it starts.
-#[derive(Clone, Copy)]
-pub enum Start {
-    Unbroken,
-    At(f64),
-}
 
 // The number of the call, from 1, at which a run takes its break, or 0, and when that starts.
 #[derive(Clone, Copy)]
 pub struct Taken {
     pub place: usize,
-    pub start: Start,
+    pub start: Option<f64>,
 }
 
 // What `route_eval` reports of a run that is allowed. The place is that of the break, from 1, or 0.
@@ -39,31 +31,24 @@ pub struct RouteEval {
     pub lateness: f64,
     pub lateness_cost: f64,
     pub place: usize,
-    pub start: Start,
+    pub start: Option<f64>,
 }
 
-// A run that isn't allowed, or what it comes to.
-#[derive(Clone, Copy)]
-pub enum Evaluated {
-    NotAllowed,
-    Allowed(RouteEval),
-}
-
-// The totals of a run, whatever the limits.
+// The totals of a run, whatever the limits, if it can be had.
 pub fn totals(
     route: &[usize],
     customers: [Customer; 64],
     distances: &[f64],
     times: &[f64],
     size: usize,
-    rest: Rest,
-) -> Finished
+    rest: Option<VehicleBreak>,
+) -> Option<Scheduled>
     ensures { let tables = lent customers distances.now times.now size in
-        finished_of result ≡ totals_f tables (rest_of rest) route.now }
+        result ≡ totals_f tables (rest_of rest) route.now }
 {
     match rest {
-        Rest::Unbroken => plain_from(Way::start(), route, customers, distances, times, size),
-        Rest::Break(b) => schedule(route, customers, distances, times, size, b),
+        None => plain_from(Way::start(), route, customers, distances, times, size),
+        Some(b) => schedule(route, customers, distances, times, size, b),
     }
 }
 
@@ -75,18 +60,16 @@ pub fn allowed(
     times: &[f64],
     size: usize,
     limits: RouteLimits,
-) -> Finished
+) -> Option<Scheduled>
     ensures { let tables = lent customers distances.now times.now size in
-        finished_of result ≡ allowed_f tables (limits_of limits) route.now }
+        result ≡ allowed_f tables (limits_of limits) route.now }
 {
     let rest = limits.rest;
-    let Finished::Home(s) = totals(route, customers, distances, times, size, rest) else {
-        return Finished::Impossible;
-    };
+    let s = totals(route, customers, distances, times, size, rest)?;
     if limits.allow(s.distance, s.duration) {
-        Finished::Home(s)
+        Some(s)
     } else {
-        Finished::Impossible
+        None
     }
 }
 
@@ -102,10 +85,7 @@ pub fn route_feasible(
     ensures { let tables = lent customers distances.now times.now size in
         result ≡ feasible_f tables (limits_of limits) route.now }
 {
-    match allowed(route, customers, distances, times, size, limits) {
-        Finished::Impossible => false,
-        Finished::Home(_) => true,
-    }
+    allowed(route, customers, distances, times, size, limits).is_some()
 }
 
 // What the searches minimise: the distance and the lateness cost, infinite where the run is not allowed.
@@ -121,8 +101,8 @@ pub fn effective_cost(
         result ≡ cost_f tables (limits_of limits) route.now }
 {
     match allowed(route, customers, distances, times, size, limits) {
-        Finished::Impossible => infinity(),
-        Finished::Home(s) => s.distance + s.cost,
+        None => infinity(),
+        Some(s) => s.distance + s.cost,
     }
 }
 
@@ -140,7 +120,8 @@ pub fn place_before(route: &[usize], k: usize) -> usize
     if k == 0 { 0 } else { call_at(route, k - 1) }
 }
 
-// When the break starts that is taken at call number k, from 0: the calls before it are served without it.
+// When the break starts that is taken at call number k, from 0: the calls before it are served without it. None where
+// they fail, or the leg to the call is closed.
 pub fn break_start(
     route: &[usize],
     customers: [Customer; 64],
@@ -149,42 +130,36 @@ pub fn break_start(
     size: usize,
     rest: VehicleBreak,
     k: usize,
-) -> Start
+) -> Option<f64>
     ensures { let tables = lent customers distances.now times.now size in
-        start_of result ≡ break_start_at_f tables (break_of rest) k route.now }
+        result ≡ break_start_at_f tables (break_of rest) k route.now }
 {
     let n = fewer(k, route.len());
     let begun = &route[..n];
-    let Driven::To(d) = way_through(Way::start(), begun, customers, distances, times, size) else {
-        return Start::Unbroken;
-    };
+    let d = way_through(Way::start(), begun, customers, distances, times, size)?;
     let label = d.label;
     let prev = d.prev;
     let cid = call_at(route, k);
-    let Drive::Open(leg) = leg_between(distances, times, size, prev, cid) else {
-        return Start::Unbroken;
-    };
-    Start::At(break_start_at(rest, label.time + leg.time))
+    let leg = leg_between(distances, times, size, prev, cid)?;
+    Some(break_start_at(rest, label.time + leg.time))
 }
 
-// When the break of that place starts; a place of 0 is none.
+// When the break of that place starts; without a break, or with a place of 0, not at all.
 pub fn start_of(
     route: &[usize],
     customers: [Customer; 64],
     distances: &[f64],
     times: &[f64],
     size: usize,
-    rest: Rest,
+    rest: Option<VehicleBreak>,
     place: usize,
-) -> Start
+) -> Option<f64>
     ensures { let tables = lent customers distances.now times.now size in
-        start_of result ≡ start_f tables (rest_of rest) place route.now }
+        result ≡ start_f tables (rest_of rest) place route.now }
 {
-    let Rest::Break(b) = rest else {
-        return Start::Unbroken;
-    };
+    let b = rest?;
     if place == 0 {
-        return Start::Unbroken;
+        return None;
     }
     break_start(route, customers, distances, times, size, b, place - 1)
 }
@@ -196,15 +171,15 @@ pub fn break_of(
     distances: &[f64],
     times: &[f64],
     size: usize,
-    rest: Rest,
+    rest: Option<VehicleBreak>,
 ) -> Taken
     ensures { let tables = lent customers distances.now times.now size in
         taken_of result ≡ break_f tables (rest_of rest) run.now }
 {
-    let Finished::Home(home) = totals(run, customers, distances, times, size, rest) else {
+    let Some(home) = totals(run, customers, distances, times, size, rest) else {
         return Taken {
             place: 0,
-            start: Start::Unbroken,
+            start: None,
         };
     };
     let place = home.place;
@@ -220,16 +195,14 @@ pub fn route_eval(
     times: &[f64],
     size: usize,
     limits: RouteLimits,
-) -> Evaluated
+) -> Option<RouteEval>
     ensures { let tables = lent customers distances.now times.now size in
         evaluated_of result ≡ eval_f tables (limits_of limits) route.now }
 {
-    let Finished::Home(s) = allowed(route, customers, distances, times, size, limits) else {
-        return Evaluated::NotAllowed;
-    };
+    let s = allowed(route, customers, distances, times, size, limits)?;
     let rest = limits.rest;
     let start = start_of(route, customers, distances, times, size, rest, s.place);
-    Evaluated::Allowed(RouteEval {
+    Some(RouteEval {
         distance: s.distance,
         duration: s.duration,
         lateness: s.lateness,

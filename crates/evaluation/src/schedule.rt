@@ -2,14 +2,14 @@
 ghost use Rattle.std.specs.Prelude.{◌≡◌, ◌+◌, ◌<◌, length};
 ghost use Rattle.whole.specs.Whole.{fl};
 ghost use Rattle.models.specs.Records.{break_of};
-ghost use Rattle.clock.specs.Records.{clock_of, finished_of};
+ghost use Rattle.clock.specs.Records.{clock_of};
 ghost use Rattle.clock.specs.Clock.{begun_f};
 ghost use Rattle.evaluation.specs.Records.{lent};
 ghost use Rattle.evaluation.specs.Tables.{record_index};
 ghost use Rattle.evaluation.specs.Schedule.{end_f, schedule_f};
 
-use clock::schedule::{BreakClock, Finished};
-use distance::leg::{Drive, leg_between};
+use clock::schedule::{BreakClock, Scheduled};
+use distance::leg::leg_between;
 use models::customer::Customer;
 use models::vehicle::VehicleBreak;
 
@@ -39,7 +39,7 @@ pub fn record_index(cid: usize) -> usize
     if cid < 64 { cid } else { 0 }
 }
 
-// The totals of a run that these calls end.
+// The totals of a run that these calls end, if it can be had.
 pub fn clock_from(
     from: Timed,
     calls: &[usize],
@@ -47,32 +47,25 @@ pub fn clock_from(
     distances: &[f64],
     times: &[f64],
     size: usize,
-) -> Finished
+) -> Option<Scheduled>
     requires { from.clock.index + length calls.now < 0xFFFF_FFFF_FFFF_FFFF }
     ensures { let tables = lent customers distances.now times.now size in
-        finished_of result ≡ end_f tables (clock_of from.clock) from.distance calls.now }
+        result ≡ end_f tables (clock_of from.clock) from.distance calls.now }
 {
     let mut clock = from.clock;
     let mut distance = from.distance;
-    let mut i = 0;
-    while i < calls.len() {
-        let cid = calls[i];
+    for &cid in calls {
         let prev = clock.prev;
-        let Drive::Open(leg) = leg_between(distances, times, size, prev, cid) else {
-            return Finished::Impossible;
-        };
+        let leg = leg_between(distances, times, size, prev, cid)?;
         distance = distance + leg.distance;
         let index = record_index(cid);
         clock = clock.push(cid, customers[index], leg.time);
         if !clock.alive() {
-            return Finished::Impossible;
+            return None;
         }
-        i += 1;
     }
     let last = clock.prev;
-    let Drive::Open(back) = leg_between(distances, times, size, last, 0) else {
-        return Finished::Impossible;
-    };
+    let back = leg_between(distances, times, size, last, 0)?;
     clock.finish(distance + back.distance, back.time)
 }
 
@@ -84,9 +77,9 @@ pub fn schedule(
     times: &[f64],
     size: usize,
     rest: VehicleBreak,
-) -> Finished
+) -> Option<Scheduled>
     ensures { let tables = lent customers distances.now times.now size in
-        finished_of result ≡ schedule_f tables (break_of rest) route.now }
+        result ≡ schedule_f tables (break_of rest) route.now }
 {
     clock_from(Timed::start(rest), route, customers, distances, times, size)
 }

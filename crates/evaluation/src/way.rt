@@ -3,15 +3,13 @@ ghost use Rattle.std.specs.Prelude.{◌≡◌, ◌<◌, length};
 ghost use Rattle.basics.specs.Options.{value_or};
 ghost use Rattle.distance.specs.Lookup.{drive_f};
 ghost use Rattle.models.specs.Records.{customer_of};
-ghost use Rattle.clock.specs.Records.{finished_of};
-ghost use Rattle.evaluation.specs.Records.{driven_of, lent};
+ghost use Rattle.evaluation.specs.Records.{lent};
 ghost use Rattle.evaluation.specs.Way.{start_way, way_on_f, way_f, plain_f, closed_f};
 
 use crate::schedule::record_index;
-use clock::schedule::{Finished, Label, Reached, serve};
-use distance::leg::{Drive, leg_between};
+use clock::schedule::{Label, Scheduled, serve};
+use distance::leg::leg_between;
 use models::customer::Customer;
-use models::vehicle::Rest;
 
 // Some way through the calls: the distance travelled, the label, and the last place.
 #[derive(Clone, Copy)]
@@ -19,13 +17,6 @@ pub struct Way {
     pub distance: f64,
     pub label: Label,
     pub prev: usize,
-}
-
-// A way that fails at a window or a closed leg, or one.
-#[derive(Clone, Copy)]
-pub enum Driven {
-    Failed,
-    To(Way),
 }
 
 impl Way {
@@ -40,15 +31,13 @@ impl Way {
         }
     }
 
-    // One call more, `leg` far and `travel` long away.
-    pub fn on(self, cid: usize, customer: Customer, leg: f64, travel: f64) -> Driven
-        ensures { driven_of result ≡ way_on_f (customer_of customer) leg travel self cid }
+    // One call more, `leg` far and `travel` long away; none where its window fails.
+    pub fn on(self, cid: usize, customer: Customer, leg: f64, travel: f64) -> Option<Way>
+        ensures { result ≡ way_on_f (customer_of customer) leg travel self cid }
     {
         let label = self.label;
-        let Reached::At(l) = serve(label, travel, customer, 0, Rest::Unbroken) else {
-            return Driven::Failed;
-        };
-        Driven::To(Way {
+        let l = serve(label, travel, customer, 0, None)?;
+        Some(Way {
             distance: self.distance + leg,
             label: l,
             prev: cid,
@@ -56,7 +45,7 @@ impl Way {
     }
 }
 
-// The way on through these calls.
+// The way on through these calls; none where a window fails or a leg is closed.
 pub fn way_through(
     from: Way,
     calls: &[usize],
@@ -64,29 +53,22 @@ pub fn way_through(
     distances: &[f64],
     times: &[f64],
     size: usize,
-) -> Driven
+) -> Option<Way>
     ensures { let tables = lent customers distances.now times.now size in
-        driven_of result ≡ way_f tables from calls.now }
+        result ≡ way_f tables from calls.now }
 {
     let mut way = from;
-    let mut i = 0;
-    while i < calls.len() {
-        let cid = calls[i];
+    for &cid in calls {
         let prev = way.prev;
-        let Drive::Open(leg) = leg_between(distances, times, size, prev, cid) else {
-            return Driven::Failed;
-        };
+        let leg = leg_between(distances, times, size, prev, cid)?;
         let index = record_index(cid);
-        let Driven::To(w) = way.on(cid, customers[index], leg.distance, leg.time) else {
-            return Driven::Failed;
-        };
+        let w = way.on(cid, customers[index], leg.distance, leg.time)?;
         way = w;
-        i += 1;
     }
-    Driven::To(way)
+    Some(way)
 }
 
-// The totals of a run that these calls end.
+// The totals of a run that these calls end, if it can be had.
 pub fn plain_from(
     from: Way,
     calls: &[usize],
@@ -94,19 +76,15 @@ pub fn plain_from(
     distances: &[f64],
     times: &[f64],
     size: usize,
-) -> Finished
+) -> Option<Scheduled>
     ensures { let tables = lent customers distances.now times.now size in
-        finished_of result ≡ plain_f tables from calls.now }
+        result ≡ plain_f tables from calls.now }
 {
-    let Driven::To(d) = way_through(from, calls, customers, distances, times, size) else {
-        return Finished::Impossible;
-    };
+    let d = way_through(from, calls, customers, distances, times, size)?;
     let label = d.label;
     let prev = d.prev;
-    let Drive::Open(back) = leg_between(distances, times, size, prev, 0) else {
-        return Finished::Impossible;
-    };
-    Finished::Home(label.home(d.distance + back.distance, back.time))
+    let back = leg_between(distances, times, size, prev, 0)?;
+    Some(label.home(d.distance + back.distance, back.time))
 }
 
 // The number of the first closed leg of a run, from 1, which leaves the depot, to the way home; 0 where none is closed.
@@ -116,17 +94,14 @@ pub fn first_closed(route: &[usize], distances: &[f64], times: &[f64], size: usi
         result ≡ value_or 0 (closed_f leg 1 0 route.now) }
 {
     let mut prev = 0;
-    let mut i = 0;
-    while i < route.len() {
-        let cid = route[i];
-        i += 1;
-        let Drive::Open(_) = leg_between(distances, times, size, prev, cid) else {
-            return i;
+    for (i, &cid) in route.iter().enumerate() {
+        let Some(_) = leg_between(distances, times, size, prev, cid) else {
+            return i + 1;
         };
         prev = cid;
     }
     match leg_between(distances, times, size, prev, 0) {
-        Drive::Open(_) => 0,
-        Drive::Closed => i + 1,
+        Some(_) => 0,
+        None => route.len() + 1,
     }
 }

@@ -12,6 +12,7 @@ pub fn fill(input: &mut impl Read, buffer: &mut [u8]) -> io::Result<usize>
     ensures { IfOk result (λ n. n ≤ length buffer.new) }
 {
     let mut done = 0;
+    // A `while`: how many bytes come at once is not known before.
     while done < buffer.len() {
         let n = input.read(&mut buffer[done..])?;
         if n == 0 {

@@ -3,7 +3,7 @@ use Prim.Native.Nat.{ℕ, ◌≤◌}
 use mathlib.Core.Path.{◌≡◌, refl}
 use mathlib.Core.Bool.{cond}
 use mathlib.Core.List.{List}
-use mathlib.Core.Option.{Option, none, some, map}
+use Rattle.std.specs.Prelude.{Option, None, Some, option_map}
 use lib.Ieee as Ieee
 use lib.Ieee.{Float, binary64}
 use Rattle.basics.specs.Options.{present}
@@ -25,6 +25,6 @@ unfolding far_f
 guard-exact s S leg run delta n h e = go s.head.max_distance (small-limit s.head.max_distance S.far-small)
   where
     go : (o : Option ℕ) → Small o
-        → within_f (map fl o) (Ieee.add binary64 (cond (present (map fl o)) (route_distance_f leg run) (fl 0)) delta) ≡ within o n
-    go none m = refl
-    go (some most) m = rw e (within-exact (some most) n m h)
+        → within_f (option_map fl o) (Ieee.add binary64 (cond (present (option_map fl o)) (route_distance_f leg run) (fl 0)) delta) ≡ within o n
+    go None m = refl
+    go (Some most) m = rw e (within-exact (Some most) n m h)

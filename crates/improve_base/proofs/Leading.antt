@@ -5,7 +5,7 @@ use native.Mathlib.Omega.{arith}
 use mathlib.Core.Path.{◌≡◌, refl, sym, ap, ◌∙◌}
 use mathlib.Core.Bool.{Bool, true, false, false≢true}
 use mathlib.Core.List.{List, [], ◌∷◌, ◌++◌, append_assoc}
-use mathlib.Core.Option.{Option, none, some}
+use Rattle.std.specs.Prelude.{Option, None, Some}
 use lib.ListN.{length, get_or, take, drop, length-append, length-drop}
 use lib.Seq.{take-suc, take_all, drop_at, length-take-le}
 use lib.Ieee as Ieee
@@ -34,8 +34,8 @@ use Rattle.improve_base.specs.Prefix.{PrefixF, failed, plain, clocked, clocked_a
 reached-on : (t : Tables) (cs : List ℕ) (o : Option Way) → ((v : Way) → ended_f t (plain v) cs ≡ plain_f t v cs)
     → ended_f t (reached_f o) cs ≡ ((o >>= λ v. way_f t v cs) >>= homeward_f t)
 unfolding plain_f
-reached-on t cs none h = ended-failed t cs
-reached-on t cs (some v) h = h v
+reached-on t cs None h = ended-failed t cs
+reached-on t cs (Some v) h = h v
 
 ended-plain : (t : Tables) (w : Way) (calls : List ℕ) → ended_f t (plain w) calls ≡ plain_f t w calls
 unfolding on_all_f on_f home_from_f plain_f through_f
@@ -46,8 +46,8 @@ ended-plain t w (c ∷ cs) =
 ticked-on : (t : Tables) (cs : List ℕ) (o : Option TimedF) → ((y : TimedF) → ended_f t (clocked_at y) cs ≡ end_f t y.clock y.distance cs)
     → ended_f t (ticked_f o) cs ≡ ((o >>= λ y. clock_from_f t y cs) >>= clock_home_f t)
 unfolding end_f
-ticked-on t cs none h = ended-failed t cs
-ticked-on t cs (some y) h =
+ticked-on t cs None h = ended-failed t cs
+ticked-on t cs (Some y) h =
     by-test (alive_f y.clock) (λ e. rw e (h y)) (λ n. rw n (ended-failed t cs ∙ sym (end-gone t y.clock y.distance cs n)))
 
 ended-clocked : (t : Tables) (x : ClockF) (far : Float) (calls : List ℕ) → ended_f t (clocked x far) calls ≡ end_f t x far calls
@@ -57,8 +57,8 @@ ended-clocked t x far (c ∷ cs) = ticked-on t cs (tick_f t (timed x far) c) (λ
 
 ended-start : (t : Tables) (r : Option (BreakOf Float)) (calls : List ℕ) → ended_f t (set_out_f r) calls ≡ totals_f t r calls
 unfolding totals_f
-ended-start t none calls = ended-plain t start_way calls
-ended-start t (some b) calls = ended-clocked t (begun_f b) (fl 0) calls
+ended-start t None calls = ended-plain t start_way calls
+ended-start t (Some b) calls = ended-clocked t (begun_f b) (fl 0) calls
 
 -- a limit that is kept leaves the totals there
 pub given-there : (b : Bool) (s : Scheduled) → b ≡ present (given b s)
@@ -68,16 +68,16 @@ given-there false s = refl
 -- ---- where calls lead
 
 start-index : (r : Option (BreakOf Float)) → index_f (set_out_f r) ≤ 1
-start-index none = omega arith
-start-index (some b) = omega arith
+start-index None = omega arith
+start-index (Some b) = omega arith
 
 pub leads-start : (t : Tables) (limits : LimitsF) → Leads t limits [] (set_out_f limits.rest)
 unfolding feasible_f allowed_f feasible_from_f
 leads-start t limits = record { feasible = λ rest. rw (ended-start t limits.rest rest); index = start-index limits.rest }
 
 reached-index : (o : Option Way) → index_f (reached_f o) ≤ 1
-reached-index none = omega arith
-reached-index (some w) = omega arith
+reached-index None = omega arith
+reached-index (Some w) = omega arith
 
 on-index : (t : Tables) (b : PrefixF) (c : ℕ) → index_f (on_f t b c) ≤ suc (index_f b)
 unfolding on_f push_f
@@ -88,9 +88,9 @@ on-index t (clocked x far) c = ticked-index (leg_f t x.prev c)
     after : Leg → TimedF
     after g = timed (push_f x c (record_f t c) g.time) (Ieee.add binary64 far g.distance)
 
-    ticked-index : (o : Option Leg) → index_f (ticked_f (o >>= λ g. some (after g))) ≤ suc x.index
-    ticked-index none = omega arith
-    ticked-index (some g) = by-test (alive_f (after g).clock) (λ y. rw y (omega arith)) (λ n. rw n (omega arith))
+    ticked-index : (o : Option Leg) → index_f (ticked_f (o >>= λ g. Some (after g))) ≤ suc x.index
+    ticked-index None = omega arith
+    ticked-index (Some g) = by-test (alive_f (after g).clock) (λ y. rw y (omega arith)) (λ n. rw n (omega arith))
 
 module _ (t : Tables) (limits : LimitsF) where
   from_on : (b : PrefixF) (c : ℕ) (rest : List ℕ) → feasible_from_f t limits b (c ∷ rest) ≡ feasible_from_f t limits (on_f t b c) rest

@@ -5,8 +5,7 @@ use native.Mathlib.Omega.{arith}
 use mathlib.Core.Path.{◌≡◌, refl, sym, ap, subst, ◌∙◌}
 use mathlib.Core.Bool.{Bool, true, false, cond, not, ◌||◌}
 use mathlib.Core.List.{List, [], ◌∷◌, map}
-use mathlib.Core.Option
-use mathlib.Core.Option.{some}
+use Rattle.std.specs.Prelude.{Some, option_map}
 use lib.ListN.{length, get_or}
 use borrow.Author.Tests.{leb-true}
 use Rattle.basics.proofs.TestLaws.{or_left, or_right, or-false}
@@ -43,16 +42,16 @@ unfolding AllOpen
 all-open [] a h = tt
 all-open (n ∷ l) a h =
     let f = or_left (is_closed n) (any is_closed l) h in
-    (road-exact n (omega (arith, length-small n a.0 f)) ∙ ap (λ (b : Bool). Option.map fl (given (not b) n)) f, all-open l a.1 (or_right (is_closed n) (any is_closed l) h))
+    (road-exact n (omega (arith, length-small n a.0 f)) ∙ ap (λ (b : Bool). option_map fl (given (not b) n)) f, all-open l a.1 (or_right (is_closed n) (any is_closed l) h))
 
 -- where both tables close the same legs, a time table closes none either
-times-open : (ds ts : List ℕ) → length ts ≤ length ds → disagree some ds ts ≡ false → any is_closed ds ≡ false → any is_closed ts ≡ false
+times-open : (ds ts : List ℕ) → length ts ≤ length ds → disagree Some ds ts ≡ false → any is_closed ds ≡ false → any is_closed ts ≡ false
 times-open ds [] l a h = refl
 times-open [] (t ∷ ts) l a h = absurd (omega arith)
 times-open (d ∷ ds) (t ∷ ts) l a h =
     or-false (is_closed t) (any is_closed ts)
-    (subst (λ (b : Bool). cond b (not (is_closed t)) (is_closed t) ≡ false) (or_left (is_closed d) (any is_closed ds) h) (or_left (closed_apart d t) (disagree some ds ts) a))
-    (times-open ds ts (omega arith) (or_right (closed_apart d t) (disagree some ds ts) a) (or_right (is_closed d) (any is_closed ds) h))
+    (subst (λ (b : Bool). cond b (not (is_closed t)) (is_closed t) ≡ false) (or_left (is_closed d) (any is_closed ds) h) (or_left (closed_apart d t) (disagree Some ds ts) a))
+    (times-open ds ts (omega arith) (or_right (closed_apart d t) (disagree Some ds ts) a) (or_right (is_closed d) (any is_closed ds) h))
 
 -- a time table of its own, by what is known of the one in use
 own-legs : (ds ts : List ℕ) → All LegNumber (time_table ds ts) → All LegNumber ts
@@ -63,7 +62,7 @@ own-length : (ds ts : List ℕ) → length (time_table ds ts) ≡ length ds → 
 own-length ds [] e = omega arith
 own-length ds (t ∷ ts) e = omega arith
 
-module _ (s : Sheet) (S : Sized s) (O : any_closed some s.legs ≡ false) where
+module _ (s : Sheet) (S : Sized s) (O : any_closed Some s.legs ≡ false) where
   none-closed : any is_closed s.legs.distances ≡ false
   unfolding any_closed
   none-closed = O
@@ -80,7 +79,7 @@ module _ (s : Sheet) (S : Sized s) (O : any_closed some s.legs ≡ false) where
         ∙ ap (λ (b : Bool). fl (value_or 0 (given (not b) n))) (sym f)
 
     -- so both tables are as the improvers ask for them
-    pub tables-open : closures_differ some s.legs ≡ false → AllOpen t.distances × AllOpen t.times
+    pub tables-open : closures_differ Some s.legs ≡ false → AllOpen t.distances × AllOpen t.times
     unfolding closures_differ
     tables-open alike =
         let ds = s.legs.distances in

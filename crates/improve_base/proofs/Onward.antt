@@ -4,7 +4,7 @@ use native.Mathlib.Numerals.{add-one}
 use mathlib.Core.Path.{◌≡◌, refl, sym, ap, ◌∙◌}
 use mathlib.Core.Bool.{true, false}
 use mathlib.Core.List.{List, [], ◌∷◌}
-use mathlib.Core.Option.{Option, none, some}
+use Rattle.std.specs.Prelude.{Option, None, Some}
 use lib.ListN.{length, get_or, drop, drop_of_length-le}
 use lib.Seq.{drop-cons}
 use Rattle.basics.proofs.OptionLaws.{same, bound}
@@ -22,7 +22,7 @@ module _ (t : Tables) where
   all-failed [] = refl
   all-failed (c ∷ cs) = all-failed cs
 
-  pub ended-failed : (calls : List ℕ) → ended_f t failed calls ≡ none
+  pub ended-failed : (calls : List ℕ) → ended_f t failed calls ≡ None
   unfolding home_from_f
   ended-failed calls = rw (all-failed calls)
 
@@ -32,7 +32,7 @@ module _ (t : Tables) where
   unfolding on_f
   driven-on w c o e = ap reached_f e
 
-  module _ (x : TimedF) (c : ℕ) (y : TimedF) (e : some y ≡ tick_f t x c) where
+  module _ (x : TimedF) (c : ℕ) (y : TimedF) (e : Some y ≡ tick_f t x c) where
     pub ticked-on : alive_f y.clock ≡ true → clocked_at y ≡ on_f t (clocked_at x) c
     unfolding on_f
     ticked-on a = rw (← e, a)

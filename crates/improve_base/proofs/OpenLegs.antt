@@ -4,7 +4,7 @@ use native.Mathlib.Omega.{arith}
 use mathlib.Core.Path.{◌≡◌, refl, ap, ◌∙◌}
 use mathlib.Core.Bool.{false, ◌&&◌}
 use mathlib.Core.List.{List, [], ◌∷◌}
-use mathlib.Core.Option.{some}
+use Rattle.std.specs.Prelude.{Some}
 use lib.ListN.{length, get_or}
 use lib.Dec.{ltb}
 use lib.Ieee as Ieee
@@ -19,7 +19,7 @@ use Rattle.distance.proofs.Ways.{inside}
 use Rattle.improve_base.specs.Leg.{AllOpen, shut, CellOf}
 
 -- infinity, which is found outside a table, is a length
-road-outside : road_f (inf false) ≡ some (inf false)
+road-outside : road_f (inf false) ≡ Some (inf false)
 unfolding is_closed_f road_f fl Ieee.eq Ieee.of_int
 road-outside = refl
 
@@ -41,11 +41,11 @@ cell-read table size from to many cell C h l =
     let f = C.found h in
     ap (λ (k : ℕ). get_or table k nan) f.2 ∙ inside table size from to nan f.0 f.1 (omega (arith, f.2, l))
 
-pub lookup-open : (table : List Float) (size from to : ℕ) → AllOpen table → lookup_f table size from to ≡ some (number_f table size from to)
+pub lookup-open : (table : List Float) (size from to : ℕ) → AllOpen table → lookup_f table size from to ≡ Some (number_f table size from to)
 unfolding AllOpen number_f
 lookup-open table size from to A =
     by-test (ltb from size && ltb to size)
-    (λ t. rw t (all_get_d (λ (x : Float). road_f x ≡ some x) table (from * size + to) (inf false) A road-outside)) (λ f. rw f road-outside)
+    (λ t. rw t (all_get_d (λ (x : Float). road_f x ≡ Some x) table (from * size + to) (inf false) A road-outside)) (λ f. rw f road-outside)
 
 pub times-open : (distances times : List Float) → AllOpen distances → AllOpen times → AllOpen (time_table distances times)
 times-open distances [] A B = A
@@ -54,7 +54,7 @@ times-open distances (t ∷ ts) A B = B
 module _ (distances times : List Float) (size from to : ℕ) where
   -- with the numbers of the two tables
   pub drive-open : AllOpen distances × AllOpen times → (d t : Float) → d ≡ number_f distances size from to → t ≡ number_f (time_table distances times) size from to
-      → some (record { distance = d; time = t }) ≡ drive_f distances times size from to
+      → Some (record { distance = d; time = t }) ≡ drive_f distances times size from to
   unfolding drive_f
   drive-open A d t ed et =
       rw (ed, et, lookup-open distances size from to A.0, lookup-open (time_table distances times) size from to (times-open distances times A.0 A.1)) refl

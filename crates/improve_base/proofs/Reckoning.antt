@@ -1,13 +1,16 @@
 -- Sums over a list, one element at a time: what is left of it, on top of what is reckoned already. Assumes nothing.
-use Prim.Native.Nat.{ℕ, suc, ◌+◌, ◌<◌, ◌≤◌}
+use Prim.Native.Nat.{ℕ, zero, suc, ◌+◌, ◌*◌, ◌<◌, ◌≤◌}
+use native.Mathlib.Nat.{add-zero}
 use native.Mathlib.Numerals.{add-one}
 use native.Mathlib.Omega.{arith}
-use mathlib.Core.Path.{◌≡◌, refl, sym}
+use mathlib.Core.Path.{◌≡◌, refl, sym, ap, ◌∙◌}
 use mathlib.Core.List.{List, [], ◌∷◌}
-use lib.ListN.{length, get_or, drop, drop_of_length-le}
-use lib.Seq.{drop-cons}
+use lib.ListN.{length, get_or, take, drop, drop_of_length-le}
+use lib.Seq.{drop-cons, drop-drop, get_or-take, get_or-drop}
 use lib.Ieee as Ieee
 use lib.Ieee.{Float, binary64, nan}
+use Rattle.std.specs.List.{fold}
+use Rattle.std.specs.Simd.{first_chunks}
 use Rattle.whole.proofs.Bits.{fl-zero}
 use Rattle.whole.specs.Larger.{larger_f}
 use Rattle.improve_base.specs.Gain.{largest_f, largest_by_four_f}
@@ -15,14 +18,10 @@ use Rattle.improve_base.specs.Route.{home_f, route_distance_f}
 
 -- ---- the largest distance
 
-module _ (distances : List Float) (most : Float) where
-  pub largest-turn : (more : Float) (k : ℕ) → k < length distances → more ≡ larger_f most (get_or distances k nan) → largest_f most (drop k distances) ≡ largest_f more (drop (k + 1) distances)
-  unfolding largest_f
-  largest-turn more k h e = rw (e, add-one k, drop-cons distances k nan h)
-
-  pub largest-end : (k : ℕ) → length distances ≤ k → largest_f most (drop k distances) ≡ most
-  unfolding largest_f
-  largest-end k h = rw (drop_of_length-le distances h)
+pub largest-fold : (most : Float) (l : List Float) → largest_f most l ≡ fold larger_f most l
+unfolding largest_f
+largest-fold most [] = refl
+largest-fold most (x ∷ l) = largest-fold (larger_f most x) l
 
 -- number k, with what is behind it
 next-drop : (distances : List Float) (k j : ℕ) → j ≡ suc k → k < length distances → drop k distances ≡ get_or distances k nan ∷ drop j distances
@@ -30,7 +29,7 @@ next-drop distances k j e h = rw e (drop-cons distances k nan h)
 
 -- four at a time
 module _ (distances : List Float) (a b c d : Float) where
-  pub four-turn : (e f g h : Float) (k : ℕ) → k + 3 < length distances
+  four-turn : (e f g h : Float) (k : ℕ) → k + 3 < length distances
       → e ≡ larger_f a (get_or distances k nan) → f ≡ larger_f b (get_or distances (k + 1) nan) → g ≡ larger_f c (get_or distances (k + 2) nan) → h ≡ larger_f d (get_or distances (k + 3) nan)
       → largest_by_four_f a b c d (drop k distances) ≡ largest_by_four_f e f g h (drop (k + 4) distances)
   unfolding largest_by_four_f
@@ -56,6 +55,35 @@ module _ (distances : List Float) (a b c d : Float) where
     where
       clash : length (w ∷ x ∷ y ∷ z ∷ l) ≤ 3 → ⊥
       clash e = omega arith
+
+-- the table cut into fours
+four-at : (distances : List Float) (count k : ℕ) → k < count → get_or (first_chunks 4 count distances) k [] ≡ take 4 (drop (k * 4) distances)
+four-at distances zero k h = absurd (omega arith)
+four-at distances (suc count) zero h = refl
+four-at distances (suc count) (suc k) h =
+    let e : 4 + k * 4 ≡ suc k * 4 = omega arith in
+    four-at (drop 4 distances) count k (omega arith) ∙ ap (take 4) (drop-drop (k * 4) 4 distances ∙ ap (λ (n : ℕ). drop n distances) e)
+
+module _ (distances : List Float) (fours : List (List Float)) (count : ℕ) (cut : fours ≡ first_chunks 4 count distances) (fits : count * 4 ≤ length distances) (k : ℕ) (h : k < count) where
+  four-read : (j : ℕ) → j < 4 → get_or (get_or fours k []) j nan ≡ get_or distances (k * 4 + j) nan
+  four-read j b =
+      ap (λ (l : List Float). get_or l j nan) (ap (λ (l : List (List Float)). get_or l k []) cut ∙ four-at distances count k h)
+      ∙ get_or-take 4 (drop (k * 4) distances) j nan b
+      ∙ get_or-drop (k * 4) distances j nan
+
+  pub four-more : (a b c d e f g i : Float)
+      → e ≡ larger_f a (get_or (get_or fours k []) 0 nan) → f ≡ larger_f b (get_or (get_or fours k []) 1 nan)
+      → g ≡ larger_f c (get_or (get_or fours k []) 2 nan) → i ≡ larger_f d (get_or (get_or fours k []) 3 nan)
+      → largest_by_four_f a b c d (drop (k * 4) distances) ≡ largest_by_four_f e f g i (drop ((k + 1) * 4) distances)
+  four-more a b c d e f g i ee ef eg ei =
+      let next : k * 4 + 4 ≡ (k + 1) * 4 = omega arith in
+      let first = four-read 0 (omega arith) ∙ ap (λ (n : ℕ). get_or distances n nan) (add-zero (k * 4)) in
+      four-turn distances a b c d e f g i (k * 4) (omega arith)
+      (ee ∙ ap (larger_f a) first)
+      (ef ∙ ap (larger_f b) (four-read 1 (omega arith)))
+      (eg ∙ ap (larger_f c) (four-read 2 (omega arith)))
+      (ei ∙ ap (larger_f d) (four-read 3 (omega arith)))
+      ∙ ap (λ (n : ℕ). largest_by_four_f e f g i (drop n distances)) next
 
 module _ (leg : ℕ → ℕ → Float) where
   -- ---- the distance of a run

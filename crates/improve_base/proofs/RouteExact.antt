@@ -5,7 +5,7 @@ use native.Mathlib.Omega.{arith}
 use mathlib.Core.Path.{◌≡◌, refl, ap, ◌∙◌}
 use mathlib.Core.Bool.{false}
 use mathlib.Core.List.{List, [], ◌∷◌}
-use mathlib.Core.Option.{some}
+use Rattle.std.specs.Prelude.{Some}
 use lib.ListN.{length}
 use lib.Ieee.{Float}
 use Rattle.basics.specs.Lists.{All}
@@ -24,7 +24,7 @@ use Rattle.improve_base.specs.Leg.{distance_f}
 use Rattle.improve_base.specs.Route.{home_f, route_distance_f}
 use Rattle.improve_base.proofs.LegExact.{distance-exact}
 
-module _ (s : Sheet) (S : Sized s) (O : any_closed some s.legs ≡ false) (t : Tables) (I : Image s t) where
+module _ (s : Sheet) (S : Sized s) (O : any_closed Some s.legs ≡ false) (t : Tables) (I : Image s t) where
   abbrev leg : ℕ → ℕ → Float
   leg = distance_f t
 

@@ -1,6 +1,5 @@
 -- Where a leg stands in a table, and the legs of tables that close none. Definitions only.
-use Rattle.std.specs.Prelude.{ℕ, ◌+◌, ◌*◌, ◌<◌, ◌≡◌, Bool, ◌||◌, List, Float}
-use Rattle.std.proofs.Math.Option.{some}
+use Rattle.std.specs.Prelude.{ℕ, ◌+◌, ◌*◌, ◌<◌, ◌≡◌, Bool, ◌||◌, List, Float, Some}
 use Rattle.basics.specs.Lists.{All, any}
 use Rattle.distance.specs.Lookup.{is_closed_f, number_f, road_f}
 use Rattle.distance.specs.declared.leg.Leg.{Leg}
@@ -9,7 +8,7 @@ use Rattle.improve_base.specs.declared.leg.LegAt.{LegAt}
 
 -- no leg of the table is closed: each of its numbers is a length
 unfoldable pub AllOpen : List Float → Type 0
-AllOpen table = All (λ (x : Float). road_f x ≡ some x) table
+AllOpen table = All (λ (x : Float). road_f x ≡ Some x) table
 
 -- one of the two tables closes a leg
 abbrev pub shut : (distances times : List Float) → Bool

@@ -1,7 +1,6 @@
 -- A run whose first calls are fixed: where they leave the bus, and whether these calls and those that follow are a run that is feasible, on
 -- floats, in the code's order of sums. Definitions only.
-use Rattle.std.specs.Prelude.{ℕ, suc, ◌≤◌, ◌≡◌, Bool, true, false, cond, List, [], ◌∷◌, ◌++◌, length, Float}
-use Rattle.std.proofs.Math.Option.{Option, none, some}
+use Rattle.std.specs.Prelude.{ℕ, suc, ◌≤◌, ◌≡◌, Bool, true, false, cond, List, [], ◌∷◌, ◌++◌, length, Float, Option, None, Some}
 use Rattle.std.specs.Float.Ieee as Ieee
 use Rattle.std.specs.Float.{binary64}
 use Rattle.basics.specs.Options.{◌>>=◌, present}
@@ -53,17 +52,17 @@ index_f (clocked x far) = x.index
 
 -- before the first call
 abbrev pub set_out_f : Option (BreakOf Float) → PrefixF
-set_out_f none = plain start_way
-set_out_f (some b) = clocked (begun_f b) (fl 0)
+set_out_f None = plain start_way
+set_out_f (Some b) = clocked (begun_f b) (fl 0)
 
 abbrev pub reached_f : Option Way → PrefixF
-reached_f none = failed
-reached_f (some w) = plain w
+reached_f None = failed
+reached_f (Some w) = plain w
 
 -- a clock with no label left has failed
 abbrev pub ticked_f : Option TimedF → PrefixF
-ticked_f none = failed
-ticked_f (some x) = cond (alive_f x.clock) (clocked_at x) failed
+ticked_f None = failed
+ticked_f (Some x) = cond (alive_f x.clock) (clocked_at x) failed
 
 -- one call more on the way, looked up in the tables
 abbrev pub drive_f : Tables → Way → ℕ → Option Way
@@ -85,8 +84,8 @@ on_all_f t b (c ∷ cs) = on_all_f t (on_f t b c) cs
 module _ (leg : ℕ → ℕ → Option Leg) where
   -- home from here
   unfoldable pub home_from_f : PrefixF → Option Scheduled
-  home_from_f failed = none
-  home_from_f (plain w) = leg w.prev 0 >>= λ g. some (home_f (Ieee.add binary64 w.distance g.distance) g.time w.label)
+  home_from_f failed = None
+  home_from_f (plain w) = leg w.prev 0 >>= λ g. Some (home_f (Ieee.add binary64 w.distance g.distance) g.time w.label)
   home_from_f (clocked x far) = leg x.prev 0 >>= λ g. finish_f (Ieee.add binary64 far g.distance) g.time x
 
 abbrev pub ended_f : Tables → PrefixF → List ℕ → Option Scheduled

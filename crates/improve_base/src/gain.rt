@@ -14,13 +14,10 @@ use whole::larger;
 pub fn largest_from(most: f64, distances: &[f64], k: usize) -> f64
     ensures { result ≡ largest_f most (drop k distances.now) }
 {
-    let mut found = most;
-    let mut j = k;
-    while j < distances.len() {
-        found = larger(found, distances[j]);
-        j += 1;
-    }
-    found
+    distances
+        .iter()
+        .skip(k)
+        .fold(most, |found, distance| larger(found, *distance))
 }
 
 // The largest distance, and 0 for an empty table. Four distances at a time, each against a largest of its own, so that
@@ -32,16 +29,15 @@ pub fn scale(distances: &[f64]) -> f64
     let mut second = 0.0;
     let mut third = 0.0;
     let mut fourth = 0.0;
-    let mut k: usize = 0;
-    while k + 3 < distances.len() {
-        first = larger(first, distances[k]);
-        second = larger(second, distances[k + 1]);
-        third = larger(third, distances[k + 2]);
-        fourth = larger(fourth, distances[k + 3]);
-        k += 4;
+    let (fours, rest) = distances.as_chunks::<4>();
+    for [a, b, c, d] in fours {
+        first = larger(first, *a);
+        second = larger(second, *b);
+        third = larger(third, *c);
+        fourth = larger(fourth, *d);
     }
     let most = larger(larger(first, second), larger(third, fourth));
-    largest_from(most, distances, k)
+    largest_from(most, rest, 0)
 }
 
 // The least gain that counts: a part in 10^12 of the largest distance, since a smaller one may be rounding.
@@ -69,16 +65,13 @@ pub fn call_symmetric(calls: &[usize], distances: &[f64], size: usize, i: usize)
         result ≡ all_equal_f leg (get_or calls.now i 0) (drop (i + 1) calls.now) }
 {
     let one = calls[i];
-    let mut j = i + 1;
-    while j < calls.len() {
-        let other = calls[j];
+    for other in &calls[i + 1..] {
         if !legs_equal(
-            open_leg(distances, size, one, other),
-            open_leg(distances, size, other, one),
+            open_leg(distances, size, one, *other),
+            open_leg(distances, size, *other, one),
         ) {
             return false;
         }
-        j += 1;
     }
     true
 }
@@ -88,12 +81,10 @@ pub fn symmetric(calls: &[usize], distances: &[f64], size: usize) -> bool
     requires { AllOpen distances.now }
     ensures { result ≡ symmetric_f (number_f distances.now size) calls.now }
 {
-    let mut i = 0;
-    while i < calls.len() {
+    for i in 0..calls.len() {
         if !call_symmetric(calls, distances, size, i) {
             return false;
         }
-        i += 1;
     }
     true
 }

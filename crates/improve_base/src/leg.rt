@@ -1,12 +1,11 @@
 // Legs of tables that close none: a sheet with a closed leg is not improved. A length by one table; and the leg from
 // one place to the next by both, as distance::leg reads it, where a cell that both tables have is found once for both.
-ghost use Rattle.std.specs.Prelude.{◌≡◌};
-ghost use Rattle.std.proofs.Math.Option.{some};
+ghost use Rattle.std.specs.Prelude.{◌≡◌, Some};
 ghost use Rattle.definitions.specs.Sheet.{time_table};
 ghost use Rattle.distance.specs.Lookup.{number_f, drive_f};
 ghost use Rattle.improve_base.specs.Leg.{AllOpen, CellOf, leg_of};
 
-use distance::matrix::{Road, lookup};
+use distance::matrix::lookup;
 use whole::infinity;
 
 // The length of a leg, by the lookup. Every caller knows that the table closes none, so the second way is never gone.
@@ -15,8 +14,8 @@ pub fn looked_up(table: &[f64], size: usize, from: usize, to: usize) -> f64
     ensures { result ≡ number_f table.now size from to }
 {
     match lookup(table, size, from, to) {
-        Road::Length(length) => length,
-        Road::Closed => infinity(),
+        Some(length) => length,
+        None => infinity(),
     }
 }
 
@@ -88,7 +87,7 @@ pub fn read_between(
     cell: usize,
 ) -> LegAt
     requires { AllOpen distances.now × AllOpen times.now }
-    ensures { some (leg_of result) ≡ drive_f distances.now times.now size from to }
+    ensures { Some (leg_of result) ≡ drive_f distances.now times.now size from to }
 {
     LegAt {
         distance: looked_up(distances, size, from, to),
@@ -100,7 +99,7 @@ pub fn read_between(
 // The distance and the travel time of a leg.
 pub fn leg_on(distances: &[f64], times: &[f64], size: usize, from: usize, to: usize) -> LegAt
     requires { AllOpen distances.now × AllOpen times.now }
-    ensures { some (leg_of result) ≡ drive_f distances.now times.now size from to }
+    ensures { Some (leg_of result) ≡ drive_f distances.now times.now size from to }
 {
     let cell = cell_of(size, from, to, distances.len());
     if distances.len() <= cell {

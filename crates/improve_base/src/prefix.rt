@@ -4,18 +4,17 @@
 ghost use Rattle.std.specs.Prelude.{◌≡◌, ◌+◌, ◌<◌, length};
 ghost use Rattle.distance.specs.Lookup as Lookup;
 ghost use Rattle.models.specs.Records.{rest_of};
-ghost use Rattle.clock.specs.Records.{finished_of};
 ghost use Rattle.evaluation.specs.Records.{limits_of};
 ghost use Rattle.cut_stops.specs.Stops.{numbers, Long, listed};
 ghost use Rattle.improve_base.specs.Leg.{AllOpen};
 ghost use Rattle.improve_base.specs.Prefix.{plain, timed_of, clocked_at, prefix_of, failed_f, index_f, set_out_f, on_f, on_all_f, home_from_f, feasible_from_f};
 
 use crate::step::{clock_home, drive_on, tick_on, way_home};
-use clock::schedule::Finished;
+use clock::schedule::Scheduled;
 use evaluation::schedule::Timed;
-use evaluation::way::{Driven, Way};
+use evaluation::way::Way;
 use models::limits::RouteLimits;
-use models::vehicle::Rest;
+use models::vehicle::VehicleBreak;
 
 // Calls that cannot be served, or where they leave the bus: the way with no break, or the clock of a run with one.
 #[derive(Clone, Copy)]
@@ -26,12 +25,12 @@ pub enum Prefix {
 }
 
 // Before the first call.
-pub fn set_out(rest: Rest) -> Prefix
+pub fn set_out(rest: Option<VehicleBreak>) -> Prefix
     ensures { prefix_of result ≡ set_out_f (rest_of rest) }
 {
     match rest {
-        Rest::Unbroken => Prefix::Plain(Way::start()),
-        Rest::Break(b) => Prefix::Clock(Timed::start(b)),
+        None => Prefix::Plain(Way::start()),
+        Some(b) => Prefix::Clock(Timed::start(b)),
     }
 }
 
@@ -52,8 +51,8 @@ pub fn way_on(
         prefix_of result ≡ on_f tables (plain way) cid }
 {
     match drive_on(way, cid, codes, figures, distances, times, size) {
-        Driven::Failed => Prefix::Failed,
-        Driven::To(w) => Prefix::Plain(w),
+        None => Prefix::Failed,
+        Some(w) => Prefix::Plain(w),
     }
 }
 
@@ -122,14 +121,11 @@ pub fn way_through(
         prefix_of result ≡ on_all_f tables (plain from) calls.now }
 {
     let mut way = from;
-    let mut i = 0;
-    while i < calls.len() {
-        let cid = calls[i];
-        let Driven::To(w) = drive_on(way, cid, codes, figures, distances, times, size) else {
+    for cid in calls {
+        let Some(w) = drive_on(way, *cid, codes, figures, distances, times, size) else {
             return Prefix::Failed;
         };
         way = w;
-        i += 1;
     }
     Prefix::Plain(way)
 }
@@ -152,15 +148,12 @@ pub fn clock_through(
         prefix_of result ≡ on_all_f tables (clocked_at (timed_of from)) calls.now }
 {
     let mut timed = from;
-    let mut i = 0;
-    while i < calls.len() {
-        let cid = calls[i];
-        timed = tick_on(timed, cid, codes, figures, distances, times, size);
+    for cid in calls {
+        timed = tick_on(timed, *cid, codes, figures, distances, times, size);
         let clock = timed.clock;
         if !clock.alive() {
             return Prefix::Failed;
         }
-        i += 1;
     }
     Prefix::Clock(timed)
 }
@@ -190,13 +183,13 @@ pub fn go_through(
 }
 
 // The totals of the run that goes home from here.
-pub fn home_from(prefix: Prefix, distances: &[f64], times: &[f64], size: usize) -> Finished
+pub fn home_from(prefix: Prefix, distances: &[f64], times: &[f64], size: usize) -> Option<Scheduled>
     requires { AllOpen distances.now × AllOpen times.now }
     ensures { let leg = Lookup.drive_f distances.now times.now size in
-        finished_of result ≡ home_from_f leg (prefix_of prefix) }
+        result ≡ home_from_f leg (prefix_of prefix) }
 {
     match prefix {
-        Prefix::Failed => Finished::Impossible,
+        Prefix::Failed => None,
         Prefix::Plain(way) => way_home(way, distances, times, size),
         Prefix::Clock(timed) => clock_home(timed, distances, times, size),
     }
@@ -222,8 +215,8 @@ pub fn feasible_from(
 {
     let end = go_through(prefix, calls, codes, figures, distances, times, size);
     match home_from(end, distances, times, size) {
-        Finished::Impossible => false,
-        Finished::Home(s) => limits.allow(s.distance, s.duration),
+        None => false,
+        Some(s) => limits.allow(s.distance, s.duration),
     }
 }
 

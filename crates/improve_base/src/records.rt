@@ -16,9 +16,7 @@ pub fn list_records(
     ensures { let lists = numbers codes.new figures.new in
         Long lists × (records_in lists ≡ map customer_of customers) }
 {
-    let mut c: usize = 0;
-    while c < 64 {
-        put_customer(customers[c], c, &mut *codes, &mut *figures);
-        c += 1;
+    for (c, customer) in customers.iter().enumerate() {
+        put_customer(*customer, c, &mut *codes, &mut *figures);
     }
 }

@@ -2,14 +2,13 @@
 // whether it is longer than its limit.
 ghost use Rattle.std.specs.Prelude.{◌≡◌, not};
 ghost use Rattle.models.specs.Limits.{within_f};
-ghost use Rattle.models.specs.Records.{limit_of};
 ghost use Rattle.distance.specs.Lookup.{number_f};
 ghost use Rattle.evaluation.specs.Records.{limits_of};
 ghost use Rattle.improve_base.specs.Leg.{AllOpen};
 ghost use Rattle.improve_base.specs.Route.{route_distance_f, far_f};
 
 use crate::leg::open_leg;
-use models::limits::{Limit, RouteLimits};
+use models::limits::{RouteLimits, allows};
 
 // The distance of a run, both depot legs too; a run without calls has none.
 pub fn route_distance(route: &[usize], distances: &[f64], size: usize) -> f64
@@ -21,12 +20,9 @@ pub fn route_distance(route: &[usize], distances: &[f64], size: usize) -> f64
     }
     let mut prev = route[0];
     let mut dist = open_leg(distances, size, 0, prev);
-    let mut k = 1;
-    while k < route.len() {
-        let next = route[k];
-        dist = dist + open_leg(distances, size, prev, next);
-        prev = next;
-        k += 1;
+    for next in &route[1..] {
+        dist += open_leg(distances, size, prev, *next);
+        prev = *next;
     }
     dist + open_leg(distances, size, prev, 0)
 }
@@ -38,15 +34,14 @@ pub fn limited_distance(limits: RouteLimits, route: &[usize], distances: &[f64],
 {
     let max = limits.max_distance;
     match max {
-        Limit::Unlimited => 0.0,
-        Limit::At(_) => route_distance(route, distances, size),
+        None => 0.0,
+        Some(_) => route_distance(route, distances, size),
     }
 }
 
 // Whether a run of this distance is longer than its limit.
 pub fn is_too_far(limits: RouteLimits, far: f64) -> bool
-    ensures { result ≡ not (within_f (limit_of limits.max_distance) far) }
+    ensures { result ≡ not (within_f limits.max_distance far) }
 {
-    let max = limits.max_distance;
-    !max.allows(far)
+    !allows(limits.max_distance, far)
 }

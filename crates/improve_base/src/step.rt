@@ -1,20 +1,17 @@
 // A bus on its way, by the way with no break or by its clock: one call more, whose record is in the lists of numbers,
 // and the way home.
-ghost use Rattle.std.specs.Prelude.{◌≡◌, ◌<◌};
-ghost use Rattle.std.proofs.Math.Option.{some};
+ghost use Rattle.std.specs.Prelude.{◌≡◌, ◌<◌, Some};
 ghost use Rattle.distance.specs.Lookup as Lookup;
-ghost use Rattle.clock.specs.Records.{finished_of};
-ghost use Rattle.evaluation.specs.Records.{driven_of};
 ghost use Rattle.evaluation.specs.Schedule.{tick_f};
 ghost use Rattle.cut_stops.specs.Stops.{numbers, Long, listed};
 ghost use Rattle.improve_base.specs.Leg.{AllOpen};
 ghost use Rattle.improve_base.specs.Prefix.{plain, timed_of, clocked_at, drive_f, home_from_f};
 
 use crate::leg::leg_on;
-use clock::schedule::Finished;
+use clock::schedule::Scheduled;
 use cut_stops::stops::customer_at;
 use evaluation::schedule::{Timed, record_index};
-use evaluation::way::{Driven, Way};
+use evaluation::way::Way;
 
 // One call more with no break.
 pub fn drive_on(
@@ -25,12 +22,12 @@ pub fn drive_on(
     distances: &[f64],
     times: &[f64],
     size: usize,
-) -> Driven
+) -> Option<Way>
     requires long { Long (numbers codes.now figures.now) }
     requires all_open { AllOpen distances.now × AllOpen times.now }
     ensures { let lists = numbers codes.now figures.now in
         let tables = listed lists distances.now times.now size in
-        driven_of result ≡ drive_f tables way cid }
+        result ≡ drive_f tables way cid }
 {
     let prev = way.prev;
     let leg = leg_on(distances, times, size, prev, cid);
@@ -53,7 +50,7 @@ pub fn tick_on(
     requires all_open { AllOpen distances.now × AllOpen times.now }
     ensures { let lists = numbers codes.now figures.now in
         let tables = listed lists distances.now times.now size in
-        some (timed_of result) ≡ tick_f tables (timed_of timed) cid }
+        Some (timed_of result) ≡ tick_f tables (timed_of timed) cid }
 {
     let old = timed.clock;
     let prev = old.prev;
@@ -67,22 +64,22 @@ pub fn tick_on(
 }
 
 // Home with no break.
-pub fn way_home(way: Way, distances: &[f64], times: &[f64], size: usize) -> Finished
+pub fn way_home(way: Way, distances: &[f64], times: &[f64], size: usize) -> Option<Scheduled>
     requires { AllOpen distances.now × AllOpen times.now }
     ensures { let leg = Lookup.drive_f distances.now times.now size in
-        finished_of result ≡ home_from_f leg (plain way) }
+        result ≡ home_from_f leg (plain way) }
 {
     let label = way.label;
     let prev = way.prev;
     let back = leg_on(distances, times, size, prev, 0);
-    Finished::Home(label.home(way.distance + back.distance, back.time))
+    Some(label.home(way.distance + back.distance, back.time))
 }
 
 // Home by the clock.
-pub fn clock_home(timed: Timed, distances: &[f64], times: &[f64], size: usize) -> Finished
+pub fn clock_home(timed: Timed, distances: &[f64], times: &[f64], size: usize) -> Option<Scheduled>
     requires { AllOpen distances.now × AllOpen times.now }
     ensures { let leg = Lookup.drive_f distances.now times.now size in
-        finished_of result ≡ home_from_f leg (clocked_at (timed_of timed)) }
+        result ≡ home_from_f leg (clocked_at (timed_of timed)) }
 {
     let clock = timed.clock;
     let prev = clock.prev;

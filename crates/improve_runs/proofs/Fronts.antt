@@ -3,10 +3,10 @@ use Prim.Native.Nat.{ℕ, zero, suc, ◌+◌, ◌-◌, ◌<◌, ◌≤◌}
 use native.Mathlib.Omega.{arith}
 use native.Mathlib.Nat.{sub-zero, zero-sub}
 use native.Mathlib.Numerals.{add-one}
-use mathlib.Core.Path.{◌≡◌, sym, ap, ap₂, ◌∙◌}
-use mathlib.Core.List.{List, [], ◌∷◌, ◌++◌, append_assoc, append-nil}
+use mathlib.Core.Path.{◌≡◌, refl, sym, ap, ap₂, ◌∙◌}
+use mathlib.Core.List.{List, [], ◌∷◌, ◌++◌, append_assoc}
 use lib.ListN.{length, get_or, set, take, drop, length-append, length-take, length-set}
-use lib.Seq.{take-suc, take-suc-set, take_all, length-take-le, get_or-take, take-nil}
+use lib.Seq.{take-suc, take-suc-set, take_all, length-take-le, get_or-take, take-nil, take_at}
 use Rattle.improve_runs.specs.RunLists.{room, Front}
 
 module _ {A : Type 0} where
@@ -32,6 +32,10 @@ module _ {A : Type 0} where
   pub front_same : {l m a : List A} → l ≡ m → Front l a → Front m a
   front_same {a} e F = rw e at F
 
+  -- a list and what stands behind it
+  pub front-of : (l rest : List A) → length (l ++ rest) ≡ room → Front l (l ++ rest)
+  front-of l rest long = record { long = long; fits = omega (arith, length-append l rest); is = take_at l rest (length l) refl }
+
   -- what stands at i
   pub front_at : {l a : List A} → Front l a → (i : ℕ) (d : A) → i < length l → get_or a i d ≡ get_or l i d
   front_at {l} {a} F i d h = sym (get_or-take (length l) a i d h) ∙ ap (λ (t : List A). get_or t i d) F.is
@@ -53,9 +57,6 @@ module _ {A : Type 0} where
 
   -- ---- another list copied behind the first elements, element by element
 
-  pub pasted-none : (to from : List A) (at : ℕ) → length to ≡ room → at ≤ room → Front (take at to ++ take 0 from) to
-  pasted-none to from at long h = front_same (sym (append-nil (take at to))) (front-take to at long h)
-
   pub pasted-more : (to from new : List A) (at k : ℕ) (x d : A) → length to ≡ room → at + length from ≤ room → k < length from → x ≡ get_or from k d
       → Front (take at to ++ take k from) new → Front (take at to ++ take (k + 1) from) (set new (at + k) x)
   pasted-more to from new at k x d long h b e F =
@@ -64,9 +65,6 @@ module _ {A : Type 0} where
       let more : take (k + 1) from ≡ take k from ++ (x ∷ []) = ap (λ (n : ℕ). take n from) (add-one k) ∙ take-suc from k d b ∙ ap (λ (y : A). take k from ++ (y ∷ [])) (sym e) in
       front_same (append_assoc (take at to) (take k from) (x ∷ []) ∙ ap (λ (t : List A). take at to ++ t) (sym more))
       (front-more F (at + k) x (length-append (take at to) (take k from) ∙ ap₂ (λ (m n : ℕ). m + n) front done) (omega arith))
-
-  pub pasted-all : (to from new : List A) (at k : ℕ) → length from ≤ k → Front (take at to ++ take k from) new → Front (take at to ++ from) new
-  pasted-all to from new at k h F = front_same (ap (λ (t : List A). take at to ++ t) (take_all k from h)) F
 
   -- a whole array
   pub pasted-whole : (from a : List A) → length from ≡ room → Front from a → a ≡ from

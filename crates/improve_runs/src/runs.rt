@@ -10,11 +10,7 @@ pub fn paste(to: &mut [usize], at: usize, from: &[usize])
     requires { (length to.old ≡ room) × (at + length from.now ≤ room) }
     ensures { Front (take at to.old ++ from.now) to.new }
 {
-    let mut k = 0;
-    while k < from.len() {
-        to[at + k] = from[k];
-        k += 1;
-    }
+    to[at..at + from.len()].copy_from_slice(from);
 }
 
 // The same with run ends, each moved down by so much.
@@ -23,10 +19,8 @@ pub fn paste_moved(to: &mut [usize], at: usize, from: &[usize], down: usize)
     requires by_index { (k : ℕ) → k < length from.now → down ≤ get_or from.now k 0 }
     ensures { Front (take at to.old ++ map (shifted 0 down) from.now) to.new }
 {
-    let mut k = 0;
-    while k < from.len() {
-        to[at + k] = from[k] - down;
-        k += 1;
+    for (k, end) in from.iter().enumerate() {
+        to[at + k] = *end - down;
     }
 }
 
@@ -35,15 +29,8 @@ pub fn put_before(list: &mut [usize], n: usize, at: usize, c: usize)
     requires { (length list.old ≡ room) × (at ≤ n) × (n < room) }
     ensures { Front (insert_at at c (take n list.old)) list.new }
 {
-    let mut carried = c;
-    let mut i = at;
-    while i < n {
-        let next = list[i];
-        list[i] = carried;
-        carried = next;
-        i += 1;
-    }
-    list[n] = carried;
+    list.copy_within(at..n, at + 1);
+    list[at] = c;
 }
 
 // Moves the run ends from number k on up by one.
@@ -53,10 +40,8 @@ pub fn raise(ends: &mut [usize], k: usize, count: usize)
     ensures { let old = ends.old in
         Front (take k old ++ map (shifted 1 0) (take (count - k) (drop k old))) ends.new }
 {
-    let mut i = k;
-    while i < count {
-        ends[i] = ends[i] + 1;
-        i += 1;
+    for end in &mut ends[k..count] {
+        *end += 1;
     }
 }
 
@@ -111,12 +96,9 @@ pub fn lengths_of(ends: &[usize], count: usize) -> [usize; 128]
 {
     let mut lengths = [0usize; 128];
     let mut prev = 0;
-    let mut k = 0;
-    while k < count {
-        let end = ends[k];
-        lengths[k] = end - prev;
-        prev = end;
-        k += 1;
+    for (k, end) in ends[..count].iter().enumerate() {
+        lengths[k] = *end - prev;
+        prev = *end;
     }
     lengths
 }
@@ -136,13 +118,10 @@ pub fn non_empty(ends: &[usize], count: usize, kept: &mut [usize]) -> usize
 {
     let mut n = 0;
     let mut prev = 0;
-    let mut i = 0;
-    while i < count {
-        let end = ends[i];
-        kept[n] = end;
-        n = counted(n, prev, end);
-        prev = end;
-        i += 1;
+    for end in &ends[..count] {
+        kept[n] = *end;
+        n = counted(n, prev, *end);
+        prev = *end;
     }
     n
 }

@@ -4,7 +4,7 @@ use native.Mathlib.Omega.{arith}
 use mathlib.Core.Path.{◌≡◌, refl, sym, ap, ap₂, subst, ◌∙◌}
 use mathlib.Core.Bool.{Bool, true, false, ◌&&◌}
 use mathlib.Core.List.{List, [], ◌∷◌, ◌++◌}
-use mathlib.Core.Option.{Option, none, some, map}
+use Rattle.std.specs.Prelude.{Option, None, Some, option_map}
 use lib.ListN.{length, get_or, take, drop}
 use lib.Seq.{length-take-le}
 use lib.Ieee.{Float}
@@ -90,49 +90,49 @@ module _ (s : Sheet) where
 hours-fx : (c : Customer) → SmallCustomer c → hours_of floats (fl_customer c) ≡ fx_hours (hours_e c)
 hours-fx c C = ap₂ (λ (x y : Float). record { ready = x; bound = y; service = fl c.service }) (opens c.window) (shuts c.window c.penalty C.window-small)
   where
-    opens : (w : Option Window) → opens_at floats (map fl_window w) ≡ fx (opens_at exts (map (map_window of) w))
-    opens none = refl
-    opens (some w) = refl
+    opens : (w : Option Window) → opens_at floats (option_map fl_window w) ≡ fx (opens_at exts (option_map (map_window of) w))
+    opens None = refl
+    opens (Some w) = refl
 
-    shuts : (w : Option Window) (p : Option ℕ) → Holds SmallWindow w → shuts_at floats (map fl_window w) (map fl p) ≡ fx (shuts_at exts (map (map_window of) w) (map of p))
-    shuts none p W = refl
-    shuts (some w) none W = fl-add w.due 1 (omega (arith, W.due-small)) (omega arith)
-    shuts (some w) (some p) W = refl
+    shuts : (w : Option Window) (p : Option ℕ) → Holds SmallWindow w → shuts_at floats (option_map fl_window w) (option_map fl p) ≡ fx (shuts_at exts (option_map (map_window of) w) (option_map of p))
+    shuts None p W = refl
+    shuts (Some w) None W = fl-add w.due 1 (omega (arith, W.due-small)) (omega arith)
+    shuts (Some w) (Some p) W = refl
 
 hours-small : (c : Customer) → SmallCustomer c → SmallHours (hours_e c)
 hours-small c C = record { ready-small = opens c.window C.window-small; bound-small = shuts c.window c.penalty C.window-small; service-small = C.service-small }
   where
-    opens : (w : Option Window) → Holds SmallWindow w → Upto most_number (opens_at exts (map (map_window of) w))
-    opens none W = omega arith
-    opens (some w) W = W.ready-small
+    opens : (w : Option Window) → Holds SmallWindow w → Upto most_number (opens_at exts (option_map (map_window of) w))
+    opens None W = omega arith
+    opens (Some w) W = W.ready-small
 
-    shuts : (w : Option Window) (p : Option ℕ) → Holds SmallWindow w → Upto (most_number + 1) (shuts_at exts (map (map_window of) w) (map of p))
-    shuts none p W = tt
-    shuts (some w) none W = omega (arith, W.due-small)
-    shuts (some w) (some p) W = tt
+    shuts : (w : Option Window) (p : Option ℕ) → Holds SmallWindow w → Upto (most_number + 1) (shuts_at exts (option_map (map_window of) w) (option_map of p))
+    shuts None p W = tt
+    shuts (Some w) None W = omega (arith, W.due-small)
+    shuts (Some w) (Some p) W = tt
 
 module _ (most : Option ℕ) (m : Holds Small most) where
-  above-fx : above floats (map fl most) ≡ fx (above exts (map of most))
+  above-fx : above floats (option_map fl most) ≡ fx (above exts (option_map of most))
   above-fx = go most m
     where
-      go : (o : Option ℕ) → Holds Small o → above floats (map fl o) ≡ fx (above exts (map of o))
-      go none h = refl
-      go (some n) h = fl-add n 1 (omega arith) (omega arith)
+      go : (o : Option ℕ) → Holds Small o → above floats (option_map fl o) ≡ fx (above exts (option_map of o))
+      go None h = refl
+      go (Some n) h = fl-add n 1 (omega arith) (omega arith)
 
-  above-small : Upto (most_number + 1) (above exts (map of most))
+  above-small : Upto (most_number + 1) (above exts (option_map of most))
   above-small = go most m
     where
-      go : (o : Option ℕ) → Holds Small o → Upto (most_number + 1) (above exts (map of o))
-      go none h = tt
-      go (some n) h = omega arith
+      go : (o : Option ℕ) → Holds Small o → Upto (most_number + 1) (above exts (option_map of o))
+      go None h = tt
+      go (Some n) h = omega arith
 
   abbrev day_by : Option Break → DayOf Ext
-  day_by o = day_of exts (map of most) (map (map_break of) o)
+  day_by o = day_of exts (option_map of most) (option_map (map_break of) o)
 
-  day-fx : (o : Option Break) → Holds SmallBreak o → day_of floats (map fl most) (map fl_break o) ≡ fx_day (day_by o)
-  day-fx none B = ap (λ (x : Float). record { long = x; spare = x; broken = false; earliest = fl 0; latest = fl 0; pause = fl 0 }) above-fx
-  day-fx (some b) B =
-      let long = above exts (map of most) in
+  day-fx : (o : Option Break) → Holds SmallBreak o → day_of floats (option_map fl most) (option_map fl_break o) ≡ fx_day (day_by o)
+  day-fx None B = ap (λ (x : Float). record { long = x; spare = x; broken = false; earliest = fl 0; latest = fl 0; pause = fl 0 }) above-fx
+  day-fx (Some b) B =
+      let long = above exts (option_map of most) in
       let long-fits = fit (most_number + 1) long (omega arith) above-small in
       let spare = ap (λ (x : Float). sooner floats x (fl b.earliest)) above-fx ∙ sooner-fx long (of b.earliest) long-fits (omega (arith, B.earliest-small)) in
       ap₂ (λ (x y : Float). record { long = x; spare = y; broken = true; earliest = fl b.earliest; latest = floats.plus (fl b.latest) (fl 1); pause = fl b.duration }) above-fx spare
@@ -140,24 +140,24 @@ module _ (most : Option ℕ) (m : Holds Small most) where
       (fl-add b.latest 1 (omega (arith, B.latest-small)) (omega arith))
 
   day-small : (o : Option Break) → Holds SmallBreak o → SmallDay (day_by o)
-  day-small none B = record { long-small = above-small; spare-small = above-small; earliest-small = omega arith; latest-small = omega arith; pause-small = omega arith }
-  day-small (some b) B =
+  day-small None B = record { long-small = above-small; spare-small = above-small; earliest-small = omega arith; latest-small = omega arith; pause-small = omega arith }
+  day-small (Some b) B =
       record {
         long-small = above-small;
-        spare-small = sooner-upto (most_number + 1) (above exts (map of most)) (of b.earliest) above-small (omega (arith, B.earliest-small));
+        spare-small = sooner-upto (most_number + 1) (above exts (option_map of most)) (of b.earliest) above-small (omega (arith, B.earliest-small));
         earliest-small = B.earliest-small;
         latest-small = omega (arith, B.latest-small);
         pause-small = B.duration-small;
       }
 
-module _ (s : Sheet) (W : Within s) (none-closed : any_closed some s.legs ≡ false) (t : Tables) (I : Image s t) where
+module _ (s : Sheet) (W : Within s) (none-closed : any_closed Some s.legs ≡ false) (t : Tables) (I : Image s t) where
   abbrev S : Sized s
   S = sized s W
 
   opened : AllOpen t.distances × AllOpen t.times
   opened = tables-open s S none-closed t I W.closed-alike
 
-  way : (a b : ℕ) → (g : Leg) × (drive s a b ≡ some g)
+  way : (a b : ℕ) → (g : Leg) × (drive s a b ≡ Some g)
   way a b = let x = legs-open s W none-closed a b in (x.0, x.1)
 
   open-all : (a : ℕ) (cs : List ℕ) → Open s a cs
@@ -168,7 +168,7 @@ module _ (s : Sheet) (W : Within s) (none-closed : any_closed some s.legs ≡ fa
   travel-exact a b p q =
       let x = way a b in
       let read = drive-open t.distances t.times t.size a b opened _ _ refl refl in
-      let e = read ∙ leg-exact s S t I a b p q ∙ ap (map fl_leg) x.1 in
+      let e = read ∙ leg-exact s S t I a b p q ∙ ap (option_map fl_leg) x.1 in
       ap (λ (g : D.Leg). g.time) (same e) ∙ ap (λ (o : Option Leg). fl (travel_of o)) (sym x.1)
 
   travel-small : (a b : ℕ) → travel_of (drive s a b) ≤ most_number
@@ -260,6 +260,6 @@ module _ (s : Sheet) (W : Within s) (none-closed : any_closed some s.legs ≡ fa
         (timely-exact ∙ sym (timely-is s run pos c h) ∙ ap (λ (o : Option Leg). in_time exts (serves_e s (set_out exts) 0 new) (of (travel_of o)) (home exts (day_e s))) back.1)
         ∙ sym (feasible-is s new (distance_of (given_of s) new) (far (take pos run)) back.0 back.1 (open-all 0 new))
       where
-        far : (xs : List ℕ) → distance_from s 0 (xs ++ (c ∷ drop pos run)) ≡ some (distance_of (given_of s) (xs ++ (c ∷ drop pos run)))
+        far : (xs : List ℕ) → distance_from s 0 (xs ++ (c ∷ drop pos run)) ≡ Some (distance_of (given_of s) (xs ++ (c ∷ drop pos run)))
         far [] = run-open s W none-closed 0 (c ∷ drop pos run)
         far (x ∷ xs) = run-open s W none-closed 0 (x ∷ (xs ++ (c ∷ drop pos run)))

@@ -120,9 +120,6 @@ module _ (t : Tables) (day : DayOf Float) (run : List ℕ) where
             ∙ sym (bounds-turn floats (travel_f t) (hours_f t.customers) day run j (omega (arith, B.inside)));
       }
 
-  pub back_last : (pos i next : ℕ) (u : TimesOf Float) → Back pos i next u → i ≤ pos → u ≡ bounds_f t day (drop pos run)
-  back_last pos i next u B h = let e : i ≡ pos = omega (arith, B.from_on) in B.are ∙ ap (λ (n : ℕ). bounds_f t day (drop n run)) e
-
   -- written in front of those that are listed; none is before where nothing is
   pub listed_more : (j n : ℕ) (befores afters : List Float) → length befores ≡ 129 → length afters ≡ 129 → j < 129
       → ((k : ℕ) → n ≤ k → k ≤ length run → listed_at befores afters k ≡ bounds_f t day (drop k run)) → n ≤ j + 1

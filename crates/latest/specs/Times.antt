@@ -1,7 +1,6 @@
 -- A run's times, forward from the depot and back from its end: when its calls are left, and before when they have to be reached. By any
 -- numbers with an infinity. Definitions only.
-use Rattle.std.specs.Prelude.{ℕ, Bool, true, false, cond, ◌||◌, List, [], ◌∷◌, get_or, take, drop}
-use Rattle.std.proofs.Math.Option.{Option, none, some}
+use Rattle.std.specs.Prelude.{ℕ, Bool, true, false, cond, ◌||◌, List, [], ◌∷◌, get_or, take, drop, Option, None, Some}
 use Rattle.definitions.specs.Sheet.{WindowOf, BreakOf, CustomerOf}
 use Rattle.evaluation.specs.Tables.{place_before}
 
@@ -51,26 +50,26 @@ module _ {N : Type 0} (A : Arithmetic N) where
 
   -- above a limit, if there is one
   abbrev pub above : Option N → N
-  above none = A.top
-  above (some most) = A.plus most A.one
+  above None = A.top
+  above (Some most) = A.plus most A.one
 
   abbrev pub opens_at : Option (WindowOf N) → N
-  opens_at none = A.nought
-  opens_at (some w) = w.ready
+  opens_at None = A.nought
+  opens_at (Some w) = w.ready
 
   -- a window with a penalty lets in at any time
   abbrev pub shuts_at : Option (WindowOf N) → Option N → N
-  shuts_at none penalty = A.top
-  shuts_at (some w) none = A.plus w.due A.one
-  shuts_at (some w) (some p) = A.top
+  shuts_at None penalty = A.top
+  shuts_at (Some w) None = A.plus w.due A.one
+  shuts_at (Some w) (Some p) = A.top
 
   abbrev pub hours_of : CustomerOf N → HoursOf N
   hours_of c = record { ready = opens_at c.window; bound = shuts_at c.window c.penalty; service = c.service }
 
   abbrev pub day_of : Option N → Option (BreakOf N) → DayOf N
-  day_of most none =
+  day_of most None =
       record { long = above most; spare = above most; broken = false; earliest = A.nought; latest = A.nought; pause = A.nought }
-  day_of most (some b) =
+  day_of most (Some b) =
       record {
         long = above most;
         spare = sooner (above most) b.earliest;

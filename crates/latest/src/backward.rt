@@ -109,9 +109,7 @@ pub fn bounds_from(
 {
     let mut bounds = home(day);
     let mut next = 0;
-    let mut i = route.len();
-    while pos < i {
-        i -= 1;
+    for i in (pos..route.len()).rev() {
         let cid = route[i];
         bounds = back_to(
             day, cid, next, bounds, codes, figures, distances, times, size,
@@ -143,11 +141,10 @@ pub fn list_bounds(
 {
     let mut bounds = home(day);
     let mut next = 0;
-    let mut i = route.len();
-    befores[i] = bounds.before;
-    afters[i] = bounds.after;
-    while pos < i {
-        i -= 1;
+    let end = route.len();
+    befores[end] = bounds.before;
+    afters[end] = bounds.after;
+    for i in (pos..end).rev() {
         let cid = route[i];
         bounds = back_to(
             day, cid, next, bounds, codes, figures, distances, times, size,

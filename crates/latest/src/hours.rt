@@ -1,6 +1,6 @@
 // A call and a day by their times alone: what decides whether a run is in time.
 ghost use Rattle.std.specs.Prelude.{◌≡◌};
-ghost use Rattle.models.specs.Records.{customer_of, opening_of, penalty_of, limit_of};
+ghost use Rattle.models.specs.Records.{customer_of, opening_of};
 ghost use Rattle.evaluation.specs.Records.{limits_of};
 ghost use Rattle.cut_stops.specs.Stops.{numbers, Long, records_in};
 ghost use Rattle.latest.specs.Times.{sooner, above, opens_at, shuts_at, hours_of};
@@ -8,9 +8,8 @@ ghost use Rattle.latest.specs.Floats.{floats, hours_in, day_in, hours_f, day_f};
 
 use cut_stops::stops::customer_at;
 use evaluation::schedule::record_index;
-use models::customer::{Customer, Opening, Penalty};
-use models::limits::{Limit, RouteLimits};
-use models::vehicle::Rest;
+use models::customer::{Customer, TimeWindow};
+use models::limits::RouteLimits;
 use whole::infinity;
 
 // A call: from when on it is served, before when it has to be reached, and how long its service is.
@@ -41,25 +40,25 @@ pub fn smaller(a: f64, b: f64) -> f64
 }
 
 // From when on a call is served.
-pub fn opens_at(opening: Opening) -> f64
+pub fn opens_at(opening: Option<TimeWindow>) -> f64
     ensures { result ≡ opens_at floats (opening_of opening) }
 {
     match opening {
-        Opening::Always => 0.0,
-        Opening::Window(w) => w.ready,
+        None => 0.0,
+        Some(w) => w.ready,
     }
 }
 
 // Before when a call has to be reached: above due, and at any time where there is no window or a penalty.
-pub fn shuts_at(opening: Opening, penalty: Penalty) -> f64
-    ensures { result ≡ shuts_at floats (opening_of opening) (penalty_of penalty) }
+pub fn shuts_at(opening: Option<TimeWindow>, penalty: Option<f64>) -> f64
+    ensures { result ≡ shuts_at floats (opening_of opening) penalty }
 {
-    let Opening::Window(w) = opening else {
+    let Some(w) = opening else {
         return infinity();
     };
     match penalty {
-        Penalty::Hard => w.due + 1.0,
-        Penalty::Soft(_) => infinity(),
+        None => w.due + 1.0,
+        Some(_) => infinity(),
     }
 }
 
@@ -86,12 +85,12 @@ pub fn hours_at(codes: &[u32], figures: &[f64], cid: usize) -> Hours
 }
 
 // Above a limit.
-pub fn above_limit(limit: Limit) -> f64
-    ensures { result ≡ above floats (limit_of limit) }
+pub fn above_limit(limit: Option<f64>) -> f64
+    ensures { result ≡ above floats limit }
 {
     match limit {
-        Limit::Unlimited => infinity(),
-        Limit::At(most) => most + 1.0,
+        None => infinity(),
+        Some(most) => most + 1.0,
     }
 }
 
@@ -103,7 +102,7 @@ pub fn day_of(limits: RouteLimits) -> Day
     let max = limits.max_duration;
     let long = above_limit(max);
     match rest {
-        Rest::Unbroken => Day {
+        None => Day {
             long,
             spare: long,
             broken: false,
@@ -111,7 +110,7 @@ pub fn day_of(limits: RouteLimits) -> Day
             latest: 0.0,
             pause: 0.0,
         },
-        Rest::Break(b) => Day {
+        Some(b) => Day {
             long,
             spare: smaller(long, b.earliest),
             broken: true,

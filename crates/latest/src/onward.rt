@@ -109,14 +109,11 @@ pub fn serve_all(
 {
     let mut left = from;
     let mut last = place;
-    let mut i = 0;
-    while i < calls.len() {
-        let cid = calls[i];
+    for &cid in calls {
         let travel = open_time(distances, times, size, last, cid);
         let hours = hours_at(codes, figures, cid);
         left = serve(day, hours, travel, left);
         last = cid;
-        i += 1;
     }
     left
 }

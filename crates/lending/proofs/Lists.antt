@@ -5,8 +5,8 @@ use native.Mathlib.Omega.{arith}
 use native.Mathlib.Decide.{dec_le}
 use native.Mathlib.Nat.{not-suc-le-zero, le_of_suc-le-suc}
 use native.Mathlib.Numerals.{add-one}
-use mathlib.Core.List.{List, [], ◌∷◌}
-use lib.ListN.{length, get_or, set, take, replicate}
+use mathlib.Core.List.{List, [], ◌∷◌, ◌++◌}
+use lib.ListN.{length, get_or, set, take, drop, replicate}
 use lib.Seq.{take_all, take-length}
 use Rattle.definitions.specs.Room.{written}
 use Rattle.models.specs.Records.{depot_record}
@@ -21,7 +21,7 @@ padded-length zero xs = refl
 padded-length (suc k) [] = ap suc (padded-length k [])
 padded-length (suc k) (x ∷ xs) = ap suc (padded-length k xs)
 
-pub padded-none : (k : ℕ) → replicate k depot_record ≡ padded k []
+padded-none : (k : ℕ) → replicate k depot_record ≡ padded k []
 unfolding padded
 padded-none zero = refl
 padded-none (suc k) = ap (λ (l : List Customer). depot_record ∷ l) (padded-none k)
@@ -38,25 +38,15 @@ take-padded (suc n) (suc k) (x ∷ xs) l m = ap (λ (l : List Customer). x ∷ l
 pub padded-whole : (k : ℕ) (xs : List Customer) → length xs ≤ k → take (length xs) (padded k xs) ≡ xs
 padded-whole k xs l = take-padded (length xs) k xs l (omega arith) ∙ take-length xs
 
--- one record more
-set-padded : (k i : ℕ) (xs : List Customer) → i < k → i < length xs → set (padded k (take i xs)) i (get_or xs i depot_record) ≡ padded k (take (suc i) xs)
+-- the first n of xs before what an array of depot records has behind its first n: all of xs, or as many as the array has
+pub padded-written : (n k : ℕ) (xs : List Customer) → n ≡ min (length xs) k → take n xs ++ drop n (replicate k depot_record) ≡ padded k xs
 unfolding padded
-set-padded zero i xs l m = absurd (not-suc-le-zero l)
-set-padded (suc k) i [] l m = absurd (not-suc-le-zero m)
-set-padded (suc k) zero (x ∷ xs) l m = refl
-set-padded (suc k) (suc i) (x ∷ xs) l m = ap (λ (l : List Customer). x ∷ l) (set-padded k i xs (le_of_suc-le-suc l) (le_of_suc-le-suc m))
-
-pub padded-more : (k i : ℕ) (xs : List Customer) → i < k → i < length xs → set (padded k (take i xs)) i (get_or xs i depot_record) ≡ padded k (take (i + 1) xs)
-padded-more k i xs l m = set-padded k i xs l m ∙ ap (λ (j : ℕ). padded k (take j xs)) (sym (add-one i))
-
--- all of them
-pub padded-all : (k i : ℕ) (xs : List Customer) → min (length xs) k ≤ i → padded k (take i xs) ≡ padded k xs
-unfolding padded
-padded-all zero i xs l = refl
-padded-all (suc k) zero [] l = refl
-padded-all (suc k) zero (x ∷ xs) l = absurd (omega arith)
-padded-all (suc k) (suc i) [] l = refl
-padded-all (suc k) (suc i) (x ∷ xs) l = ap (λ (l : List Customer). x ∷ l) (padded-all k i xs (omega arith))
+padded-written zero zero xs e = refl
+padded-written zero (suc k) [] e = padded-none (suc k)
+padded-written zero (suc k) (x ∷ xs) e = absurd (omega arith)
+padded-written (suc n) zero xs e = absurd (omega arith)
+padded-written (suc n) (suc k) [] e = absurd (omega arith)
+padded-written (suc n) (suc k) (x ∷ xs) e = ap (λ (l : List Customer). x ∷ l) (padded-written n k xs (omega arith))
 
 -- ---- any list
 
@@ -64,18 +54,6 @@ module _ {X : Type 0} where
   -- the first n of xs at the front of ys
   unfoldable pub front : ℕ → List X → List X → List X
   front n xs ys = written (take n xs) ys
-
-  pub get_d_any : (xs : List X) (i : ℕ) (d e : X) → i < length xs → get_or xs i d ≡ get_or xs i e
-  get_d_any [] i d e l = absurd (not-suc-le-zero l)
-  get_d_any (x ∷ xs) zero d e l = refl
-  get_d_any (x ∷ xs) (suc i) d e l = get_d_any xs i d e (le_of_suc-le-suc l)
-
-  pub front_length : (n : ℕ) (xs ys : List X) → n ≤ length ys → length (front n xs ys) ≡ length ys
-  unfolding front
-  front_length zero xs ys l = refl
-  front_length (suc n) [] ys l = refl
-  front_length (suc n) (x ∷ xs) [] l = absurd (not-suc-le-zero l)
-  front_length (suc n) (x ∷ xs) (y ∷ ys) l = ap suc (front_length n xs ys (le_of_suc-le-suc l))
 
   front-next : (i : ℕ) (xs ys : List X) (d : X) → i < length xs → i < length ys → set (front i xs ys) i (get_or xs i d) ≡ front (suc i) xs ys
   unfolding front

@@ -36,12 +36,7 @@ pub fn gathered(customers: &[Customer]) -> [Customer; 64]
 {
     let n = fewer(customers.len(), 64);
     let mut all = depots();
-    let mut i = 0;
-    while i < n {
-        let c = customer_at(customers, i);
-        all[i] = c;
-        i += 1;
-    }
+    all[..n].copy_from_slice(&customers[..n]);
     all
 }
 
@@ -51,9 +46,5 @@ pub fn scattered(records: [Customer; 64], n: usize, customers: &mut [Customer])
         customers.new ≡ written (take (min n (length old)) records) old }
 {
     let m = fitting(n, 64, customers.len());
-    let mut i = 0;
-    while i < m {
-        customers[i] = records[i];
-        i += 1;
-    }
+    customers[..m].copy_from_slice(&records[..m]);
 }

@@ -1,13 +1,12 @@
 -- The lines of the listing by what they show, with the start of a run's break given. Definitions only.
-use Rattle.std.specs.Prelude.{ℕ, zero, suc, List, [], ◌++◌}
-use Rattle.std.proofs.Math.Option.{Option, none, some}
+use Rattle.std.specs.Prelude.{ℕ, zero, suc, List, [], ◌++◌, Option, None, Some}
 use Rattle.definitions.specs.Drop.{Result}
 use Rattle.definitions.specs.Listing.{text, spaced, end_of_line, customers_text, rest_text}
 
 -- the start of a break that has a place
 abbrev pub start_if : ℕ → ℕ → Option ℕ
-start_if zero start = none
-start_if (suc k) start = some start
+start_if zero start = None
+start_if (suc k) start = Some start
 
 -- a run: customers, then its break
 abbrev pub run_text : List ℕ → ℕ → Option ℕ → List ℕ

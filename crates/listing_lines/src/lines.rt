@@ -15,10 +15,8 @@ pub fn customers(out: &mut [u8], at: usize, calls: &[usize]) -> usize
     ensures short { result ≤ at + 21 * length calls.now }
 {
     let mut end = at;
-    let mut k = 0;
-    while k < calls.len() {
-        end = spaced(&mut *out, end, calls[k] as u64);
-        k += 1;
+    for &call in calls {
+        end = spaced(&mut *out, end, call as u64);
     }
     end
 }

@@ -31,13 +31,10 @@ pub fn run_lines(
 {
     let mut end = at;
     let mut from = 0;
-    let mut k = 0;
-    while k < ends.len() {
-        let to = ends[k];
+    for (k, &to) in ends.iter().enumerate() {
         let start = whole_part(starts[k]);
         end = run_line(&mut *out, end, &calls[from..to], places[k], start);
         from = to;
-        k += 1;
     }
     end
 }
@@ -58,10 +55,8 @@ pub fn drop_lines(out: &mut [u8], at: usize, tour: &[usize], dropped: &[usize]) 
     ensures short { result ≤ at + 26 * length dropped.now }
 {
     let mut end = at;
-    let mut k = 0;
-    while k < dropped.len() {
-        end = drop_line(&mut *out, end, call_at(tour, dropped[k]));
-        k += 1;
+    for &position in dropped {
+        end = drop_line(&mut *out, end, call_at(tour, position));
     }
     end
 }

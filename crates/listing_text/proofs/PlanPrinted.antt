@@ -4,7 +4,7 @@ use native.Mathlib.Omega.{arith}
 use mathlib.Core.Path.{◌≡◌, refl, sym, ap, ap₂, ◌∙◌}
 use mathlib.Core.Bool.{true}
 use mathlib.Core.List.{List, [], ◌∷◌, ◌++◌, map}
-use mathlib.Core.Option.{Option, none, some}
+use Rattle.std.specs.Prelude.{Option, None, Some}
 use lib.Ieee.{Float}
 use lib.ListN.{length, take, length-append}
 use Rattle.basics.proofs.TestLaws.{both}
@@ -90,8 +90,8 @@ module _ (s : Sheet) (S : Sized s) where
   start_small r few = go (start_of s r) refl
     where
       go : (o : Option ℕ) → start_of s r ≡ o → value_or 0 o ≤ limit
-      go none e = omega arith
-      go (some v) e = omega (arith, start-most s S r.calls r.place few v e)
+      go None e = omega arith
+      go (Some v) e = omega (arith, start-most s S r.calls r.place few v e)
 
   starts-whole : (runs : List Run) → length (joined runs) ≤ most_calls → map whole_part (map fl (starts s runs)) ≡ starts s runs
   starts-whole [] few = refl

@@ -4,7 +4,7 @@ use native.Mathlib.Omega.{arith}
 use mathlib.Core.Path.{◌≡◌, refl}
 use mathlib.Core.Bool.{Bool, true, false, not}
 use mathlib.Core.List.{List, [], ◌∷◌}
-use mathlib.Core.Option.{Option, none, some, map}
+use Rattle.std.specs.Prelude.{Option, None, Some, option_map}
 use lib.ListN.{length}
 use lib.Dec.{ltb}
 use borrow.Author.Tests.{ltb-true}
@@ -46,12 +46,12 @@ Fit planner cost (road_closed run leg) = Unit {0}
 -- ---- single numbers
 
 due-fits : (w : Option Window) → Holds SmallWindow w → due_of w ≤ limit
-due-fits none W = omega arith
-due-fits (some w) W = omega arith
+due-fits None W = omega arith
+due-fits (Some w) W = omega arith
 
 earliest-fits : (o : Option Break) → Holds SmallBreak o → ((break_or o).earliest ≤ limit) × ((break_or o).latest ≤ limit)
-earliest-fits none B = (omega arith, omega arith)
-earliest-fits (some b) B = (omega arith, omega arith)
+earliest-fits None B = (omega arith, omega arith)
+earliest-fits (Some b) B = (omega arith, omega arith)
 
 module _ (planner cost : ℕ) where
   abbrev F : Verdict → Type 0
@@ -60,16 +60,16 @@ module _ (planner cost : ℕ) where
   -- ---- where there may be a verdict
 
   or-fits : (a b : Option Verdict) → Holds F a → Holds F b → Holds F (or_else a b)
-  or-fits none b p q = q
-  or-fits (some v) b p q = p
+  or-fits None b p q = q
+  or-fits (Some v) b p q = p
 
   given-fits : (t : Bool) (v : Verdict) → F v → Holds F (given t v)
   given-fits true v p = p
   given-fits false v p = tt
 
   value-fits : (v : Verdict) (o : Option Verdict) → F v → Holds F o → F (value_or v o)
-  value-fits v none p q = p
-  value-fits v (some w) p q = q
+  value-fits v None p q = p
+  value-fits v (Some w) p q = q
 
   -- ---- the faults
 
@@ -79,8 +79,8 @@ module _ (planner cost : ℕ) where
     arrival-fits j few here H k c arrival h = go (ready here arrival) refl
       where
         go : (o : Option ℕ) → ready here arrival ≡ o → F (arrival_fault s n here k c arrival)
-        go none e = let B = earliest-fits here H in rw (e, arrival_fault) (omega (arith, h, B.0), B.1)
-        go (some r) e = rw (e, arrival_fault) (omega (arith, ready-most here H j arrival h r e), due-fits (customer s c).window (customer-small s S c).window-small)
+        go None e = let B = earliest-fits here H in rw (e, arrival_fault) (omega (arith, h, B.0), B.1)
+        go (Some r) e = rw (e, arrival_fault) (omega (arith, ready-most here H j arrival h r e), due-fits (customer s c).window (customer-small s S c).window-small)
 
     call_fits : (j : ℕ) → j < most_calls → (here : Option Break) → Holds SmallBreak here → (k a c : ℕ) (l : Label) → Early j l → F (call_fault s n here k a c l)
     call_fits j few here H k a c l E =
@@ -101,8 +101,8 @@ module _ (planner cost : ℕ) where
 
         go : (o : Option Label) → serve s (break_at s place k) k a c l ≡ o → ((m : Label) → Early (suc j) m → Holds F (walk_fault s n place (suc k) c m cs))
             → Holds F (walk_fault s n place k a l (c ∷ cs))
-        go none e rest = rw (e, walk_fault) (call_fits j few (break_at s place k) H k a c l E)
-        go (some m) e rest =
+        go None e rest = rw (e, walk_fault) (call_fits j few (break_at s place k) H k a c l E)
+        go (Some m) e rest =
             let (g, way, q) = bound (drive s a c) (λ (leg : Leg). serve_at (customer s c) (break_at s place k) k leg.travel l) m e in
             rw (e, walk_fault) (rest m (serve-early j few (customer s c) (customer-small s S c) (break_at s place k) H k g.travel (leg-small s S a c g way).1 l E m q))
 
@@ -124,9 +124,9 @@ module _ (planner cost : ℕ) where
     load_fits : (calls : List ℕ) → F (overload_of n (load s calls) s.head.capacity)
     load_fits calls = by-test (seated (load s calls) s.head.capacity) (λ t. rw t tt) (λ f. rw f tt)
 
-    closed-fits : (o : Option ℕ) → Holds F (map (road_closed n) o)
-    closed-fits none = tt
-    closed-fits (some leg) = tt
+    closed-fits : (o : Option ℕ) → Holds F (option_map (road_closed n) o)
+    closed-fits None = tt
+    closed-fits (Some leg) = tt
 
     run_fits : (r : Run) → length r.calls ≤ most_calls → Holds F (run_fault s n r)
     unfolding run_fault
@@ -135,13 +135,13 @@ module _ (planner cost : ℕ) where
         let heavy = overload_of n (load s r.calls) s.head.capacity in
         let walked = walk_fault s n r.place 1 0 start r.calls in
         let home = ride s r >>= total_fault s n r in
-        or-fits (map (road_closed n) (first_closed s r.calls)) (or_else (given unfit heavy) (or_else walked home)) (closed-fits (first_closed s r.calls))
+        or-fits (option_map (road_closed n) (first_closed s r.calls)) (or_else (given unfit heavy) (or_else walked home)) (closed-fits (first_closed s r.calls))
         (or-fits (given unfit heavy) (or_else walked home) (given-fits unfit heavy (load_fits r.calls))
         (or-fits walked home (walk-fits r.place 0 1 0 start r.calls (omega arith) start-early) (go (ride s r) refl)))
       where
         go : (o : Option Totals) → ride s r ≡ o → Holds F (o >>= total_fault s n r)
-        go none e = tt
-        go (some t) e = total-fits r t few (ride-most s S r few t e)
+        go None e = tt
+        go (Some t) e = total-fits r t few (ride-most s S r few t e)
 
   first_fits : (s : Sheet) → Sized s → (n : ℕ) (rs : List Run) → All (λ (r : Run). length r.calls ≤ most_calls) rs → Holds F (first_fault s n rs)
   first_fits s S n [] i = tt
@@ -160,8 +160,8 @@ unfolding mark_against
 mark-fits s S plan runs i = go (differ 1 (joined runs) plan.served) refl
   where
     go : (o : Option ℕ) → differ 1 (joined runs) plan.served ≡ o → Fit plan.cost (cutting_cost s runs) (mark_against s plan runs)
-    go (some p) e = rw (e, mark_against) tt
-    go none e =
+    go (Some p) e = rw (e, mark_against) tt
+    go None e =
         let cost = cutting_cost s runs in
         rw (e, mark_against)
         (value-fits plan.cost cost (against plan.cost cost) (first_fault s 1 runs) (against-fits plan.cost cost) (first_fits plan.cost cost s S 1 runs i))

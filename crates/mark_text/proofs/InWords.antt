@@ -5,7 +5,7 @@ use native.Mathlib.Nat.{zero-add}
 use mathlib.Core.Path.{◌≡◌, refl, ap, ap₂, subst, ◌∙◌}
 use mathlib.Core.Bool.{cond}
 use mathlib.Core.List.{List, [], ◌++◌}
-use mathlib.Core.Option.{Option, none, some}
+use Rattle.std.specs.Prelude.{Option, None, Some}
 use lib.ListN.{length}
 use lib.Dec.{eqb}
 use lib.Ieee.{Float}
@@ -84,15 +84,15 @@ module _ (plan : Result) (calls : List ℕ) (cost : ℕ) (p : plan.cost ≤ limi
 
 -- ---- the mark of accepted runs
 
-module _ (l : Lent ℕ) (h : refusal_of some marking l ≡ none) where
+module _ (l : Lent ℕ) (h : refusal_of Some marking l ≡ None) where
   abbrev t : Sheet
-  t = whole_sheet some l.sheet
+  t = whole_sheet Some l.sheet
 
   abbrev runs : List Run
   runs = with_places (runs_of l.calls l.ends) l.breaks
 
-  A : Accepted some marking l
-  A = accepted-within some marking l h
+  A : Accepted Some marking l
+  A = accepted-within Some marking l h
 
   S : Sized t
   S = sized t A.within
@@ -140,16 +140,16 @@ module _ (s : Sheet) (W : Within s) (tour calls ends places : List ℕ) where
 
   -- the mark on the sheet that is meant, which is the sheet itself
   abbrev v : Whole.Verdict
-  v = mark_by by_clock (whole_sheet some s) tour (with_places (runs_of calls ends) places)
+  v = mark_by by_clock (whole_sheet Some s) tour (with_places (runs_of calls ends) places)
 
-  shown-is : shown s tour calls (mark_in (mark_of some given)) ≡ cutting_text s tour (Text.runs calls ends places)
+  shown-is : shown s tour calls (mark_in (mark_of Some given)) ≡ cutting_text s tour (Text.runs calls ends places)
   unfolding answer
-  shown-is = go (refusal_of some marking given) refl
+  shown-is = go (refusal_of Some marking given) refl
     where
-      go : (o : Option ℕ) → refusal_of some marking given ≡ o
+      go : (o : Option ℕ) → refusal_of Some marking given ≡ o
           → shown s tour calls (mark_in (unless_refused o v)) ≡ answer_text tour (split_tw s tour) calls (runs_cost s calls ends places) (unless_refused o v)
-      go (some n) e = refl
-      go none e =
+      go (Some n) e = refl
+      go None e =
           subst
           (λ (u : Sheet). let x = split_tw u tour in
           verdict_text_f tour x.served x.dropped (fl x.cost) calls (fl_verdict v) ≡ verdict_text tour x calls (runs_cost u calls ends places) v)

@@ -5,7 +5,7 @@ use native.Mathlib.Nat.{zero-add, add-zero, add_assoc}
 use mathlib.Core.Path.{◌≡◌, refl, ap, ◌∙◌}
 use mathlib.Core.Bool.{false}
 use mathlib.Core.List.{List, [], ◌∷◌}
-use mathlib.Core.Option.{Option, none, some}
+use Rattle.std.specs.Prelude.{Option, None, Some}
 use lib.ListN.{length}
 use lib.Dec.{ltb}
 use borrow.Author.Tests.{ltb-true}
@@ -50,8 +50,8 @@ module _ (s : Sheet) (S : Sized s) (G : Ground) (I : Image s G) where
       go : (o : Option Whole.Verdict) → run_fault s n r ≡ o
           → runs_mark_f G (suc n) (fl (total + run_cost s r)) rs ≡ fl_marked (first_fault s (suc n) rs) (total + run_cost s r + cutting_cost s rs)
           → runs_mark_f G n (fl total) (r ∷ rs) ≡ fl_marked (first_fault s n (r ∷ rs)) (total + cutting_cost s (r ∷ rs))
-      go (some v) e ih = rw (here ∙ ap (λ (o : Option Whole.Verdict). fl_marked o (run_cost s r)) e, runs_mark_f, e)
-      go none e ih =
+      go (Some v) e ih = rw (here ∙ ap (λ (o : Option Whole.Verdict). fl_marked o (run_cost s r)) e, runs_mark_f, e)
+      go None e ih =
           rw (here ∙ ap (λ (o : Option Whole.Verdict). fl_marked o (run_cost s r)) e, runs_mark_f, e)
           (rw (fl-sum total (run_cost s r) (omega arith)) (ih ∙ ap (λ (c : ℕ). fl_marked (first_fault s (suc n) rs) c) (add_assoc total (run_cost s r) (cutting_cost s rs))))
 
@@ -66,8 +66,8 @@ module _ (planner cost : ℕ) (p : planner ≤ limit) (q : cost ≤ limit) where
       (λ f. by-test (ltb cost planner) (λ t. let h = ltb-true cost planner t in rw (f, t, fl-sub planner cost p q (omega arith))) (λ g. rw (f, g))))
 
   verdict-exact : (o : Option Whole.Verdict) → verdict_f (fl planner) (fl_marked o cost) ≡ fl_verdict (value_or (against planner cost) o)
-  verdict-exact none = against-exact
-  verdict-exact (some v) = refl
+  verdict-exact None = against-exact
+  verdict-exact (Some v) = refl
 
 -- ---- the mark
 
@@ -100,12 +100,12 @@ module _ (s : Sheet) (W : Within s) (G : Ground) (I : Image s G) (plan : Result)
     where
       go : (o : Option ℕ)
           → elim o [
-            | some position ↦ OtherCalls position
-            | none ↦ verdict_f (fl plan.cost) (runs_mark_f G 1 (fl 0) runs)
+            | Some position ↦ OtherCalls position
+            | None ↦ verdict_f (fl plan.cost) (runs_mark_f G 1 (fl 0) runs)
           ]
           ≡ fl_verdict (elim o [
-            | some position ↦ other_calls position
-            | none ↦ value_or (against plan.cost (cutting_cost s runs)) (first_fault s 1 runs)
+            | Some position ↦ other_calls position
+            | None ↦ value_or (against plan.cost (cutting_cost s runs)) (first_fault s 1 runs)
           ])
-      go (some position) = refl
-      go none = rw marked (verdict-exact plan.cost (cutting_cost s runs) paid cost-in-limit (first_fault s 1 runs))
+      go (Some position) = refl
+      go None = rw marked (verdict-exact plan.cost (cutting_cost s runs) paid cost-in-limit (first_fault s 1 runs))

@@ -1,13 +1,13 @@
 -- On a sheet within the limits, held in floats, the mark of a run is that of crates/definitions: its first fault, and else its cost. Assumes nothing.
+use Rattle.clock.specs.declared.schedule.Scheduled.{Scheduled}
 use Prim.Native.Nat.{ℕ, zero, suc, ◌+◌, ◌≤◌}
 use native.Mathlib.Omega.{arith}
 use native.Mathlib.Nat.{zero-add}
 use mathlib.Core.Path.{◌≡◌, refl, ap, ap₂, ◌∙◌}
 use mathlib.Core.Bool.{not}
 use mathlib.Core.List.{List, [], ◌∷◌}
-use mathlib.Core.Option.{Option, none, some, map}
+use Rattle.std.specs.Prelude.{Option, None, Some, option_map, Result, Err, Float}
 use lib.ListN.{length}
-use Rattle.marker.specs.declared.run.Marked.TheVariants.{Faulty}
 use Rattle.basics.proofs.TestLaws.{by-test}
 use Rattle.basics.specs.Options.{◌>>=◌, Holds, or_else, given}
 use Rattle.basics.specs.Lists.{All}
@@ -36,8 +36,7 @@ use Rattle.evaluation.specs.Tables.{demand_f}
 use Rattle.evaluation.specs.Image.{fl_limits}
 use Rattle.evaluation.proofs.ClockExact.{demand-exact}
 use Rattle.evaluation.proofs.RouteExact.{first-closed-exact}
-use Rattle.marker.specs.declared.walk.Walked.{Walked}
-use Rattle.marker.specs.declared.run.Marked.{Marked}
+use Rattle.marker.specs.declared.verdict.Verdict as Code
 use Rattle.marker.specs.Walking.{walk_f}
 use Rattle.marker.specs.RunMark.{Ground, placed_f, totals_mark_f, walk_mark_f, load_mark_f, legs_mark_f, run_mark_f, overload_f}
 use Rattle.marker.specs.Image.{fl_marked, Image, fl_verdict}
@@ -56,15 +55,15 @@ module _ (s : Sheet) (S : Sized s) (G : Ground) (I : Image s G) where
 
 -- ---- totals
 
-placed-exact : (o : Option Break) → Holds SmallBreak o → (place n duration : ℕ) → duration ≤ limit → placed_f (map fl_break o) place n (fl duration) ≡ placed o place n duration
+placed-exact : (o : Option Break) → Holds SmallBreak o → (place n duration : ℕ) → duration ≤ limit → placed_f (option_map fl_break o) place n (fl duration) ≡ placed o place n duration
 unfolding placed_f placed
-placed-exact none B place n duration h = refl
-placed-exact (some b) B zero n duration h = excused-exact b B duration h
-placed-exact (some b) B (suc k) n duration h = refl
+placed-exact None B place n duration h = refl
+placed-exact (Some b) B zero n duration h = excused-exact b B duration h
+placed-exact (Some b) B (suc k) n duration h = refl
 
 small-limit : (o : Option ℕ) → Holds Inside.Small o → Small o
-small-limit none h = tt
-small-limit (some n) h = omega arith
+small-limit None h = tt
+small-limit (Some n) h = omega arith
 
 module _ (s : Sheet) (S : Sized s) (n place : ℕ) (calls : List ℕ) (few : length calls ≤ most_calls) (u : Totals) (T : SmallTotals (length calls) u) where
   fit : TotalsFit u
@@ -96,20 +95,20 @@ module _ (s : Sheet) (S : Sized s) (n place : ℕ) (calls : List ℕ) (few : len
 
 module _ (s : Sheet) (S : Sized s) (G : Ground) (I : Image s G) (n place : ℕ) (calls : List ℕ) (few : length calls ≤ most_calls) (inside : All (Place s) calls) where
   abbrev last : Option Whole.Label
-  last = serve_all s place 1 0 (some start) calls
+  last = serve_all s place 1 0 (Some start) calls
 
   -- by the walk, and then by the totals
-  abbrev marked : Marked
+  abbrev marked : Result Float Code.Verdict
   marked =
       fl_marked (or_else (walk_fault s n place 1 0 start calls) (ride s (run_of calls place) >>= total_fault s n (run_of calls place))) (run_cost s (run_of calls place))
 
   -- a run so long, with the way home `w`: none of its legs is closed
-  module _ (d : ℕ) (far : distance_from s 0 calls ≡ some d) (w : Leg) (back : drive s (last_of 0 calls) 0 ≡ some w) where
-    rode : (l : Whole.Label) → last ≡ some l → ride s (run_of calls place) ≡ some (home_by s calls d w.travel l)
+  module _ (d : ℕ) (far : distance_from s 0 calls ≡ Some d) (w : Leg) (back : drive s (last_of 0 calls) 0 ≡ Some w) where
+    rode : (l : Whole.Label) → last ≡ Some l → ride s (run_of calls place) ≡ Some (home_by s calls d w.travel l)
     unfolding ride
     rode l e = rw e (home-is s calls d w far back l)
 
-    walked-exact : (x : Walked) → Walks (walk_fault s n place 1 0 start calls) last (0 + d) w.travel x
+    walked-exact : (x : (Result Scheduled Code.Verdict)) → Walks (walk_fault s n place 1 0 start calls) last (0 + d) w.travel x
         → walk_mark_f (fl_limits s) (fl s.head.fixed) n place (length calls) x ≡ marked
     unfolding run_cost
     walked-exact x (stops v p q) = rw (q, p)
@@ -123,7 +122,7 @@ module _ (s : Sheet) (S : Sized s) (G : Ground) (I : Image s G) (n place : ℕ) 
         (walk-exact s S G.tables I.tables-hold n place 0 1 0 0 start calls d far w back (omega arith) (depot-inside s S) inside start-early (omega (arith, distance_most s S 0 calls d far)))
 
   -- each measure has its verdict
-  by-measure : Faulty (overload_f n (load s calls) s.head.capacity) ≡ Faulty (fl_verdict (overload_of n (load s calls) s.head.capacity))
+  by-measure : ◌≡◌ {A = Result Float Code.Verdict} (Err (overload_f n (load s calls) s.head.capacity)) (Err (fl_verdict (overload_of n (load s calls) s.head.capacity)))
   by-measure = by-test (seated (load s calls) s.head.capacity) (λ t. rw t) (λ f. rw f)
 
   -- the load, the calls and the totals of a run with no closed leg
@@ -132,7 +131,7 @@ module _ (s : Sheet) (S : Sized s) (G : Ground) (I : Image s G) (n place : ℕ) 
       or_else (given (not (fits s calls)) (overload_of n (load s calls) s.head.capacity))
       (or_else (walk_fault s n place 1 0 start calls) (ride s (run_of calls place) >>= total_fault s n (run_of calls place)))
 
-  open-exact : first_closed s calls ≡ none → load_mark_f G n calls place (load_by (demand_f G.tables.customers) calls) ≡ fl_marked open_fault (run_cost s (run_of calls place))
+  open-exact : first_closed s calls ≡ None → load_mark_f G n calls place (load_by (demand_f G.tables.customers) calls) ≡ fl_marked open_fault (run_cost s (run_of calls place))
   open-exact o =
       let (d, far) = open-distance s 1 0 calls o in
       let (w, back) = distance-home s 0 calls d far in
@@ -144,6 +143,6 @@ module _ (s : Sheet) (S : Sized s) (G : Ground) (I : Image s G) (n place : ℕ) 
   run-exact = ap (legs_mark_f G n calls place) (first-closed-exact s S G.tables I.tables-hold calls inside) ∙ go (first_closed s calls) refl
     where
       -- a closed leg first
-      go : (o : Option ℕ) → first_closed s calls ≡ o → legs_mark_f G n calls place o ≡ fl_marked (or_else (map (road_closed n) o) open_fault) (run_cost s (run_of calls place))
-      go none e = open-exact e
-      go (some leg) e = refl
+      go : (o : Option ℕ) → first_closed s calls ≡ o → legs_mark_f G n calls place o ≡ fl_marked (or_else (option_map (road_closed n) o) open_fault) (run_cost s (run_of calls place))
+      go None e = open-exact e
+      go (Some leg) e = refl

@@ -16,8 +16,7 @@ use Rattle.definitions.specs.Marker.{with_places}
 use Rattle.theorems.proofs.RunListLaws.{RiseTo, rise-le}
 use Rattle.whole.specs.Whole.{fl}
 use Rattle.marker.specs.declared.verdict.Verdict.{Verdict}
-use Rattle.marker.specs.declared.run.Marked.{Marked}
-use Rattle.marker.specs.declared.run.Marked.TheVariants.{Faulty, Costs}
+use Rattle.std.specs.Prelude.{Result, Ok, Err}
 use Rattle.marker.specs.RunMark.{Ground, run_mark_f}
 use Rattle.marker.specs.Marks.{runs_mark_f}
 use Rattle.theorems.proofs.GivenRuns.{rises}
@@ -36,7 +35,7 @@ pub set_out : (G : Ground) (calls ends breaks : List ℕ) (total : Float) → fl
 set_out G calls ends breaks total e h = record { few = omega arith; rising = rises 0 ends (length calls) h; marked = rw e }
 
 module _ {G : Ground} {calls ends breaks : List ℕ} {total : Float} {p k : ℕ} (L : Left G calls ends breaks total p k) where
-  pub ended : length ends ≤ k → Costs total ≡ runs_mark_f G 1 (fl 0) (with_places (runs_of calls ends) breaks)
+  pub ended : length ends ≤ k → Ok total ≡ runs_mark_f G 1 (fl 0) (with_places (runs_of calls ends) breaks)
   unfolding runs_from runs_mark_f
   ended h = ap (λ (l : List ℕ). runs_mark_f G (k + 1) total (with_places (runs_from p (drop p calls) l) (drop k breaks))) (sym (drop_of_length-le ends h)) ∙ L.marked
 
@@ -48,9 +47,9 @@ module _ {G : Ground} {calls ends breaks : List ℕ} {total : Float} {p k : ℕ}
     pub next-inside : (p ≤ get_or ends k 0) × (get_or ends k 0 ≤ length calls)
     next-inside = (next-rises.0, rise-le (get_or ends k 0) (drop (k + 1) ends) (length calls) next-rises.1)
 
-    module _ (short : length ends ≤ length breaks) (m : Marked) (e : m ≡ run_mark_f G (k + 1) (take (get_or ends k 0 - p) (drop p calls)) (get_or breaks k 0)) where
+    module _ (short : length ends ≤ length breaks) (m : (Result Float Verdict)) (e : m ≡ run_mark_f G (k + 1) (take (get_or ends k 0 - p) (drop p calls)) (get_or breaks k 0)) where
       -- it costs so much
-      pub onward : (cost : Float) → m ≡ Costs cost → Left G calls ends breaks (Ieee.add binary64 total cost) (get_or ends k 0) (k + 1)
+      pub onward : (cost : Float) → m ≡ Ok cost → Left G calls ends breaks (Ieee.add binary64 total cost) (get_or ends k 0) (k + 1)
       unfolding runs_from runs_mark_f
       onward cost c =
           let g : k < length breaks = omega arith in
@@ -66,7 +65,7 @@ module _ {G : Ground} {calls ends breaks : List ℕ} {total : Float} {p k : ℕ}
           }
 
       -- it has a fault
-      pub stopped : (v : Verdict) → m ≡ Faulty v → m ≡ runs_mark_f G 1 (fl 0) (with_places (runs_of calls ends) breaks)
+      pub stopped : (v : Verdict) → m ≡ Err v → m ≡ runs_mark_f G 1 (fl 0) (with_places (runs_of calls ends) breaks)
       unfolding runs_from runs_mark_f
       stopped v f =
           let g : k < length breaks = omega arith in

@@ -1,6 +1,5 @@
 -- Verdicts of whole numbers, each figure held in a float, and a sheet of whole numbers as runs are marked on it. Definitions only.
-use Rattle.std.specs.Prelude.{ℕ, ◌≡◌}
-use Rattle.std.proofs.Math.Option.{Option, none, some}
+use Rattle.std.specs.Prelude.{ℕ, ◌≡◌, Option, None, Some, Result, Ok, Err, Float}
 use Rattle.definitions.specs.Sheet.{Sheet}
 use Rattle.definitions.specs.Marker as Whole
 use Rattle.definitions.specs.Marker.{other_calls, overload, break_too_late, window_missed, break_missing, too_far, too_long, best, dearer, cheaper, wheelchair_overload, road_closed}
@@ -9,8 +8,6 @@ use Rattle.evaluation.specs.Image.{fl_limits}
 use Rattle.evaluation.specs.Image as Tables
 use Rattle.marker.specs.declared.verdict.Verdict.{Verdict}
 use Rattle.marker.specs.declared.verdict.Verdict.TheVariants.{OtherCalls, Overload, BreakTooLate, WindowMissed, BreakMissing, TooFar, TooLong, Best, Dearer, Cheaper, WheelchairOverload, RoadClosed}
-use Rattle.marker.specs.declared.run.Marked.{Marked}
-use Rattle.marker.specs.declared.run.Marked.TheVariants.{Faulty, Costs}
 use Rattle.marker.specs.RunMark.{Ground}
 
 abbrev pub fl_verdict : Whole.Verdict → Verdict
@@ -28,9 +25,9 @@ fl_verdict (wheelchair_overload run load capacity) = WheelchairOverload run load
 fl_verdict (road_closed run leg) = RoadClosed run leg
 
 -- a fault, or the cost where there is none
-abbrev pub fl_marked : Option Whole.Verdict → ℕ → Marked
-fl_marked (some v) cost = Faulty (fl_verdict v)
-fl_marked none cost = Costs (fl cost)
+abbrev pub fl_marked : Option Whole.Verdict → ℕ → Result Float Verdict
+fl_marked (Some v) cost = Err (fl_verdict v)
+fl_marked None cost = Ok (fl cost)
 
 -- what is lent holds the sheet
 pub record Image (s : Sheet) (G : Ground) : Type 0 where

@@ -1,6 +1,5 @@
 -- The mark of one run on floats, step by step as the code has it. Definitions only.
-use Rattle.std.specs.Prelude.{ℕ, zero, suc, Bool, cond, List, leb, eqb, length, Float}
-use Rattle.std.proofs.Math.Option.{Option, none, some}
+use Rattle.std.specs.Prelude.{ℕ, zero, suc, Bool, cond, List, leb, eqb, length, Float, Option, None, Some, Result, Ok, Err}
 use Rattle.std.specs.Float.Ieee as Ieee
 use Rattle.std.specs.Float.{binary64}
 use Rattle.definitions.specs.Load.{Load, seated, carried, load_by}
@@ -18,10 +17,6 @@ use Rattle.evaluation.specs.Tables.{demand_f, leg_f}
 use Rattle.evaluation.specs.Way.{closed_f}
 use Rattle.marker.specs.declared.verdict.Verdict.{Verdict}
 use Rattle.marker.specs.declared.verdict.Verdict.TheVariants.{Overload, BreakMissing, TooFar, TooLong, WheelchairOverload, RoadClosed}
-use Rattle.marker.specs.declared.walk.Walked.{Walked}
-use Rattle.marker.specs.declared.walk.Walked.TheVariants.{Stopped, Home}
-use Rattle.marker.specs.declared.run.Marked.{Marked}
-use Rattle.marker.specs.declared.run.Marked.TheVariants.{Faulty, Costs}
 use Rattle.marker.specs.Walking.{break_or_f, walk_f}
 
 -- what runs are marked on
@@ -43,25 +38,25 @@ ground_of customers distances times head =
 
 -- a place that the break may have in a run of n calls that is home at `duration`
 unfoldable pub placed_f : Option (BreakOf Float) → ℕ → ℕ → Float → Bool
-placed_f none place n duration = eqb place 0
-placed_f (some b) zero n duration = excused_f b duration
-placed_f (some b) (suc k) n duration = leb (suc k) n
+placed_f None place n duration = eqb place 0
+placed_f (Some b) zero n duration = excused_f b duration
+placed_f (Some b) (suc k) n duration = leb (suc k) n
 
 -- run n of so many calls by its totals: a missing break where one is needed, distance, duration, and else its cost
-unfoldable pub totals_mark_f : LimitsF → Float → (n place calls : ℕ) → Scheduled → Marked
+unfoldable pub totals_mark_f : LimitsF → Float → (n place calls : ℕ) → Scheduled → Result Float Verdict
 totals_mark_f limits fixed n place calls t =
     cond (placed_f limits.rest place calls t.duration)
     (cond (within_f limits.max_distance t.distance)
     (cond (within_f limits.max_duration t.duration)
-    (Costs (Ieee.add binary64 (Ieee.add binary64 fixed t.distance) t.cost))
-    (Faulty (TooLong n t.duration (limit_f limits.max_duration))))
-    (Faulty (TooFar n t.distance (limit_f limits.max_distance))))
-    (Faulty (BreakMissing n t.duration (break_or_f limits.rest).earliest))
+    (Ok (Ieee.add binary64 (Ieee.add binary64 fixed t.distance) t.cost))
+    (Err (TooLong n t.duration (limit_f limits.max_duration))))
+    (Err (TooFar n t.distance (limit_f limits.max_distance))))
+    (Err (BreakMissing n t.duration (break_or_f limits.rest).earliest))
 
 -- the same after the walk
-abbrev pub walk_mark_f : LimitsF → Float → (n place calls : ℕ) → Walked → Marked
-walk_mark_f limits fixed n place calls (Stopped v) = Faulty v
-walk_mark_f limits fixed n place calls (Home t) = totals_mark_f limits fixed n place calls t
+abbrev pub walk_mark_f : LimitsF → Float → (n place calls : ℕ) → Result Scheduled Verdict → Result Float Verdict
+walk_mark_f limits fixed n place calls (Err v) = Err v
+walk_mark_f limits fixed n place calls (Ok t) = totals_mark_f limits fixed n place calls t
 
 -- the measure in which a load is over what the vehicle holds: seats, and where these are within it wheelchair places
 abbrev pub overload_f : ℕ → Load → Load → Verdict
@@ -71,16 +66,16 @@ overload_f n load capacity =
     (Overload n load.seats capacity.seats)
 
 -- run n with this load: the load, the calls, the totals
-abbrev pub load_mark_f : Ground → ℕ → List ℕ → ℕ → Load → Marked
+abbrev pub load_mark_f : Ground → ℕ → List ℕ → ℕ → Load → Result Float Verdict
 load_mark_f G n calls place load =
     cond (carried load G.capacity)
     (walk_mark_f G.limits G.fixed n place (length calls) (walk_f G.tables G.limits.rest n place 1 (fl 0) 0 start_label calls))
-    (Faulty (overload_f n load G.capacity))
+    (Err (overload_f n load G.capacity))
 
 -- the same where the first closed leg of the run is given: it comes before all others
-abbrev pub legs_mark_f : Ground → ℕ → List ℕ → ℕ → Option ℕ → Marked
-legs_mark_f G n calls place (some leg) = Faulty (RoadClosed n leg)
-legs_mark_f G n calls place none = load_mark_f G n calls place (load_by (demand_f G.tables.customers) calls)
+abbrev pub legs_mark_f : Ground → ℕ → List ℕ → ℕ → Option ℕ → Result Float Verdict
+legs_mark_f G n calls place (Some leg) = Err (RoadClosed n leg)
+legs_mark_f G n calls place None = load_mark_f G n calls place (load_by (demand_f G.tables.customers) calls)
 
-unfoldable pub run_mark_f : Ground → ℕ → List ℕ → ℕ → Marked
+unfoldable pub run_mark_f : Ground → ℕ → List ℕ → ℕ → Result Float Verdict
 run_mark_f G n calls place = legs_mark_f G n calls place (closed_f (leg_f G.tables) 1 0 calls)

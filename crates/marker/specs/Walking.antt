@@ -1,6 +1,6 @@
 -- The walk through the calls of a run with its break place on floats, step by step as the code has it. Definitions only.
-use Rattle.std.specs.Prelude.{ℕ, suc, cond, List, [], ◌∷◌, eqb, Float}
-use Rattle.std.proofs.Math.Option.{Option, none, some}
+use Rattle.clock.specs.declared.schedule.Scheduled.{Scheduled}
+use Rattle.std.specs.Prelude.{ℕ, suc, cond, List, [], ◌∷◌, eqb, Float, Option, None, Some, Result, Ok, Err}
 use Rattle.std.specs.Float.Ieee as Ieee
 use Rattle.std.specs.Float.{binary64}
 use Rattle.basics.specs.Options.{value_or}
@@ -14,12 +14,10 @@ use Rattle.evaluation.specs.Records.{Tables}
 use Rattle.evaluation.specs.Tables.{record_f, leg_f}
 use Rattle.marker.specs.declared.verdict.Verdict.{Verdict}
 use Rattle.marker.specs.declared.verdict.Verdict.TheVariants.{BreakTooLate, WindowMissed, RoadClosed}
-use Rattle.marker.specs.declared.walk.Walked.{Walked}
-use Rattle.marker.specs.declared.walk.Walked.TheVariants.{Stopped, Home}
 
 -- the break, at the call that has it alone
 abbrev pub break_at_f : Option (BreakOf Float) → ℕ → ℕ → Option (BreakOf Float)
-break_at_f rest place k = cond (eqb place k) rest none
+break_at_f rest place k = cond (eqb place k) rest None
 
 abbrev pub break_or_f : Option (BreakOf Float) → BreakOf Float
 break_or_f b = value_or (record { earliest = fl 0; latest = fl 0; duration = fl 0 }) b
@@ -28,22 +26,22 @@ break_or_f b = value_or (record { earliest = fl 0; latest = fl 0; duration = fl 
 unfoldable pub call_fault_f : (n k c : ℕ) → CustomerOf Float → Option (BreakOf Float) → Float → Verdict
 call_fault_f n k c customer here arrival =
     elim (ready_f here arrival) [
-      | none ↦ BreakTooLate n k c (break_start_f (break_or_f here) arrival) (break_or_f here).latest
-      | some readiness ↦ WindowMissed n k c readiness (due_f customer.window)
+      | None ↦ BreakTooLate n k c (break_start_f (break_or_f here) arrival) (break_or_f here).latest
+      | Some readiness ↦ WindowMissed n k c readiness (due_f customer.window)
     ]
 
 -- the calls of run n from number k on, served from place a with the label l, `far` behind it, and the way home; a closed leg stops the walk
-unfoldable pub walk_f : Tables → Option (BreakOf Float) → (n place k : ℕ) → Float → ℕ → Label → List ℕ → Walked
+unfoldable pub walk_f : Tables → Option (BreakOf Float) → (n place k : ℕ) → Float → ℕ → Label → List ℕ → Result Scheduled Verdict
 walk_f t rest n place k far a l [] =
     elim (leg_f t a 0) [
-      | none ↦ Stopped (RoadClosed n k)
-      | some g ↦ Home (home_f (Ieee.add binary64 far g.distance) g.time l)
+      | None ↦ Err (RoadClosed n k)
+      | Some g ↦ Ok (home_f (Ieee.add binary64 far g.distance) g.time l)
     ]
 walk_f t rest n place k far a l (c ∷ cs) =
     elim (leg_f t a c) [
-      | none ↦ Stopped (RoadClosed n k)
-      | some g ↦ elim (serve_f (record_f t c) (break_at_f rest place k) k g.time l) [
-        | none ↦ Stopped (call_fault_f n k c (record_f t c) (break_at_f rest place k) (Ieee.add binary64 l.time g.time))
-        | some m ↦ walk_f t rest n place (suc k) (Ieee.add binary64 far g.distance) c m cs
+      | None ↦ Err (RoadClosed n k)
+      | Some g ↦ elim (serve_f (record_f t c) (break_at_f rest place k) k g.time l) [
+        | None ↦ Err (call_fault_f n k c (record_f t c) (break_at_f rest place k) (Ieee.add binary64 l.time g.time))
+        | Some m ↦ walk_f t rest n place (suc k) (Ieee.add binary64 far g.distance) c m cs
       ]
     ]

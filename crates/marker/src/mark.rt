@@ -8,38 +8,26 @@ ghost use Rattle.definitions.specs.Refusals.{ends_fall};
 ghost use Rattle.models.specs.Records.{customer_of};
 ghost use Rattle.evaluation.specs.Tables.{Asks};
 ghost use Rattle.marker.specs.RunMark.{ground_of};
-ghost use Rattle.marker.specs.Marks.{difference_of, against_f, runs_mark_f, mark_f};
+ghost use Rattle.marker.specs.Marks.{against_f, runs_mark_f, mark_f};
 
-use crate::run::{Marked, mark_run};
+use crate::run::mark_run;
 use crate::verdict::Verdict;
 use evaluation::load::{Demands, demands_of};
 use models::count::fewer;
 use models::customer::Customer;
 use models::head::Head;
 
-// Two lists are the same, or differ first at this position, from 1.
-#[derive(Clone, Copy)]
-pub enum Difference {
-    Nowhere,
-    At(usize),
-}
-
-// Where the lists differ first, or one has ended.
-pub fn differ(calls: &[usize], served: &[usize]) -> Difference
-    ensures { difference_of result ≡ differ 1 calls.now served.now }
+// The position, from 1, where the lists differ first or one has ended; none where they are the same.
+pub fn differ(calls: &[usize], served: &[usize]) -> Option<usize>
+    ensures { result ≡ differ 1 calls.now served.now }
 {
-    let n = fewer(calls.len(), served.len());
-    let mut i = 0;
-    while i < n {
-        if calls[i] != served[i] {
-            return Difference::At(i + 1);
-        }
-        i += 1;
+    if let Some(i) = calls.iter().zip(served).position(|(a, b)| a != b) {
+        return Some(i + 1);
     }
     if calls.len() == served.len() {
-        Difference::Nowhere
+        None
     } else {
-        Difference::At(i + 1)
+        Some(fewer(calls.len(), served.len()) + 1)
     }
 }
 
@@ -53,7 +41,7 @@ pub fn mark_runs(
     distances: &[f64],
     times: &[f64],
     head: Head,
-) -> Marked
+) -> Result<f64, Verdict>
     requires calls_len_bound { (length calls.now ≤ 128) × (length ends.now ≤ length breaks.now) }
     requires asks { Asks (map customer_of customers) demands.now }
     requires calls_value { ends_fall 0 ends.now (length calls.now) ≡ false }
@@ -63,28 +51,21 @@ pub fn mark_runs(
 {
     let mut total = 0.0;
     let mut p = 0;
-    let mut k = 0;
-    while k < ends.len() {
-        let e = ends[k];
-        let place = breaks[k];
-        k += 1;
-        let marked = mark_run(
-            k,
+    for (k, &e) in ends.iter().enumerate() {
+        let cost = mark_run(
+            k + 1,
             &calls[p..e],
-            place,
+            breaks[k],
             customers,
             demands,
             distances,
             times,
             head,
-        );
-        let Marked::Costs(cost) = marked else {
-            return marked;
-        };
+        )?;
         total = total + cost;
         p = e;
     }
-    Marked::Costs(total)
+    Ok(total)
 }
 
 // The cost against the planner's.
@@ -117,14 +98,14 @@ pub fn mark(
     ensures { let area = ground_of customers distances.now times.now head in
         result ≡ mark_f area served.now cost calls.now ends.now breaks.now }
 {
-    if let Difference::At(position) = differ(calls, served) {
+    if let Some(position) = differ(calls, served) {
         return Verdict::OtherCalls { position };
     }
     let demands = demands_of(customers);
     match mark_runs(
         calls, ends, breaks, customers, &demands, distances, times, head,
     ) {
-        Marked::Faulty(v) => v,
-        Marked::Costs(total) => against(cost, total),
+        Err(v) => v,
+        Ok(total) => against(cost, total),
     }
 }

@@ -7,28 +7,21 @@ ghost use Rattle.evaluation.specs.Tables.{Asks};
 ghost use Rattle.marker.specs.RunMark.{ground_of, placed_f, totals_mark_f, overload_f, run_mark_f};
 
 use crate::verdict::Verdict;
-use crate::walk::{Walked, break_or, walk};
+use crate::walk::{break_or, walk};
 use clock::schedule::{Scheduled, excused};
 use evaluation::load::{Demands, load_of};
 use evaluation::way::first_closed;
 use models::customer::Customer;
 use models::head::Head;
-use models::limits::{RouteLimits, limit_or_zero};
+use models::limits::{RouteLimits, allows, limit_or_zero};
 use models::load::{Load, Space};
-use models::vehicle::Rest;
-
-// The first fault, or what is marked costs so much.
-#[derive(Clone, Copy)]
-pub enum Marked {
-    Faulty(Verdict),
-    Costs(f64),
-}
+use models::vehicle::VehicleBreak;
 
 // Whether the break may have this place in a run of so many calls that is home at `duration`; with 0 it must need none.
-pub fn placed(rest: Rest, place: usize, calls: usize, duration: f64) -> bool
+pub fn placed(rest: Option<VehicleBreak>, place: usize, calls: usize, duration: f64) -> bool
     ensures { result ≡ placed_f (rest_of rest) place calls duration }
 {
-    let Rest::Break(b) = rest else {
+    let Some(b) = rest else {
         return place == 0;
     };
     if place == 0 {
@@ -45,7 +38,7 @@ pub fn mark_totals(
     fixed: f64,
     limits: RouteLimits,
     totals: Scheduled,
-) -> Marked
+) -> Result<f64, Verdict>
     ensures { result ≡ totals_mark_f (limits_of limits) fixed run place calls totals }
 {
     let rest = limits.rest;
@@ -55,27 +48,27 @@ pub fn mark_totals(
     let duration = totals.duration;
     if !placed(rest, place, calls, duration) {
         let b = break_or(rest);
-        return Marked::Faulty(Verdict::BreakMissing {
+        return Err(Verdict::BreakMissing {
             run,
             duration,
             earliest: b.earliest,
         });
     }
-    if !max_distance.allows(distance) {
-        return Marked::Faulty(Verdict::TooFar {
+    if !allows(max_distance, distance) {
+        return Err(Verdict::TooFar {
             run,
             distance,
             limit: limit_or_zero(max_distance),
         });
     }
-    if !max_duration.allows(duration) {
-        return Marked::Faulty(Verdict::TooLong {
+    if !allows(max_duration, duration) {
+        return Err(Verdict::TooLong {
             run,
             duration,
             limit: limit_or_zero(max_duration),
         });
     }
-    Marked::Costs(fixed + distance + totals.cost)
+    Ok(fixed + distance + totals.cost)
 }
 
 // The measure in which a load that does not fit is over what the vehicle holds: seats, and where these are within it
@@ -108,7 +101,7 @@ pub fn mark_run(
     distances: &[f64],
     times: &[f64],
     head: Head,
-) -> Marked
+) -> Result<f64, Verdict>
     requires calls_len_bound { length calls.now ≤ 128 }
     requires asks { Asks (map customer_of customers) demands.now }
     ensures { let area = ground_of customers distances.now times.now head in
@@ -116,16 +109,16 @@ pub fn mark_run(
 {
     let leg = first_closed(calls, distances, times, head.places);
     if leg > 0 {
-        return Marked::Faulty(Verdict::RoadClosed { run, leg });
+        return Err(Verdict::RoadClosed { run, leg });
     }
     let load = load_of(calls, demands);
     let capacity = head.capacity;
     if !load.fits(capacity) {
-        return Marked::Faulty(overload(run, load, capacity));
+        return Err(overload(run, load, capacity));
     }
     let limits = head.limits;
     let rest = limits.rest;
-    match walk(
+    let totals = walk(
         run,
         calls,
         place,
@@ -134,8 +127,6 @@ pub fn mark_run(
         times,
         head.places,
         rest,
-    ) {
-        Walked::Stopped(v) => Marked::Faulty(v),
-        Walked::Home(t) => mark_totals(run, place, calls.len(), head.fixed_cost, limits, t),
-    }
+    )?;
+    mark_totals(run, place, calls.len(), head.fixed_cost, limits, totals)
 }

@@ -7,37 +7,30 @@ ghost use Rattle.evaluation.specs.Records.{lent};
 ghost use Rattle.marker.specs.Walking.{break_at_f, break_or_f, call_fault_f, walk_f};
 
 use crate::verdict::Verdict;
-use clock::schedule::{Label, Reached, Ready, Scheduled, break_start_at, ready_at, serve};
-use distance::leg::{Drive, leg_between};
+use clock::schedule::{Label, Scheduled, break_start_at, ready_at, serve};
+use distance::leg::leg_between;
 use evaluation::schedule::record_index;
 use models::customer::{Customer, due_or_zero};
-use models::vehicle::{Rest, VehicleBreak};
-
-// Stopped by a fault at a call or by a closed leg, or home with the run's totals.
-#[derive(Clone, Copy)]
-pub enum Walked {
-    Stopped(Verdict),
-    Home(Scheduled),
-}
+use models::vehicle::VehicleBreak;
 
 // The break, at the call that has it alone.
-pub fn break_at(rest: Rest, place: usize, k: usize) -> Rest
+pub fn break_at(rest: Option<VehicleBreak>, place: usize, k: usize) -> Option<VehicleBreak>
     ensures { rest_of result ≡ break_at_f (rest_of rest) place k }
 {
-    if place == k { rest } else { Rest::Unbroken }
+    if place == k { rest } else { None }
 }
 
 // The break's figures, 0 where there is none.
-pub fn break_or(rest: Rest) -> VehicleBreak
+pub fn break_or(rest: Option<VehicleBreak>) -> VehicleBreak
     ensures { break_of result ≡ break_or_f (rest_of rest) }
 {
     match rest {
-        Rest::Unbroken => VehicleBreak {
+        None => VehicleBreak {
             earliest: 0.0,
             latest: 0.0,
             duration: 0.0,
         },
-        Rest::Break(b) => b,
+        Some(b) => b,
     }
 }
 
@@ -47,13 +40,13 @@ pub fn call_fault(
     k: usize,
     cid: usize,
     customer: Customer,
-    here: Rest,
+    here: Option<VehicleBreak>,
     arrival: f64,
 ) -> Verdict
     ensures { result ≡ call_fault_f run k cid (customer_of customer) (rest_of here) arrival }
 {
     match ready_at(here, arrival) {
-        Ready::TooLate => {
+        None => {
             let b = break_or(here);
             Verdict::BreakTooLate {
                 run,
@@ -63,7 +56,7 @@ pub fn call_fault(
                 latest: b.latest,
             }
         }
-        Ready::From(readiness) => {
+        Some(readiness) => {
             let opening = customer.time_window;
             Verdict::WindowMissed {
                 run,
@@ -77,7 +70,7 @@ pub fn call_fault(
 }
 
 // The calls of run number `run` served in order from the depot, the break at its place alone, and the way home. A leg
-// that is closed stops the walk.
+// that is closed stops the walk, as a fault at a call does.
 pub fn walk(
     run: usize,
     calls: &[usize],
@@ -86,8 +79,8 @@ pub fn walk(
     distances: &[f64],
     times: &[f64],
     size: usize,
-    rest: Rest,
-) -> Walked
+    rest: Option<VehicleBreak>,
+) -> Result<Scheduled, Verdict>
     requires { length calls.now < 0xFFFF_FFFF_FFFF_FFFF }
     ensures { let tables = lent customers distances.now times.now size in
         result ≡ walk_f tables (rest_of rest) run place 1 (fl 0) 0 start_label calls.now }
@@ -95,26 +88,27 @@ pub fn walk(
     let mut distance = 0.0;
     let mut label = Label::start();
     let mut prev = 0;
-    let mut i = 0;
-    while i < calls.len() {
-        let cid = calls[i];
-        i += 1;
-        let Drive::Open(leg) = leg_between(distances, times, size, prev, cid) else {
-            return Walked::Stopped(Verdict::RoadClosed { run, leg: i });
+    for (i, &cid) in calls.iter().enumerate() {
+        let k = i + 1;
+        let Some(leg) = leg_between(distances, times, size, prev, cid) else {
+            return Err(Verdict::RoadClosed { run, leg: k });
         };
         distance = distance + leg.distance;
         let travel = leg.time;
         let index = record_index(cid);
         let customer = customers[index];
-        let here = break_at(rest, place, i);
-        let Reached::At(l) = serve(label, travel, customer, i, here) else {
-            return Walked::Stopped(call_fault(run, i, cid, customer, here, label.time + travel));
+        let here = break_at(rest, place, k);
+        let Some(l) = serve(label, travel, customer, k, here) else {
+            return Err(call_fault(run, k, cid, customer, here, label.time + travel));
         };
         label = l;
         prev = cid;
     }
-    let Drive::Open(back) = leg_between(distances, times, size, prev, 0) else {
-        return Walked::Stopped(Verdict::RoadClosed { run, leg: i + 1 });
+    let Some(back) = leg_between(distances, times, size, prev, 0) else {
+        return Err(Verdict::RoadClosed {
+            run,
+            leg: calls.len() + 1,
+        });
     };
-    Walked::Home(label.home(distance + back.distance, back.time))
+    Ok(label.home(distance + back.distance, back.time))
 }

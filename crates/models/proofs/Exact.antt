@@ -4,7 +4,7 @@ use native.Mathlib.Nat.{zero-add}
 use native.Mathlib.Omega.{arith}
 use mathlib.Core.Path.{◌≡◌, refl, ◌∙◌}
 use mathlib.Core.Bool.{◌&&◌}
-use mathlib.Core.Option.{Option, none, some, map}
+use Rattle.std.specs.Prelude.{Option, None, Some, option_map}
 use lib.Dec.{ltb}
 use borrow.Author.Tests.{ltb-true, ltb-false}
 use lib.Ieee as Ieee
@@ -40,22 +40,22 @@ module _ (w : Window) (a : ℕ) (r : w.ready ≤ limit) (d : w.due ≤ limit) (h
       (by-test (ltb a w.due) (λ t. let i = ltb-true a w.due t in let z : 0 ≡ a - w.due = omega arith in rw (t, ← z))
       (λ f. rw f (fl-sub a w.due h d (ltb-false a w.due f))))
 
-pub due-exact : (o : Option Window) → due_f (map fl_window o) ≡ fl (due_of o)
-due-exact none = refl
-due-exact (some w) = refl
+pub due-exact : (o : Option Window) → due_f (option_map fl_window o) ≡ fl (due_of o)
+due-exact None = refl
+due-exact (Some w) = refl
 
-pub limit-exact : (o : Option ℕ) → limit_f (map fl o) ≡ fl (value_or 0 o)
-limit-exact none = refl
-limit-exact (some n) = refl
+pub limit-exact : (o : Option ℕ) → limit_f (option_map fl o) ≡ fl (value_or 0 o)
+limit-exact None = refl
+limit-exact (Some n) = refl
 
 -- a limit that is given is at most 2 ^ 53
 abbrev pub Small : Option ℕ → Type 0
 Small o = Holds (λ (n : ℕ). n ≤ limit) o
 
-pub within-exact : (o : Option ℕ) (n : ℕ) → Small o → n ≤ limit → within_f (map fl o) (fl n) ≡ within o n
-within-exact none n s h = refl
-within-exact (some m) n s h = fl-le n m h s
+pub within-exact : (o : Option ℕ) (n : ℕ) → Small o → n ≤ limit → within_f (option_map fl o) (fl n) ≡ within o n
+within-exact None n s h = refl
+within-exact (Some m) n s h = fl-le n m h s
 
 pub allow-exact : (o p : Option ℕ) (distance duration : ℕ) → Small o → Small p → distance ≤ limit → duration ≤ limit
-    → allow_f (map fl o) (map fl p) (fl distance) (fl duration) ≡ within o distance && within p duration
+    → allow_f (option_map fl o) (option_map fl p) (fl distance) (fl duration) ≡ within o distance && within p duration
 allow-exact o p distance duration s t h k = rw (within-exact o distance s h, within-exact p duration t k)

@@ -1,6 +1,5 @@
 -- Limits on floats, as the code has them. Definitions only.
-use Rattle.std.specs.Prelude.{Bool, true, ◌&&◌, Float}
-use Rattle.std.proofs.Math.Option.{Option, none, some}
+use Rattle.std.specs.Prelude.{Bool, true, ◌&&◌, Float, Option, None, Some}
 use Rattle.std.specs.Float.Ieee as Ieee
 use Rattle.basics.specs.Options.{value_or}
 use Rattle.whole.specs.Whole.{fl}
@@ -11,8 +10,8 @@ limit_f o = value_or (fl 0) o
 
 -- at most the limit, if given
 abbrev pub within_f : Option Float → Float → Bool
-within_f none x = true
-within_f (some max) x = Ieee.le x max
+within_f None x = true
+within_f (Some max) x = Ieee.le x max
 
 abbrev pub allow_f : Option Float → Option Float → Float → Float → Bool
 allow_f max_distance max_duration distance duration = within_f max_distance distance && within_f max_duration duration

@@ -1,6 +1,5 @@
 -- Windows on floats, step by step as the code has them. Definitions only.
-use Rattle.std.specs.Prelude.{Bool, cond, Float}
-use Rattle.std.proofs.Math.Option.{Option, none, some}
+use Rattle.std.specs.Prelude.{Bool, cond, Float, Option, None, Some}
 use Rattle.std.specs.Float.Ieee as Ieee
 use Rattle.std.specs.Float.{binary64}
 use Rattle.definitions.specs.Sheet.{WindowOf}
@@ -21,5 +20,5 @@ lateness_f w arrival = larger_f (Ieee.sub binary64 arrival w.due) (fl 0)
 
 -- when a window closes, and 0 where there is none
 abbrev pub due_f : Option (WindowOf Float) → Float
-due_f none = fl 0
-due_f (some w) = w.due
+due_f None = fl 0
+due_f (Some w) = w.due

@@ -13,26 +13,13 @@ pub struct TimeWindow {
     pub due: f64,
 }
 
-// No window, or one.
-#[derive(Clone, Copy)]
-pub enum Opening {
-    Always,
-    Window(TimeWindow),
-}
-
-// A late call fails, or costs so much for each unit of lateness.
-#[derive(Clone, Copy)]
-pub enum Penalty {
-    Hard,
-    Soft(f64),
-}
-
 #[derive(Clone, Copy)]
 pub struct Customer {
     pub demand: Space,
     pub service_duration: f64,
-    pub time_window: Opening,
-    pub lateness_penalty: Penalty,
+    pub time_window: Option<TimeWindow>,
+    // A late call costs so much for each unit of lateness; without a penalty it fails.
+    pub lateness_penalty: Option<f64>,
 }
 
 // The depot's record.
@@ -42,8 +29,8 @@ pub fn depot() -> Customer
     Customer {
         demand: seats(0),
         service_duration: 0.0,
-        time_window: Opening::Always,
-        lateness_penalty: Penalty::Hard,
+        time_window: None,
+        lateness_penalty: None,
     }
 }
 
@@ -56,20 +43,16 @@ pub fn depots() -> [Customer; 64]
 pub fn has_window(customer: Customer) -> bool
     ensures { result ≡ present (customer_of customer).window }
 {
-    let opening = customer.time_window;
-    match opening {
-        Opening::Always => false,
-        Opening::Window(_) => true,
-    }
+    customer.time_window.is_some()
 }
 
 // When the window closes, and 0 where there is none.
-pub fn due_or_zero(opening: Opening) -> f64
+pub fn due_or_zero(opening: Option<TimeWindow>) -> f64
     ensures { result ≡ due_f (opening_of opening) }
 {
     match opening {
-        Opening::Always => 0.0,
-        Opening::Window(window) => window.due,
+        None => 0.0,
+        Some(window) => window.due,
     }
 }
 

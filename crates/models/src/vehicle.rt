@@ -10,19 +10,9 @@ pub struct VehicleBreak {
     pub duration: f64,
 }
 
-// No break, or one.
-#[derive(Clone, Copy)]
-pub enum Rest {
-    Unbroken,
-    Break(VehicleBreak),
-}
-
 // Whether the break is set.
-pub fn has_rest(rest: Rest) -> bool
+pub fn has_rest(rest: Option<VehicleBreak>) -> bool
     ensures { result ≡ present (rest_of rest) }
 {
-    match rest {
-        Rest::Unbroken => false,
-        Rest::Break(_) => true,
-    }
+    rest.is_some()
 }

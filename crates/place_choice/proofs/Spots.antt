@@ -1,11 +1,10 @@
 -- Each place that is gone through has its run and its number there; no place is where what is added is infinite. Assumes nothing.
 use Prim.Native.Nat.{ℕ, suc, ◌+◌, ◌-◌, ◌<◌, ◌≤◌}
 use native.Mathlib.Omega.{arith}
-use native.Mathlib.Nat.{sub-zero}
 use mathlib.Core.Path.{◌≡◌, refl, sym, ap, subst, ◌∙◌}
-use mathlib.Core.Bool.{Bool, true, false, cond, ◌&&◌, false≢true}
-use mathlib.Core.List.{List, [], ◌∷◌, ◌++◌}
-use mathlib.Core.Option.{none, some}
+use mathlib.Core.Bool.{Bool, true, false, ◌&&◌, false≢true}
+use mathlib.Core.List.{List, [], ◌∷◌}
+use Rattle.std.specs.Prelude.{None, Some}
 use lib.ListN.{length}
 use lib.Ieee as Ieee
 use lib.Ieee.{Float, binary64, nan, inf, fin}
@@ -135,11 +134,11 @@ module _ (G : GivenF) (m : Mover) (rs : List (List ℕ)) (least : Spot) (el : le
   abbrev pub allowed : Bool
   allowed = allowed_f G m.call (run_at rs least.run) least
 
-  pub best_none : pays_f m least.cost ≡ false → none ≡ best_f G m rs
+  pub best_none : pays_f m least.cost ≡ false → None ≡ best_f G m rs
   unfolding best_f
   best_none f = let g = rw el at f in rw g
 
-  pub best-least : pays_f m least.cost ≡ true → allowed ≡ true → some least ≡ best_f G m rs
+  pub best-least : pays_f m least.cost ≡ true → allowed ≡ true → Some least ≡ best_f G m rs
   unfolding best_f
   best-least t u =
       let g = rw el at t in
@@ -147,7 +146,7 @@ module _ (G : GivenF) (m : Mover) (rs : List (List ℕ)) (least : Spot) (el : le
       rw (el, g, h)
 
   module _ (best : Spot) (eb : best ≡ tested_f G m rs) (t : pays_f m least.cost ≡ true) (u : allowed ≡ false) where
-    pub best-found : pays_f m best.cost ≡ true → some best ≡ best_f G m rs
+    pub best-found : pays_f m best.cost ≡ true → Some best ≡ best_f G m rs
     unfolding best_f
     best-found v =
         let g = rw el at t in
@@ -155,7 +154,7 @@ module _ (G : GivenF) (m : Mover) (rs : List (List ℕ)) (least : Spot) (el : le
         let w = rw eb at v in
         rw (eb, g, h, w)
 
-    pub best-missing : pays_f m best.cost ≡ false → none ≡ best_f G m rs
+    pub best-missing : pays_f m best.cost ≡ false → None ≡ best_f G m rs
     unfolding best_f
     best-missing v =
         let g = rw el at t in

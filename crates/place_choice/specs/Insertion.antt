@@ -1,6 +1,5 @@
 -- Where a customer may go, what it adds there and the best of these places, on floats, as the code has it. Definitions only.
-use Rattle.std.specs.Prelude.{ℕ, suc, ◌≤◌, ◌<◌, ◌≡◌, Bool, true, false, cond, ◌&&◌, List, [], ◌∷◌, ◌++◌, map, length, get_or, Float}
-use Rattle.std.proofs.Math.Option.{Option, none, some}
+use Rattle.std.specs.Prelude.{ℕ, suc, ◌≤◌, ◌<◌, ◌≡◌, Bool, true, false, cond, ◌&&◌, List, [], ◌∷◌, ◌++◌, map, length, get_or, Float, Option, None, Some}
 use Rattle.std.specs.Float.Ieee as Ieee
 use Rattle.std.specs.Float.{binary64, inf}
 use Rattle.basics.specs.Options.{Holds, given}
@@ -24,8 +23,6 @@ use Rattle.improve_runs.specs.RunLists.{run_at}
 use Rattle.place_choice.specs.declared.insertion.Spot.{Spot}
 use Rattle.place_choice.specs.declared.tested.Given.{Given}
 use Rattle.place_choice.specs.declared.tested.Mover.{Mover}
-use Rattle.place_choice.specs.declared.chosen.Best.{Best}
-use Rattle.place_choice.specs.declared.chosen.Best.TheVariants.{At, Nowhere}
 use Rattle.place_choice.specs.Loads.{room_f}
 
 -- ---- what is lent
@@ -154,20 +151,15 @@ module _ (G : GivenF) where
         let least = folded cheaper_f nowhere_f (candidates_f m.call runs) in
         let best = tested_f runs in
         let allowed = allowed_f m.call (run_at runs least.run) least in
-        cond (pays_f m least.cost) (cond allowed (some least) (given (pays_f m best.cost) best)) none
+        cond (pays_f m least.cost) (cond allowed (Some least) (given (pays_f m best.cost) best)) None
 
 -- ---- what is answered
-
--- the best place of a customer, if there is one
-abbrev pub best_of : Best → Option Spot
-best_of Nowhere = none
-best_of (At x) = some x
 
 -- a place in one of the runs
 pub record Inside (runs : List (List ℕ)) (x : Spot) : Type 0 where
   pub run_inside : x.run < length runs
   pub pos-inside : x.pos ≤ length (run_at runs x.run)
 
-pub record Finds (o : Option Spot) (runs : List (List ℕ)) (b : Best) : Type 0 where
-  pub is : best_of b ≡ o
-  pub inside : Holds (Inside runs) (best_of b)
+pub record Finds (o : Option Spot) (runs : List (List ℕ)) (b : (Option Spot)) : Type 0 where
+  pub is : b ≡ o
+  pub inside : Holds (Inside runs) b

@@ -20,13 +20,6 @@ use latest::backward::list_bounds;
 use latest::hours::day_of;
 use latest::onward::{Times, serve_all, set_out};
 
-// The best place of a customer, if there is one.
-#[derive(Clone, Copy)]
-pub enum Best {
-    At(Spot),
-    Nowhere,
-}
-
 // Whether a place that adds so much is cheaper than the best so far and pays.
 pub fn is_wanted(best: Spot, cost: f64, mover: Mover) -> bool
     ensures { result ≡ wanted_f mover best cost }
@@ -52,15 +45,13 @@ pub fn next_wanted(
     ensures { Wants mover best (number_f distances.now size) route.now from result }
 {
     let c = mover.call;
-    let mut pos = from;
-    while pos <= route.len() {
+    for pos in from..=route.len() {
         let cost = insertion_cost(route, pos, c, distances, size);
         if is_wanted(best, cost, mover) {
             return pos;
         }
-        pos += 1;
     }
-    pos
+    route.len() + 1
 }
 
 // The best place so far, or one in run k, of which number `first` is the first that is wanted; the lists hold the
@@ -101,6 +92,7 @@ pub fn best_from(
     let mut left = set_out();
     let mut gone = 0;
     let mut pos = first;
+    // A `while`: from a place it goes on to the next that is wanted, and not to the next in the run.
     while pos <= route.len() {
         let prev = place_before(route, gone);
         left = serve_all(
@@ -250,8 +242,7 @@ pub fn best_tested(
     let mut afters = [0.0; 129];
     let mut best = nowhere();
     let mut from = 0;
-    let mut k = 0;
-    while k < count {
+    for k in 0..count {
         let to = ends[k];
         let fits = has_room(load_at(loads, k), asked, capacity);
         best = best_offered(
@@ -269,12 +260,11 @@ pub fn best_tested(
             &mut afters,
         );
         from = to;
-        k += 1;
     }
     best
 }
 
-// Where a customer adds least and is allowed, while what is added stays below what is saved.
+// Where a customer adds least and is allowed, while what is added stays below what is saved; none where no place is.
 pub fn best_place(
     calls: &[usize],
     ends: &[usize],
@@ -288,7 +278,7 @@ pub fn best_place(
     figures: &[f64],
     distances: &[f64],
     times: &[f64],
-) -> Best
+) -> Option<Spot>
     requires fact { let rest = runs calls.now ends.now many count in
         Sound rest × Loaded (asked_f demands.now) (runs_in rest) 256 loads.now }
     requires fact_2 { let lists = numbers codes.now figures.now in
@@ -305,18 +295,18 @@ pub fn best_place(
         calls, ends, many, count, loads, demands, c, capacity, distances, given.size,
     );
     if !mover.pays(least.cost) {
-        return Best::Nowhere;
+        return None;
     }
     if is_allowed(
         calls, ends, many, count, least, c, given, codes, figures, distances, times,
     ) {
-        return Best::At(least);
+        return Some(least);
     }
     let best = best_tested(
         calls, ends, many, count, loads, demands, mover, given, codes, figures, distances, times,
     );
     if mover.pays(best.cost) {
-        return Best::At(best);
+        return Some(best);
     }
-    Best::Nowhere
+    None
 }

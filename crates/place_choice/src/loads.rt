@@ -54,13 +54,11 @@ pub fn loads_of(
         Loaded (asked_f demands.now) rest 128 loads.new }
 {
     let mut from = 0;
-    let mut k = 0;
-    while k < count {
+    for k in 0..count {
         let to = ends[k];
         let load = load_of(&calls[from..to], demands);
         put_load(&mut *loads, k, load);
         from = to;
-        k += 1;
     }
 }
 

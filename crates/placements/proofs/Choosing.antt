@@ -2,7 +2,7 @@
 use Prim.Native.Nat.{ℕ}
 use mathlib.Core.Path.{◌≡◌, ap, ◌∙◌}
 use mathlib.Core.List.{List}
-use mathlib.Core.Option.{Option, none, some}
+use Rattle.std.specs.Prelude.{Option, None, Some}
 use lib.Ieee.{Float}
 use Rattle.definitions.specs.Sheet.{BreakOf}
 use Rattle.models.specs.declared.placement.Placement.{Placement}
@@ -21,8 +21,8 @@ module _ (t : Tables) (limits : LimitsF) (calls : List ℕ) (p : Placement) wher
     unfolding totals_by
     least_by_lem = ap (λ (q : Placement). totals_by t limits q calls) e
 
-    pub plain-totals : limits.rest ≡ none → totals_by t limits p calls ≡ allowed_f t limits calls
+    pub plain-totals : limits.rest ≡ None → totals_by t limits p calls ≡ allowed_f t limits calls
     plain-totals r = least_by_lem ∙ ap (λ (o : Option (BreakOf Float)). least_by t limits o calls) r
 
-    pub least-totals : (b : BreakOf Float) → limits.rest ≡ some b → totals_by t limits p calls ≡ least_f t b limits calls
+    pub least-totals : (b : BreakOf Float) → limits.rest ≡ Some b → totals_by t limits p calls ≡ least_f t b limits calls
     least-totals b r = least_by_lem ∙ ap (λ (o : Option (BreakOf Float)). least_by t limits o calls) r

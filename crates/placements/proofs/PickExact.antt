@@ -5,8 +5,7 @@ use native.Mathlib.Omega.{arith}
 use mathlib.Core.Path.{◌≡◌, refl, sym, ap, subst, ◌∙◌}
 use mathlib.Core.Bool.{Bool, ◌&&◌}
 use mathlib.Core.List.{List, map, map-map}
-use mathlib.Core.Option
-use mathlib.Core.Option.{Option, none, some}
+use Rattle.std.specs.Prelude.{Option, None, Some, option_map}
 use lib.ListN.{length}
 use Rattle.basics.proofs.TestLaws.{by-test}
 use Rattle.basics.specs.Options.{◌>>=◌, Holds, given}
@@ -37,16 +36,16 @@ better-exact : (y x : Totals) → TotalsFit y → TotalsFit x → better_f (fl_t
 better-exact y x Y X =
     rw (fl-lt y.pay x.pay Y.pay-fits X.pay-fits, fl-eq y.pay x.pay Y.pay-fits X.pay-fits, fl-lt y.duration x.duration Y.duration-fits X.duration-fits)
 
-pick-exact : (x y : Option Totals) → Holds TotalsFit x → Holds TotalsFit y → pick_f (Option.map fl_totals x) (Option.map fl_totals y) ≡ Option.map fl_totals (pick x y)
+pick-exact : (x y : Option Totals) → Holds TotalsFit x → Holds TotalsFit y → pick_f (option_map fl_totals x) (option_map fl_totals y) ≡ option_map fl_totals (pick x y)
 unfolding pick_f
-pick-exact none y X Y = refl
-pick-exact (some x) none X Y = refl
-pick-exact (some x) (some y) X Y = rw (better-exact y x Y X) (by-test (preferred y x) (λ t. rw t) (λ f. rw f))
+pick-exact None y X Y = refl
+pick-exact (Some x) None X Y = refl
+pick-exact (Some x) (Some y) X Y = rw (better-exact y x Y X) (by-test (preferred y x) (λ t. rw t) (λ f. rw f))
 
 pick-fits : (x y : Option Totals) → Holds TotalsFit x → Holds TotalsFit y → Holds TotalsFit (pick x y)
-pick-fits none y X Y = Y
-pick-fits (some x) none X Y = X
-pick-fits (some x) (some y) X Y = by-test (preferred y x) (λ t. rw t Y) (λ f. rw f X)
+pick-fits None y X Y = Y
+pick-fits (Some x) None X Y = X
+pick-fits (Some x) (Some y) X Y = by-test (preferred y x) (λ t. rw t Y) (λ f. rw f X)
 
 -- ---- the best of many, one after the other
 
@@ -59,17 +58,17 @@ module _ (f : ℕ → Option Totals) where
       shift : (a n : ℕ) → suc a + n ≡ a + suc n
       shift a n = omega arith
 
-  module _ (g : ℕ → Option Scheduled) (old : Option Totals) (O : Holds TotalsFit old) (first : g 0 ≡ Option.map fl_totals old) where
+  module _ (g : ℕ → Option Scheduled) (old : Option Totals) (O : Holds TotalsFit old) (first : g 0 ≡ option_map fl_totals old) where
     -- `g n` is the best of the old and of the first n on floats
-    picks-exact : (n : ℕ) → ((k : ℕ) → k < n → Holds TotalsFit (f (suc k))) → ((k : ℕ) → k < n → g (suc k) ≡ pick_f (g k) (Option.map fl_totals (f (suc k))))
-        → (g n ≡ Option.map fl_totals (pick_all old (map f (count 1 n)))) × Holds TotalsFit (pick_all old (map f (count 1 n)))
+    picks-exact : (n : ℕ) → ((k : ℕ) → k < n → Holds TotalsFit (f (suc k))) → ((k : ℕ) → k < n → g (suc k) ≡ pick_f (g k) (option_map fl_totals (f (suc k))))
+        → (g n ≡ option_map fl_totals (pick_all old (map f (count 1 n)))) × Holds TotalsFit (pick_all old (map f (count 1 n)))
     picks-exact zero F more = (first, O)
     picks-exact (suc n) F more =
         let (e, B) = picks-exact n (λ k h. F k (up k h)) (λ k h. more k (up k h)) in
         let best = pick_all old (map f (count 1 n)) in
         let l : pick best (f (suc n)) ≡ pick_all old (map f (count 1 (suc n))) = sym (pick-last 1 n old ∙ ap (λ (k : ℕ). pick best (f k)) (number n)) in (
-          more n (le_refl (suc n)) ∙ ap (λ (o : Option Scheduled). pick_f o (Option.map fl_totals (f (suc n)))) e ∙ pick-exact best (f (suc n)) B (F n (le_refl (suc n)))
-              ∙ ap (Option.map fl_totals) l,
+          more n (le_refl (suc n)) ∙ ap (λ (o : Option Scheduled). pick_f o (option_map fl_totals (f (suc n)))) e ∙ pick-exact best (f (suc n)) B (F n (le_refl (suc n)))
+              ∙ ap (option_map fl_totals) l,
           subst (Holds TotalsFit) l (pick-fits best (f (suc n)) B (F n (le_refl (suc n)))),
         )
       where
@@ -84,7 +83,7 @@ module _ (f : ℕ → Option Totals) where
 module _ (s : Sheet) (S : Sized s) where
   -- totals that keep the limits
   pub kept-exact : (u : Totals) → TotalsFit u
-      → given (allow_f (fl_limits s).max_distance (fl_limits s).max_duration (fl u.distance) (fl u.duration)) (fl_totals u) ≡ Option.map fl_totals (given (allowed s u) u)
+      → given (allow_f (fl_limits s).max_distance (fl_limits s).max_duration (fl u.distance) (fl u.duration)) (fl_totals u) ≡ option_map fl_totals (given (allowed s u) u)
   kept-exact u F =
       let far = small-limit s.head.max_distance S.far-small in
       let long = small-limit s.head.max_duration S.long-small in
@@ -93,28 +92,28 @@ module _ (s : Sheet) (S : Sized s) where
 
   module _ (calls : List ℕ) (few : length calls ≤ most_calls) where
     -- what a run comes to with some place
-    pub ridden-fits : (p : ℕ) (u : Totals) → (label_of s calls p >>= home s calls) ≡ some u → TotalsFit u
+    pub ridden-fits : (p : ℕ) (u : Totals) → (label_of s calls p >>= home s calls) ≡ Some u → TotalsFit u
     unfolding ride
     ridden-fits p u e = totals-fit (length calls) few u (ride-most s S (with s calls p) few u e)
 
     given-fits : (p : ℕ) (test : Totals → Bool) → Holds TotalsFit (label_of s calls p >>= home s calls >>= λ u. given (test u) u)
     given-fits p test = go (label_of s calls p >>= home s calls) (ridden-fits p)
       where
-        go : (o : Option Totals) → ((u : Totals) → o ≡ some u → TotalsFit u) → Holds TotalsFit (o >>= λ u. given (test u) u)
-        go none F = tt
-        go (some u) F = by-test (test u) (λ t. rw t (F u refl)) (λ n. rw n tt)
+        go : (o : Option Totals) → ((u : Totals) → o ≡ Some u → TotalsFit u) → Holds TotalsFit (o >>= λ u. given (test u) u)
+        go None F = tt
+        go (Some u) F = by-test (test u) (λ t. rw t (F u refl)) (λ n. rw n tt)
 
-    module _ (b : Break) (rest-is : s.head.rest ≡ some b) where
+    module _ (b : Break) (rest-is : s.head.rest ≡ Some b) where
       abbrev kept_at : ℕ → Option Totals
       kept_at p = kept_end s b rest-is calls (label_of s calls p)
 
       -- `g n` is the best with none and with the first n calls
-      pub least-exact : (g : ℕ → Option Scheduled) → g 0 ≡ Option.map fl_totals (excused_end s b rest-is calls (label_of s calls 0))
-          → ((k : ℕ) → k < length calls → g (suc k) ≡ pick_f (g k) (Option.map fl_totals (kept_at (suc k))))
-          → g (length calls) ≡ Option.map fl_totals (least_ride s calls)
+      pub least-exact : (g : ℕ → Option Scheduled) → g 0 ≡ option_map fl_totals (excused_end s b rest-is calls (label_of s calls 0))
+          → ((k : ℕ) → k < length calls → g (suc k) ≡ pick_f (g k) (option_map fl_totals (kept_at (suc k))))
+          → g (length calls) ≡ option_map fl_totals (least_ride s calls)
       least-exact g first more =
           (picks-exact kept_at g (excused_end s b rest-is calls (label_of s calls 0)) (given-fits 0 (λ u. allowed s u && excused b u.duration)) first (length calls)
           (λ k _. given-fits (suc k) (allowed s)) more).0
-          ∙ ap (Option.map fl_totals)
+          ∙ ap (option_map fl_totals)
           (ap (pick_all (excused_end s b rest-is calls (label_of s calls 0))) (sym (map-map (kept_end s b rest-is calls) (label_of s calls) (count 1 (length calls))))
           ∙ sym (least-ends s b rest-is calls))

@@ -1,7 +1,6 @@
 -- The totals of a run with its break at each place in turn, the best of them, and the evaluation by either placement, on floats as the code
 -- has them. Definitions only.
-use Rattle.std.specs.Prelude.{ℕ, zero, suc, List, length, get_or, take, drop, Float}
-use Rattle.std.proofs.Math.Option.{Option, none, some}
+use Rattle.std.specs.Prelude.{ℕ, zero, suc, List, length, get_or, take, drop, Float, Option, None, Some}
 use Rattle.std.specs.Float.Ieee as Ieee
 use Rattle.std.specs.Float.{binary64}
 use Rattle.basics.specs.Options.{◌>>=◌, given}
@@ -24,8 +23,8 @@ module _ (t : Tables) (b : BreakOf Float) where
   rested_f calls k = do
     d ← way_f t start_way (take k calls)
     g ← leg_f t d.prev (get_or calls k 0)
-    l ← serve_f (record_f t (get_or calls k 0)) (some b) (suc k) g.time d.label
-    some (record { distance = Ieee.add binary64 d.distance g.distance; label = l; prev = get_or calls k 0 })
+    l ← serve_f (record_f t (get_or calls k 0)) (Some b) (suc k) g.time d.label
+    Some (record { distance = Ieee.add binary64 d.distance g.distance; label = l; prev = get_or calls k 0 })
 
   module _ (limits : LimitsF) (calls : List ℕ) where
     -- the totals with the break at call number k, from 0, where they keep the limits
@@ -48,8 +47,8 @@ module _ (t : Tables) (b : BreakOf Float) where
 -- the totals of a run that keeps the limits, by the placement; without a break both are the same
 module _ (t : Tables) (limits : LimitsF) where
   abbrev pub least_by : Option (BreakOf Float) → List ℕ → Option Scheduled
-  least_by none calls = allowed_f t limits calls
-  least_by (some b) calls = least_f t b limits calls
+  least_by None calls = allowed_f t limits calls
+  least_by (Some b) calls = least_f t b limits calls
 
   unfoldable pub totals_by : Placement → List ℕ → Option Scheduled
   totals_by Clock calls = allowed_f t limits calls
@@ -57,4 +56,4 @@ module _ (t : Tables) (limits : LimitsF) where
 
   unfoldable pub eval_by : Placement → List ℕ → Option EvaluationF
   eval_by placement calls =
-      totals_by placement calls >>= λ s. some (record { totals = s; start = start_f t limits.rest s.place calls })
+      totals_by placement calls >>= λ s. Some (record { totals = s; start = start_f t limits.rest s.place calls })

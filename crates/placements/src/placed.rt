@@ -2,33 +2,30 @@
 // the calls from the first to the last. Of equals the earlier place counts.
 ghost use Rattle.std.specs.Prelude.{◌≡◌, ◌<◌, length};
 ghost use Rattle.models.specs.Records.{break_of};
-ghost use Rattle.clock.specs.Records.{finished_of};
-ghost use Rattle.evaluation.specs.Records.{driven_of, evaluated_of, limits_of, lent};
+ghost use Rattle.evaluation.specs.Records.{evaluated_of, limits_of, lent};
 ghost use Rattle.evaluation.specs.Route.{kept_f};
 ghost use Rattle.placements.specs.Placed.{rested_f, placed_f, unplaced_f, least_f, totals_by, eval_by};
 
 use clock::least::pick;
-use clock::schedule::{Finished, Reached, excused, serve};
-use distance::leg::{Drive, leg_between};
-use evaluation::route::{Evaluated, RouteEval, allowed, start_of};
+use clock::schedule::{Scheduled, excused, serve};
+use distance::leg::leg_between;
+use evaluation::route::{RouteEval, allowed, start_of};
 use evaluation::schedule::record_index;
-use evaluation::way::{Driven, Way, plain_from, way_through};
+use evaluation::way::{Way, plain_from, way_through};
 use models::customer::Customer;
 use models::limits::RouteLimits;
 use models::placement::Placement;
-use models::vehicle::{Rest, VehicleBreak};
+use models::vehicle::VehicleBreak;
 
 // Totals that keep the limits.
-pub fn kept(totals: Finished, limits: RouteLimits) -> Finished
-    ensures { finished_of result ≡ kept_f (limits_of limits) (finished_of totals) }
+pub fn kept(totals: Option<Scheduled>, limits: RouteLimits) -> Option<Scheduled>
+    ensures { result ≡ kept_f (limits_of limits) totals }
 {
-    let Finished::Home(s) = totals else {
-        return Finished::Impossible;
-    };
+    let s = totals?;
     if limits.allow(s.distance, s.duration) {
-        Finished::Home(s)
+        Some(s)
     } else {
-        Finished::Impossible
+        None
     }
 }
 
@@ -41,26 +38,20 @@ pub fn rested_way(
     size: usize,
     rest: VehicleBreak,
     k: usize,
-) -> Driven
+) -> Option<Way>
     requires { k < length route.now }
     ensures { let tables = lent customers distances.now times.now size in
-        driven_of result ≡ rested_f tables (break_of rest) route.now k }
+        result ≡ rested_f tables (break_of rest) route.now k }
 {
     let begun = &route[..k];
-    let Driven::To(d) = way_through(Way::start(), begun, customers, distances, times, size) else {
-        return Driven::Failed;
-    };
+    let d = way_through(Way::start(), begun, customers, distances, times, size)?;
     let label = d.label;
     let prev = d.prev;
     let cid = route[k];
-    let Drive::Open(leg) = leg_between(distances, times, size, prev, cid) else {
-        return Driven::Failed;
-    };
+    let leg = leg_between(distances, times, size, prev, cid)?;
     let index = record_index(cid);
-    let Reached::At(l) = serve(label, leg.time, customers[index], k + 1, Rest::Break(rest)) else {
-        return Driven::Failed;
-    };
-    Driven::To(Way {
+    let l = serve(label, leg.time, customers[index], k + 1, Some(rest))?;
+    Some(Way {
         distance: d.distance + leg.distance,
         label: l,
         prev: cid,
@@ -77,14 +68,12 @@ pub fn placed(
     rest: VehicleBreak,
     limits: RouteLimits,
     k: usize,
-) -> Finished
+) -> Option<Scheduled>
     requires { k < length route.now }
     ensures { let tables = lent customers distances.now times.now size in
-        finished_of result ≡ placed_f tables (break_of rest) (limits_of limits) route.now k }
+        result ≡ placed_f tables (break_of rest) (limits_of limits) route.now k }
 {
-    let Driven::To(w) = rested_way(route, customers, distances, times, size, rest, k) else {
-        return Finished::Impossible;
-    };
+    let w = rested_way(route, customers, distances, times, size, rest, k)?;
     let left = &route[k + 1..];
     kept(
         plain_from(w, left, customers, distances, times, size),
@@ -101,18 +90,15 @@ pub fn unplaced(
     size: usize,
     rest: VehicleBreak,
     limits: RouteLimits,
-) -> Finished
+) -> Option<Scheduled>
     ensures { let tables = lent customers distances.now times.now size in
-        finished_of result ≡ unplaced_f tables (break_of rest) (limits_of limits) route.now }
+        result ≡ unplaced_f tables (break_of rest) (limits_of limits) route.now }
 {
-    let Finished::Home(s) = plain_from(Way::start(), route, customers, distances, times, size)
-    else {
-        return Finished::Impossible;
-    };
+    let s = plain_from(Way::start(), route, customers, distances, times, size)?;
     if excused(rest, s.duration) {
-        kept(Finished::Home(s), limits)
+        kept(Some(s), limits)
     } else {
-        Finished::Impossible
+        None
     }
 }
 
@@ -125,16 +111,14 @@ pub fn least(
     size: usize,
     rest: VehicleBreak,
     limits: RouteLimits,
-) -> Finished
+) -> Option<Scheduled>
     ensures { let tables = lent customers distances.now times.now size in
-        finished_of result ≡ least_f tables (break_of rest) (limits_of limits) route.now }
+        result ≡ least_f tables (break_of rest) (limits_of limits) route.now }
 {
     let mut best = unplaced(route, customers, distances, times, size, rest, limits);
-    let mut k = 0;
-    while k < route.len() {
+    for k in 0..route.len() {
         let here = placed(route, customers, distances, times, size, rest, limits, k);
         best = pick(best, here);
-        k += 1;
     }
     best
 }
@@ -148,15 +132,15 @@ pub fn totals_by(
     size: usize,
     limits: RouteLimits,
     placement: Placement,
-) -> Finished
+) -> Option<Scheduled>
     ensures { let tables = lent customers distances.now times.now size in
-        finished_of result ≡ totals_by tables (limits_of limits) placement route.now }
+        result ≡ totals_by tables (limits_of limits) placement route.now }
 {
     let Placement::Least = placement else {
         return allowed(route, customers, distances, times, size, limits);
     };
     let rest = limits.rest;
-    let Rest::Break(b) = rest else {
+    let Some(b) = rest else {
         return allowed(route, customers, distances, times, size, limits);
     };
     least(route, customers, distances, times, size, b, limits)
@@ -171,17 +155,14 @@ pub fn eval_by(
     size: usize,
     limits: RouteLimits,
     placement: Placement,
-) -> Evaluated
+) -> Option<RouteEval>
     ensures { let tables = lent customers distances.now times.now size in
         evaluated_of result ≡ eval_by tables (limits_of limits) placement route.now }
 {
-    let Finished::Home(s) = totals_by(route, customers, distances, times, size, limits, placement)
-    else {
-        return Evaluated::NotAllowed;
-    };
+    let s = totals_by(route, customers, distances, times, size, limits, placement)?;
     let rest = limits.rest;
     let start = start_of(route, customers, distances, times, size, rest, s.place);
-    Evaluated::Allowed(RouteEval {
+    Some(RouteEval {
         distance: s.distance,
         duration: s.duration,
         lateness: s.lateness,

@@ -2,7 +2,7 @@
 use Prim.Native.Nat.{ℕ, ◌≤◌}
 use mathlib.Core.Path.{◌≡◌, refl, sym, subst}
 use mathlib.Core.List.{List, []}
-use mathlib.Core.Option.{Option, none, some}
+use Rattle.std.specs.Prelude.{Option, None, Some}
 use lib.ListN.{length}
 use Rattle.bounds.proofs.Inside.{sized, few-calls}
 use Rattle.bounds.proofs.InBytes.{InBytes, bytes-read-back, calls-in-bytes, CutInBytes, split-in-bytes, split-by-in-bytes}
@@ -101,8 +101,8 @@ module _ (way : Way) (q : LentSheet) (tour : List ℕ) (old : CutOutput) where
       (stored (front (λ y. y.dropped) a) old.dropped)
 
   kept_by : (refusal : Option ℕ) → refusal_of value cutting (cut_on q tour old) ≡ refusal → answered ≡ unless_refused refusal x
-      → (refusal ≡ none → (x.cost ≤ limit) × CutInBytes x) → Keeps (cut_in answered) (left answered)
-  kept_by (some number) is by small =
+      → (refusal ≡ None → (x.cost ≤ limit) × CutInBytes x) → Keeps (cut_in answered) (left answered)
+  kept_by (Some number) is by small =
       rw by record {
         result = rw by refl;
         served-left = rw by refl;
@@ -119,7 +119,7 @@ module _ (way : Way) (q : LentSheet) (tour : List ℕ) (old : CutOutput) where
         drops = tt;
         partition = tt;
       }
-  kept_by none is by small =
+  kept_by None is by small =
       let bytes = (small refl).1 in
       let K = front_kept way.placement (way.looks_at (meant q)) tour old.served old.ends old.dropped x bytes (way.clauses (meant q) tour) in
       let means = value-fl x.cost (small refl).0 in

@@ -3,7 +3,7 @@ use Prim.Native.Nat.{ℕ}
 use native.Mathlib.Omega.{arith}
 use mathlib.Core.Path.{◌≡◌, refl, sym, ap, subst, ◌∙◌}
 use mathlib.Core.List.{List}
-use mathlib.Core.Option.{Option, none, some}
+use Rattle.std.specs.Prelude.{Option, None, Some}
 use lib.Ieee.{Float}
 use Rattle.definitions.specs.Lent.{Lent, marking}
 use Rattle.definitions.specs.Refusals.{refusal_of}
@@ -63,8 +63,8 @@ module _ (q : LentSheet) (tour calls ends breaks : List ℕ) where
     Keeps r = MarkContract p q tour calls ends breaks r
 
     kept_by : (refusal : Option ℕ) → refusal_of value marking lent ≡ refusal → answered ≡ unless_refused refusal w → Keeps (mark_in answered)
-    kept_by (some number) is by = rw by record { result = rw by refl; refused = sym is; says = tt; no_other = tt; figures = tt; cheaper = tt }
-    kept_by none is by =
+    kept_by (Some number) is by = rw by record { result = rw by refl; refused = sym is; says = tt; no_other = tt; figures = tt; cheaper = tt }
+    kept_by None is by =
         let says = given-says value lent p w by in
         let cheaper = only p w by in
         rw by record {

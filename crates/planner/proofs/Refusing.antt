@@ -1,7 +1,7 @@
 -- What each contract says of a refusal, from the complete answer: the number, and that nothing is written. Assumes nothing.
 use Prim.Native.Nat.{ℕ}
 use mathlib.Core.Path.{◌≡◌, refl, sym, ap, subst, ◌∙◌}
-use mathlib.Core.Option.{Option, none, some}
+use Rattle.std.specs.Prelude.{Option, None, Some}
 use lib.Ieee.{Float}
 use Rattle.definitions.specs.Sheet.{Sheet}
 use Rattle.definitions.specs.Lent.{Lent, Call}
@@ -12,12 +12,12 @@ use Rattle.planner.specs.Calls.{Refused, Untouched}
 
 -- the number by which a complete answer refuses
 abbrev pub number_of : {A : Type 0} → Answer A → Option ℕ
-number_of (refused number) = some number
-number_of (gives x) = none
+number_of (refused number) = Some number
+number_of (gives x) = None
 
 number_is : {A : Type 0} (o : Option ℕ) (x : A) → number_of (unless_refused o x) ≡ o
-number_is (some number) x = refl
-number_is none x = refl
+number_is (Some number) x = refl
+number_is None x = refl
 
 refused-by : {A : Type 0} (k : Call) (result : Sheet → A) (l : Lent Float) → number_of (answer value k result l) ≡ refusal_of value k l
 unfolding answer

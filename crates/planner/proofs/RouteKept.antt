@@ -2,7 +2,7 @@
 use Prim.Native.Nat.{ℕ}
 use mathlib.Core.Path.{◌≡◌, refl, sym, ap, ap₂, subst, ◌∙◌}
 use mathlib.Core.List.{List, [], ◌∷◌, map}
-use mathlib.Core.Option.{Option, none, some}
+use Rattle.std.specs.Prelude.{Option, None, Some}
 use lib.ListN.{length, take, drop, length-map}
 use lib.Seq.{take-append_seam}
 use Rattle.definitions.specs.Room.{written}
@@ -38,8 +38,8 @@ front-figures ws old =
 module _ (x : Whole.Route) (old : List Violation) where
   given-figures : (refusal : Option ℕ) → let a = unless_refused refusal x in
       IfBuilt (route_in a) (λ f. AllByFigures (take f.violations (written (map fl_violation (front (λ y. y.violations) a)) old)) x.violations)
-  given-figures (some number) = tt
-  given-figures none = front-figures x.violations old
+  given-figures (Some number) = tt
+  given-figures None = front-figures x.violations old
 
   -- so it is of the answer and of the list that is left
   figures-of : (refusal : Option ℕ) (r : Answered.Route) (left : List Violation) → let a = unless_refused refusal x in

@@ -2,7 +2,7 @@
 use mathlib.Core.Path.{◌≡◌, refl}
 use mathlib.Core.List.{List}
 use mathlib.Core.Bool.{Bool}
-use mathlib.Core.Option.{Option, none, some}
+use Rattle.std.specs.Prelude.{Option, None, Some}
 use Prim.Native.Nat.{ℕ}
 use Rattle.definitions.specs.Sheet.{Sheet}
 use Rattle.definitions.specs.Evaluation.{Evaluation}
@@ -26,8 +26,8 @@ same-cost (gives cost) = refl
 
 pub same-eval : (a : Answer (Option Evaluation)) → eval_refusal (evaluation_in a) ≡ number_of a
 same-eval (refused number) = refl
-same-eval (gives none) = refl
-same-eval (gives (some e)) = refl
+same-eval (gives None) = refl
+same-eval (gives (Some e)) = refl
 
 module _ {A R : Type 0} (held : Answer A → R) (refusal : R → Option ℕ) (same : (a : Answer A) → refusal (held a) ≡ number_of a) where
   pub kept : (ask : Sheet → List ℕ → A) (q : LentSheet) (run : List ℕ) {r : R} → r ≡ held (answer value evaluating (λ s. ask s run) (run_on q run)) → EvaluationContract ask held refusal q run r

@@ -1,6 +1,5 @@
 -- What the contracts of the public calls share: what is lent, and what it means to be refused. Definitions only.
-use Rattle.std.specs.Prelude.{ℕ, ◌≡◌, List, Float}
-use Rattle.std.proofs.Math.Option.{Option, none, some}
+use Rattle.std.specs.Prelude.{ℕ, ◌≡◌, List, Float, Option, None, Some}
 use Rattle.definitions.specs.Sheet.{Sheet}
 use Rattle.definitions.specs.Lent.{Lent, Call}
 use Rattle.definitions.specs.Refusals.{refusal_of}
@@ -37,5 +36,5 @@ Refused kind lent number = number ≡ refusal_of value kind lent
 
 -- a call that refuses leaves the lists that it could write as they were
 abbrev pub Untouched : {L : Type 0} → Option ℕ → L → L → Type 0
-Untouched (some number) old new = new ≡ old
-Untouched none old new = Unit {0}
+Untouched (Some number) old new = new ≡ old
+Untouched None old new = Unit {0}

@@ -1,6 +1,5 @@
 -- The contract of a cutting. Definitions only.
-use Rattle.std.specs.Prelude.{ℕ, ◌≡◌, List, length, take, Float}
-use Rattle.std.proofs.Math.Option.{Option, none, some}
+use Rattle.std.specs.Prelude.{ℕ, ◌≡◌, List, length, take, Float, Option, None, Some}
 use Rattle.definitions.specs.Sheet.{Sheet}
 use Rattle.definitions.specs.Drop.{Result, split, split_by}
 use Rattle.definitions.specs.Lent.{Lent, cutting}
@@ -20,8 +19,8 @@ use Rattle.planner.specs.Calls.{LentSheet, on, meant, Refused, Untouched}
 
 -- the number by which it refuses
 abbrev pub cut_refusal : Cut → Option ℕ
-cut_refusal (Cases.Refused number) = some number
-cut_refusal (Cases.Cut counts) = none
+cut_refusal (Cases.Refused number) = Some number
+cut_refusal (Cases.Cut counts) = None
 
 abbrev pub IfCut : Cut → (SplitResult → Type 0) → Type 0
 IfCut (Cases.Refused number) P = Unit {0}
@@ -29,7 +28,7 @@ IfCut (Cases.Cut counts) P = P counts
 
 -- a float that is a whole number, of which P holds
 abbrev pub Means : Float → (ℕ → Type 0) → Type 0
-Means x P = (n : ℕ) × (value x ≡ some n) × P n
+Means x P = (n : ℕ) × (value x ≡ Some n) × P n
 
 -- ---- the numbers in the lists that are written: served customers, run ends, dropped positions
 

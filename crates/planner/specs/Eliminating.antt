@@ -1,6 +1,5 @@
 -- The contract of route elimination. Definitions only.
-use Rattle.std.specs.Prelude.{ℕ, ◌≡◌, List, length, Float}
-use Rattle.std.proofs.Math.Option.{Option, none, some}
+use Rattle.std.specs.Prelude.{ℕ, ◌≡◌, List, length, Float, Option, None, Some}
 use Rattle.definitions.specs.Lent.{Lent, eliminating}
 use Rattle.definitions.specs.Room.{written}
 use Rattle.definitions.specs.Bytes.{numbers_of}
@@ -13,8 +12,8 @@ use Rattle.planner.specs.Calls.{LentSheet, on, Refused, Untouched}
 
 -- the number by which the answer refuses
 abbrev pub elimination_refusal : Elimination → Option ℕ
-elimination_refusal (Cases.Refused number) = some number
-elimination_refusal (Cases.Left left) = none
+elimination_refusal (Cases.Refused number) = Some number
+elimination_refusal (Cases.Left left) = None
 
 -- the numbers in the lists that are written: the calls and the run ends that are left
 pub record EliminationOutput : Type 0 where

@@ -1,6 +1,5 @@
 -- The contract of the evaluations of a run. Definitions only.
-use Rattle.std.specs.Prelude.{ℕ, ◌≡◌, List, Float}
-use Rattle.std.proofs.Math.Option.{Option, none, some}
+use Rattle.std.specs.Prelude.{ℕ, ◌≡◌, List, Float, Option, None, Some}
 use Rattle.definitions.specs.Sheet.{Sheet}
 use Rattle.definitions.specs.Evaluation.{route_feasible, eval_by, effective_cost}
 use Rattle.definitions.specs.Placement.{Placement}
@@ -19,17 +18,17 @@ use Rattle.planner.specs.Calls.{LentSheet, on, Refused}
 -- ---- the answers: the number by which each refuses
 
 abbrev pub feasible_refusal : Feasible → Option ℕ
-feasible_refusal (Feasibles.Refused number) = some number
-feasible_refusal (Feasibles.Answer feasible) = none
+feasible_refusal (Feasibles.Refused number) = Some number
+feasible_refusal (Feasibles.Answer feasible) = None
 
 abbrev pub cost_refusal : Cost → Option ℕ
-cost_refusal (Costs.Refused number) = some number
-cost_refusal (Costs.Answer cost) = none
+cost_refusal (Costs.Refused number) = Some number
+cost_refusal (Costs.Answer cost) = None
 
 abbrev pub eval_refusal : Evaluation → Option ℕ
-eval_refusal (Evaluations.Refused number) = some number
-eval_refusal Evaluations.NotAllowed = none
-eval_refusal (Evaluations.Allowed eval) = none
+eval_refusal (Evaluations.Refused number) = Some number
+eval_refusal Evaluations.NotAllowed = None
+eval_refusal (Evaluations.Allowed eval) = None
 
 -- ---- the contract, for what is asked of a run, how an answer holds it, and the number by which the answer refuses
 

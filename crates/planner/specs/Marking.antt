@@ -1,6 +1,5 @@
 -- The contract of the marker. Definitions only.
-use Rattle.std.specs.Prelude.{ℕ, ◌≡◌, true, List, map, Float}
-use Rattle.std.proofs.Math.Option.{Option, none, some}
+use Rattle.std.specs.Prelude.{ℕ, ◌≡◌, true, List, map, Float, Option, None, Some}
 use Rattle.basics.specs.Options.{present}
 use Rattle.definitions.specs.Sheet.{Sheet, lateness_pay}
 use Rattle.definitions.specs.Run.{Run}
@@ -27,8 +26,8 @@ use Rattle.planner.specs.Calls.{LentSheet, on, meant, Refused}
 
 -- the number by which it refuses
 abbrev pub mark_refusal : Marking → Option ℕ
-mark_refusal (Cases.Refused number) = some number
-mark_refusal (Cases.Verdict verdict) = none
+mark_refusal (Cases.Refused number) = Some number
+mark_refusal (Cases.Verdict verdict) = None
 
 abbrev pub IfMarked : Marking → (Verdict → Type 0) → Type 0
 IfMarked (Cases.Refused number) P = Unit {0}

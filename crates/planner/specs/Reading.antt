@@ -1,6 +1,5 @@
 -- The contract of the reader. Definitions only.
-use Rattle.std.specs.Prelude.{ℕ, ◌≡◌, cond, List, [], ◌∷◌, map, length, Float}
-use Rattle.std.proofs.Math.Option.{Option, none, some}
+use Rattle.std.specs.Prelude.{ℕ, ◌≡◌, cond, List, [], ◌∷◌, map, length, Float, Option, None, Some}
 use Rattle.definitions.specs.Answers.{read_customers, read_distances, read_times, read_tour}
 use Rattle.definitions.specs.Words.{words_of, left_over}
 use Rattle.definitions.specs.Reader as Reader
@@ -18,8 +17,8 @@ use Rattle.planner.specs.Calls.{Untouched}
 
 -- the number by which it refuses
 abbrev pub read_refusal : Read → Option ℕ
-read_refusal (Cases.Refused number word) = some number
-read_refusal (Cases.Sheet contents) = none
+read_refusal (Cases.Refused number word) = Some number
+read_refusal (Cases.Sheet contents) = None
 
 -- accepted, or refused by a number at a word
 abbrev pub outcome_of : Read → Outcome

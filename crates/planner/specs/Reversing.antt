@@ -1,6 +1,5 @@
 -- The contract of the reversal of stretches. Definitions only.
-use Rattle.std.specs.Prelude.{ℕ, ◌≡◌, List, length, Float}
-use Rattle.std.proofs.Math.Option.{Option, none, some}
+use Rattle.std.specs.Prelude.{ℕ, ◌≡◌, List, length, Float, Option, None, Some}
 use Rattle.definitions.specs.Lent.{Lent, reversing}
 use Rattle.definitions.specs.Room.{written}
 use Rattle.definitions.specs.Answers.{Answer, Improved, front, two_opt_of}
@@ -12,8 +11,8 @@ use Rattle.planner.specs.Calls.{LentSheet, on, Refused, Untouched}
 
 -- the number by which the answer refuses
 abbrev pub reversal_refusal : Reversed → Option ℕ
-reversal_refusal (Cases.Refused number) = some number
-reversal_refusal (Cases.Improved run) = none
+reversal_refusal (Cases.Refused number) = Some number
+reversal_refusal (Cases.Improved run) = None
 
 module _ (q : LentSheet) (run old : List ℕ) where
   -- all that is lent, with the length of the list that is written

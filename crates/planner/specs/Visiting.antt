@@ -1,6 +1,5 @@
 -- The contract of the visits of a run. Definitions only.
-use Rattle.std.specs.Prelude.{ℕ, min, ◌≡◌, List, map, length, take, Float}
-use Rattle.std.proofs.Math.Option.{Option, none, some}
+use Rattle.std.specs.Prelude.{ℕ, min, ◌≡◌, List, map, length, take, Float, Option, None, Some}
 use Rattle.definitions.specs.Visits as Whole
 use Rattle.definitions.specs.Visits.{build_route, violation_number, violation_values}
 use Rattle.definitions.specs.Lent.{Lent, visiting}
@@ -38,8 +37,8 @@ pub record Writes (l : Listed) (old : RouteOutput) (r : Route) (new : RouteOutpu
 
 -- the number by which it refuses
 abbrev pub route_refusal : Route → Option ℕ
-route_refusal (Cases.Refused number) = some number
-route_refusal (Cases.Built figures) = none
+route_refusal (Cases.Refused number) = Some number
+route_refusal (Cases.Built figures) = None
 
 abbrev pub IfBuilt : Route → (RouteFigures → Type 0) → Type 0
 IfBuilt (Cases.Refused number) P = Unit {0}

@@ -1,8 +1,6 @@
 -- Notes of the customers called: a call more, along a tour, and what they say of the calls that they are of. Assumes nothing.
 use Prim.Native.Nat.{ℕ, zero, suc, ◌+◌, ◌≤◌, ◌<◌}
-use native.Mathlib.Omega.{arith}
 use native.Mathlib.Numerals.{add-one}
-use native.Mathlib.Nat.{not-suc-le-zero}
 use mathlib.Core.Path.{◌≡◌, refl, sym, ap, subst, ◌∙◌}
 use mathlib.Core.Bool.{Bool, true, false, ◌||◌}
 use mathlib.Core.List.{List, [], ◌∷◌}
@@ -12,12 +10,6 @@ use lib.Dec.{eqb}
 use borrow.Author.Tests.{eqb-true, eqb-false}
 use Rattle.basics.proofs.TestLaws.{by-test}
 use Rattle.refuse_lists.specs.Called.{none_called, called_twice, Notes}
-
--- of a number beyond them nothing is noted
-pub set_beyond : (called : List Bool) (c : ℕ) → length called ≤ c → called ≡ set called c true
-set_beyond [] c h = refl
-set_beyond (b ∷ called) zero h = absurd (not-suc-le-zero h)
-set_beyond (b ∷ called) (suc c) h = ap (λ (l : List Bool). b ∷ l) (set_beyond called c (omega arith))
 
 -- ---- along a tour
 

@@ -25,14 +25,11 @@ pub fn repeats(tour: &[usize]) -> bool
     ensures { result ≡ called_twice none_called tour.now }
 {
     let mut called = [false; 64];
-    let mut i = 0;
-    while i < tour.len() {
-        let c = tour[i];
+    for &c in tour {
         if is_called(&called, c) {
             return true;
         }
         note_call(&mut called, c);
-        i += 1;
     }
     false
 }

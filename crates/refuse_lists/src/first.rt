@@ -8,15 +8,10 @@ ghost use Rattle.refuse_lists.specs.First.{in_order};
 pub fn first_fit(numbers: &[u32], fits: &[bool]) -> u32
     ensures { result ≡ value_or 0 (first_fit (in_order numbers.now fits.now)) }
 {
-    let mut i = 0;
-    while i < numbers.len() {
-        if fits.len() <= i {
-            return 0;
+    for (&number, &fits) in numbers.iter().zip(fits) {
+        if fits {
+            return number;
         }
-        if fits[i] {
-            return numbers[i];
-        }
-        i += 1;
     }
     0
 }

@@ -9,17 +9,7 @@ use crate::kind::{Kind, Results};
 pub fn short(needs: &[usize], rooms: &[usize]) -> bool
     ensures { result ≡ Room.short needs.now rooms.now }
 {
-    let mut i = 0;
-    while i < needs.len() {
-        if rooms.len() <= i {
-            return true;
-        }
-        if rooms[i] < needs[i] {
-            return true;
-        }
-        i += 1;
-    }
-    false
+    rooms.len() < needs.len() || needs.iter().zip(rooms).any(|(need, room)| room < need)
 }
 
 // A result list is shorter than the call needs for what it is lent.

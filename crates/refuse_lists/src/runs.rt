@@ -5,7 +5,6 @@ ghost use Rattle.refuse_lists.specs.Needs.{runs_odd_of};
 
 use crate::kind::Kind;
 use models::byte::number_of;
-use models::count::fewer;
 use models::domain::MOST_CALLS;
 
 // An end below the one before it, or the last is not the number of calls.
@@ -13,14 +12,11 @@ pub fn ends_fall(ends: &[u8], calls: usize) -> bool
     ensures { result ≡ ends_fall 0 ends.now calls }
 {
     let mut p = 0u8;
-    let mut i = 0;
-    while i < ends.len() {
-        let e = ends[i];
+    for &e in ends {
         if e < p {
             return true;
         }
         p = e;
-        i += 1;
     }
     number_of(p) != calls
 }
@@ -29,14 +25,11 @@ pub fn empty_run(ends: &[u8]) -> bool
     ensures { result ≡ empty_run 0 ends.now }
 {
     let mut p = 0u8;
-    let mut i = 0;
-    while i < ends.len() {
-        let e = ends[i];
+    for &e in ends {
         if e == p {
             return true;
         }
         p = e;
-        i += 1;
     }
     false
 }
@@ -58,16 +51,12 @@ pub fn last_place(rest: bool, p: u8, e: u8) -> u8
 pub fn break_beyond(rest: bool, ends: &[u8], breaks: &[u8]) -> bool
     ensures { result ≡ break_beyond rest 0 ends.now breaks.now }
 {
-    let n = fewer(ends.len(), breaks.len());
     let mut p = 0u8;
-    let mut i = 0;
-    while i < n {
-        let e = ends[i];
-        if last_place(rest, p, e) < breaks[i] {
+    for (&e, &place) in ends.iter().zip(breaks) {
+        if last_place(rest, p, e) < place {
             return true;
         }
         p = e;
-        i += 1;
     }
     false
 }

@@ -1,12 +1,8 @@
--- Closed legs: on numbers of leg tables the floats' test is that of the whole numbers; and the search for two that disagree. Assumes nothing.
-use Prim.Native.Nat.{ℕ, suc, ◌+◌, ◌≤◌, ◌<◌, min}
-use native.Mathlib.Numerals.{add-one}
+-- Closed legs: on numbers of leg tables the floats' test is that of the whole numbers. Assumes nothing.
 use native.Mathlib.Omega.{arith}
-use mathlib.Core.Path.{◌≡◌, refl, sym, ap, ap₂, ◌∙◌}
-use mathlib.Core.Bool.{Bool, true, false, cond, not, ◌||◌, and-true}
+use mathlib.Core.Path.{◌≡◌, refl, ap₂, ◌∙◌}
+use mathlib.Core.Bool.{Bool, false, cond, not, ◌||◌, and-true}
 use mathlib.Core.List.{List, [], ◌∷◌}
-use lib.ListN.{length, get_or, drop}
-use lib.Seq.{drop-cons}
 use lib.Ieee.{Float}
 use Rattle.basics.proofs.TestLaws.{or_left, or_right}
 use Rattle.basics.specs.Lists.{any}
@@ -19,7 +15,7 @@ use Rattle.whole.specs.Value.{value}
 use Rattle.whole.proofs.Fractions.{eq-exact}
 use Rattle.whole.proofs.ValueLaws.{value-is, value-fl}
 use Rattle.distance.specs.Lookup.{is_closed_f}
-use Rattle.refuse_numbers.specs.ClosedLegs.{apart_f, disagree_f}
+use Rattle.refuse_numbers.specs.ClosedLegs.{disagree_f}
 
 pub closed-exact : (x : Float) → unfit value is_leg x ≡ false → is_closed_f x ≡ is_closed (whole value x)
 unfolding is_closed_f
@@ -40,33 +36,3 @@ disagree-exact (d ∷ ds) (t ∷ ts) h k =
     let long = closed-exact t (or_left (unfit value is_leg t) (any (unfit value is_leg) ts) k) in
     ap₂ (λ (a b : Bool). a || b) (ap₂ (λ (a b : Bool). cond a (not b) b) far long)
     (disagree-exact ds ts (or_right (unfit value is_leg d) (any (unfit value is_leg) ds) h) (or_right (unfit value is_leg t) (any (unfit value is_leg) ts) k))
-
--- ---- the search through both tables
-
-module _ (ds ts : List Float) where
-  -- nothing is found in the first i legs
-  abbrev pub Agreed : ℕ → Type 0
-  Agreed i = disagree_f (drop i ds) (drop i ts) ≡ disagree_f ds ts
-
-  here : (i : ℕ) (d e : Float) → i < length ds → i < length ts → disagree_f (drop i ds) (drop i ts) ≡ apart_f (get_or ds i d) (get_or ts i e) || disagree_f (drop (suc i) ds) (drop (suc i) ts)
-  here i d e h k = ap₂ disagree_f (drop-cons ds i d h) (drop-cons ts i e k)
-
-  pub apart-found : (i : ℕ) (d e : Float) → i < min (length ds) (length ts) → apart_f (get_or ds i d) (get_or ts i e) ≡ true → Agreed i → true ≡ disagree_f ds ts
-  apart-found i d e h q A = sym (here i d e (omega arith) (omega arith) ∙ ap (λ (b : Bool). b || disagree_f (drop (suc i) ds) (drop (suc i) ts)) q) ∙ A
-
-  pub agreed-on : (i : ℕ) (d e : Float) → i < min (length ds) (length ts) → apart_f (get_or ds i d) (get_or ts i e) ≡ false → Agreed i → Agreed (i + 1)
-  agreed-on i d e h q A = rw add-one (sym (here i d e (omega arith) (omega arith) ∙ ap (λ (b : Bool). b || disagree_f (drop (suc i) ds) (drop (suc i) ts)) q) ∙ A)
-
-  pub agreed-all : (i : ℕ) → min (length ds) (length ts) ≤ i → Agreed i → false ≡ disagree_f ds ts
-  agreed-all i h A = sym (over (drop i ds) (drop i ts) (short-of h)) ∙ A
-    where
-      short-of : min (length ds) (length ts) ≤ i → min (length (drop i ds)) (length (drop i ts)) ≡ 0
-      short-of h = simp lib.ListN.length-drop (omega arith)
-
-      over : (xs ys : List Float) → min (length xs) (length ys) ≡ 0 → disagree_f xs ys ≡ false
-      over [] ys z = refl
-      over (x ∷ xs) [] z = refl
-      over (x ∷ xs) (y ∷ ys) z = absurd (none z)
-        where
-          none : min (suc (length xs)) (suc (length ys)) ≡ 0 → ⊥
-          none z = omega arith

@@ -2,7 +2,7 @@
 use mathlib.Core.Path.{◌≡◌, refl, ap₂}
 use mathlib.Core.Bool.{Bool, false, ◌||◌}
 use mathlib.Core.List.{List, [], ◌∷◌}
-use mathlib.Core.Option.{Option, none, some}
+use Rattle.std.specs.Prelude.{Option, None, Some}
 use lib.Ieee as Ieee
 use lib.Ieee.{Float}
 use Rattle.basics.proofs.TestLaws.{or_left, or_right}
@@ -22,12 +22,12 @@ pub above-exact : (x y : Float) → unfit value is_number x ≡ false → unfit 
 above-exact x y h k = lt-exact false false _ _ y x (value-is y _ (held value is_number y k).0) (value-is x _ (held value is_number x h).0)
 
 window-exact : (w : Option (WindowOf Float)) → bad_window value w ≡ false → window_falls_f w ≡ window_falls value w
-window-exact none h = refl
-window-exact (some w) h = let R = window-in-range value w h in above-exact w.ready w.due R.ready R.due
+window-exact None h = refl
+window-exact (Some w) h = let R = window-in-range value w h in above-exact w.ready w.due R.ready R.due
 
 break-exact : (b : Option (BreakOf Float)) → bad_break value b ≡ false → break_falls_f b ≡ break_falls value b
-break-exact none h = refl
-break-exact (some b) h = let R = break-in-range value b h in above-exact b.earliest b.latest R.earliest R.latest
+break-exact None h = refl
+break-exact (Some b) h = let R = break-in-range value b h in above-exact b.earliest b.latest R.earliest R.latest
 
 windows-exact : (cs : List (CustomerOf Float)) → any (bad_customer value) cs ≡ false
     → any (λ (c : CustomerOf Float). window_falls_f c.window) cs ≡ any (λ (c : CustomerOf Float). window_falls value c.window) cs

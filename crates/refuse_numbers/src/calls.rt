@@ -11,28 +11,14 @@ use models::domain::{MOST_CALLS, is_call};
 fn no_customer(places: usize, tour: &[usize]) -> bool
     ensures { result ≡ any (λ c. not (is_call places c)) tour.now }
 {
-    let mut i = 0;
-    while i < tour.len() {
-        if !is_call(places, tour[i]) {
-            return true;
-        }
-        i += 1;
-    }
-    false
+    tour.iter().any(|&c| !is_call(places, c))
 }
 
 // A byte that is none.
 fn no_customer_byte(places: usize, calls: &[u8]) -> bool
     ensures { result ≡ any (λ c. not (is_call places c)) calls.now }
 {
-    let mut i = 0;
-    while i < calls.len() {
-        if !is_call(places, number_of(calls[i])) {
-            return true;
-        }
-        i += 1;
-    }
-    false
+    calls.iter().any(|&c| !is_call(places, number_of(c)))
 }
 
 // More than 128 calls, or a call out of range.

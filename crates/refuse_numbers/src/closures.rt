@@ -5,7 +5,6 @@ ghost use Rattle.distance.specs.Lookup.{is_closed_f};
 ghost use Rattle.refuse_numbers.specs.ClosedLegs.{apart_f, disagree_f};
 
 use distance::matrix::is_closed;
-use models::count::fewer;
 
 // One of the two is closed and the other is not.
 fn closed_apart(x: f64, y: f64) -> bool
@@ -22,27 +21,15 @@ fn closed_apart(x: f64, y: f64) -> bool
 pub fn any_closed(distances: &[f64]) -> bool
     ensures { result ≡ any is_closed_f distances.now }
 {
-    let mut i = 0;
-    while i < distances.len() {
-        if is_closed(distances[i]) {
-            return true;
-        }
-        i += 1;
-    }
-    false
+    distances.iter().any(|&leg| is_closed(leg))
 }
 
 // Whether distance and time disagree on closure, leg by leg; an empty time table agrees.
 pub fn closures_differ(distances: &[f64], times: &[f64]) -> bool
     ensures { result ≡ disagree_f distances.now times.now }
 {
-    let n = fewer(distances.len(), times.len());
-    let mut i = 0;
-    while i < n {
-        if closed_apart(distances[i], times[i]) {
-            return true;
-        }
-        i += 1;
-    }
-    false
+    distances
+        .iter()
+        .zip(times)
+        .any(|(&distance, &time)| closed_apart(distance, time))
 }

@@ -5,7 +5,6 @@ ghost use Rattle.models.specs.Records.{customer_of};
 ghost use Rattle.refuse_numbers.specs.Customers.{test_of};
 
 use crate::records::{bad_customer, is_soft, window_falls};
-use models::count::fewer;
 use models::customer::Customer;
 
 // What is asked of a customer's record, in the order of the refusals.
@@ -37,14 +36,5 @@ pub fn applies(test: Test, c: Customer) -> bool
 pub fn any_applies(test: Test, customers: [Customer; 64], places: usize) -> bool
     ensures { result ≡ any (test_of test) (take places (map customer_of customers)) }
 {
-    let n = fewer(places, 64);
-    let mut i = 0;
-    while i < n {
-        let c = customers[i];
-        if applies(test, c) {
-            return true;
-        }
-        i += 1;
-    }
-    false
+    customers.iter().take(places).any(|&c| applies(test, c))
 }

@@ -5,50 +5,47 @@ ghost use Rattle.basics.specs.Options.{present};
 ghost use Rattle.definitions.specs.Domain.{is_penalty, is_number};
 ghost use Rattle.definitions.specs.Sheet.{soft};
 ghost use Rattle.definitions.specs.Refusals.{bad_optional, bad_break, bad_window, bad_customer, bad_depot};
-ghost use Rattle.models.specs.Records.{opening_of, penalty_of, customer_of, rest_of, limit_of};
+ghost use Rattle.models.specs.Records.{opening_of, customer_of, rest_of};
 ghost use Rattle.whole.specs.Value.{value};
 ghost use Rattle.refuse_numbers.specs.Falling.{window_falls_f, break_falls_f};
 
 use crate::numbers::{unfit_number, unfit_penalty, unfit_zero};
-use models::customer::{Customer, Opening, Penalty, has_window};
-use models::limits::Limit;
-use models::vehicle::Rest;
+use models::customer::{Customer, TimeWindow, has_window};
+use models::vehicle::VehicleBreak;
 
-pub fn bad_limit(limit: Limit) -> bool
-    ensures { result ≡ bad_optional value is_number (limit_of limit) }
+pub fn bad_limit(limit: Option<f64>) -> bool
+    ensures { result ≡ bad_optional value is_number limit }
 {
     match limit {
-        Limit::Unlimited => false,
-        Limit::At(max) => unfit_number(max),
+        None => false,
+        Some(max) => unfit_number(max),
     }
 }
 
-pub fn bad_break(rest: Rest) -> bool
+pub fn bad_break(rest: Option<VehicleBreak>) -> bool
     ensures { result ≡ bad_break value (rest_of rest) }
 {
     match rest {
-        Rest::Unbroken => false,
-        Rest::Break(b) => {
-            unfit_number(b.earliest) | unfit_number(b.latest) | unfit_number(b.duration)
-        }
+        None => false,
+        Some(b) => { unfit_number(b.earliest) | unfit_number(b.latest) | unfit_number(b.duration) }
     }
 }
 
-pub fn bad_window(opening: Opening) -> bool
+pub fn bad_window(opening: Option<TimeWindow>) -> bool
     ensures { result ≡ bad_window value (opening_of opening) }
 {
     match opening {
-        Opening::Always => false,
-        Opening::Window(w) => unfit_number(w.ready) | unfit_number(w.due),
+        None => false,
+        Some(w) => unfit_number(w.ready) | unfit_number(w.due),
     }
 }
 
-pub fn bad_penalty(penalty: Penalty) -> bool
-    ensures { result ≡ bad_optional value is_penalty (penalty_of penalty) }
+pub fn bad_penalty(penalty: Option<f64>) -> bool
+    ensures { result ≡ bad_optional value is_penalty penalty }
 {
     match penalty {
-        Penalty::Hard => false,
-        Penalty::Soft(p) => unfit_penalty(p),
+        None => false,
+        Some(p) => unfit_penalty(p),
     }
 }
 
@@ -63,13 +60,10 @@ pub fn bad_customer(c: Customer) -> bool
         | bad_penalty(penalty)
 }
 
-pub fn has_penalty(penalty: Penalty) -> bool
-    ensures { result ≡ present (penalty_of penalty) }
+pub fn has_penalty(penalty: Option<f64>) -> bool
+    ensures { result ≡ present penalty }
 {
-    match penalty {
-        Penalty::Hard => false,
-        Penalty::Soft(_) => true,
-    }
+    penalty.is_some()
 }
 
 // The depot's record with demand, service, window or penalty.
@@ -81,22 +75,22 @@ pub fn bad_depot(c: Customer) -> bool
 }
 
 // Ready above due.
-pub fn window_falls(opening: Opening) -> bool
+pub fn window_falls(opening: Option<TimeWindow>) -> bool
     ensures { result ≡ window_falls_f (opening_of opening) }
 {
     match opening {
-        Opening::Always => false,
-        Opening::Window(w) => w.ready > w.due,
+        None => false,
+        Some(w) => w.ready > w.due,
     }
 }
 
 // Earliest above latest.
-pub fn break_falls(rest: Rest) -> bool
+pub fn break_falls(rest: Option<VehicleBreak>) -> bool
     ensures { result ≡ break_falls_f (rest_of rest) }
 {
     match rest {
-        Rest::Unbroken => false,
-        Rest::Break(b) => b.earliest > b.latest,
+        None => false,
+        Some(b) => b.earliest > b.latest,
     }
 }
 

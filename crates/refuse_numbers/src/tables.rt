@@ -13,14 +13,7 @@ use models::count::fewer;
 pub fn bad_numbers(numbers: &[f64]) -> bool
     ensures { result ≡ any (unfit value is_leg) numbers.now }
 {
-    let mut left = numbers;
-    while 0 < left.len() {
-        if unfit_leg(left[0]) {
-            return true;
-        }
-        left = &left[1..];
-    }
-    false
+    numbers.iter().any(|&x| unfit_leg(x))
 }
 
 // The first k rows of both tables, `size` numbers to a row: a row of the distances and the same row of the times, then
@@ -33,8 +26,7 @@ pub fn bad_rows(distances: &[f64], times: &[f64], size: usize, k: usize) -> bool
 {
     let mut d = distances;
     let mut t = times;
-    let mut i = 0;
-    while i < k {
+    for _ in 0..k {
         let m = fewer(size, d.len());
         let n = fewer(size, t.len());
         if bad_numbers(&d[0..m]) | bad_numbers(&t[0..n]) {
@@ -42,7 +34,6 @@ pub fn bad_rows(distances: &[f64], times: &[f64], size: usize, k: usize) -> bool
         }
         d = &d[m..];
         t = &t[n..];
-        i += 1;
     }
     false
 }

@@ -8,52 +8,43 @@ use mir.Val.{Val}
 use denote.Array.{each}
 use denote.Shadow.{shadow}
 use denote.Floats.{passes}
-use denote.Enum.Declared as Enum
+use denote.Builtin.{f64}
 use denote.Struct.Declared as Struct
 use Rattle.basics.specs.Options.{Holds}
 use Rattle.basics.specs.Lists.{All}
 use Rattle.models.specs.declared.customer.TimeWindow.{TimeWindow}
-use Rattle.models.specs.declared.customer.Opening.{Opening}
-use Rattle.models.specs.declared.customer.Opening.TheVariants.{Always, Window}
-use Rattle.models.specs.declared.customer.Penalty.{Penalty}
-use Rattle.models.specs.declared.customer.Penalty.TheVariants.{Hard, Soft}
+use Rattle.std.specs.Prelude.{Option, None, Some}
 use Rattle.models.specs.declared.customer.Customer.{Customer}
 use Rattle.models.specs.declared.vehicle.VehicleBreak.{VehicleBreak}
-use Rattle.models.specs.declared.vehicle.Rest.{Rest}
-use Rattle.models.specs.declared.vehicle.Rest.TheVariants.{Unbroken, Break}
-use Rattle.models.specs.declared.limits.Limit.{Limit}
-use Rattle.models.specs.declared.limits.Limit.TheVariants.{Unlimited, At}
-use Rattle.models.specs.Records.{window_of, opening_of, penalty_of, customer_of, break_of, rest_of, limit_of}
+use Rattle.models.specs.Records.{window_of, opening_of, customer_of, break_of, rest_of}
 use Rattle.models.specs.contracts.customer.TimeWindow as TimeWindowRow
-use Rattle.models.specs.contracts.customer.Opening as OpeningRow
-use Rattle.models.specs.contracts.customer.Penalty as PenaltyRow
 use Rattle.models.specs.contracts.customer.Customer as CustomerRow
 use Rattle.models.specs.contracts.vehicle.VehicleBreak as VehicleBreakRow
-use Rattle.models.specs.contracts.vehicle.Rest as RestRow
-use Rattle.models.specs.contracts.limits.Limit as LimitRow
+use Rattle.std.specs.contracts.option.Option.{the_row as OptionOf}
 use Rattle.models.specs.declared.head.Head.{Head}
 use Rattle.models.specs.contracts.head.Head as HeadRow
 use Rattle.refuse_order.proofs.Image.{Fit, FitWindow, FitBreak, FitCustomer}
 
 -- ---- of a customer
 
-fit-penalty : (p : Penalty) (us : List Val) → shadow ((Enum.row PenaltyRow.the_type).own_val p us) → Holds Fit (penalty_of p)
-fit-penalty Hard us h = tt
-fit-penalty (Soft x) us h = passes _ h.1.1.1.1.0.1
+-- a penalty, or a limit
+fit-number : (o : Option Float) (us : List Val) → shadow ((OptionOf f64).own_val o us) → Holds Fit o
+fit-number None us h = tt
+fit-number (Some x) us h = passes _ h.1.1.1.1.0.1
 
 fit-window : (w : TimeWindow) (us : List Val) → shadow ((Struct.row TimeWindowRow.the_type).own_val w us) → FitWindow (window_of w)
 fit-window w us h = record { ready = passes _ h.1.1.0.1; due = passes _ h.1.1.1.0.1 }
 
-fit-opening : (o : Opening) (us : List Val) → shadow ((Enum.row OpeningRow.the_type).own_val o us) → Holds FitWindow (opening_of o)
-fit-opening Always us h = tt
-fit-opening (Window w) us h = fit-window w _ h.1.1.1.1.0
+fit-opening : (o : Option TimeWindow) (us : List Val) → shadow ((OptionOf (Struct.row TimeWindowRow.the_type)).own_val o us) → Holds FitWindow (opening_of o)
+fit-opening None us h = tt
+fit-opening (Some w) us h = fit-window w _ h.1.1.1.1.0
 
 pub fit-customer : (c : Customer) (us : List Val) → shadow ((Struct.row CustomerRow.the_type).own_val c us) → FitCustomer (customer_of c)
 fit-customer c us h =
     record {
       service = passes _ h.1.1.1.0.1;
       window = fit-opening c.time_window _ h.1.1.1.1.0;
-      penalty = fit-penalty c.lateness_penalty _ h.1.1.1.1.1.0;
+      penalty = fit-number c.lateness_penalty _ h.1.1.1.1.1.0;
     }
 
 -- of each customer of an array or a slice
@@ -64,21 +55,17 @@ fit-customers (c ∷ cs) (u ∷ us) h = (fit-customer c (u ∷ []) h.0, fit-cust
 
 -- ---- of a head
 
-fit-limit : (l : Limit) (us : List Val) → shadow ((Enum.row LimitRow.the_type).own_val l us) → Holds Fit (limit_of l)
-fit-limit Unlimited us h = tt
-fit-limit (At x) us h = passes _ h.1.1.1.1.0.1
-
 fit-break : (b : VehicleBreak) (us : List Val) → shadow ((Struct.row VehicleBreakRow.the_type).own_val b us) → FitBreak (break_of b)
 fit-break b us h = record { earliest = passes _ h.1.1.0.1; latest = passes _ h.1.1.1.0.1; duration = passes _ h.1.1.1.1.0.1 }
 
-fit-rest : (r : Rest) (us : List Val) → shadow ((Enum.row RestRow.the_type).own_val r us) → Holds FitBreak (rest_of r)
-fit-rest Unbroken us h = tt
-fit-rest (Break b) us h = fit-break b _ h.1.1.1.1.0
+fit-rest : (r : Option VehicleBreak) (us : List Val) → shadow ((OptionOf (Struct.row VehicleBreakRow.the_type)).own_val r us) → Holds FitBreak (rest_of r)
+fit-rest None us h = tt
+fit-rest (Some b) us h = fit-break b _ h.1.1.1.1.0
 
 pub record FitHead (head : Head) : Type 0 where
   pub fixed : Fit head.fixed_cost
-  pub max_distance : Holds Fit (limit_of head.limits.max_distance)
-  pub max_duration : Holds Fit (limit_of head.limits.max_duration)
+  pub max_distance : Holds Fit head.limits.max_distance
+  pub max_duration : Holds Fit head.limits.max_duration
   pub rest : Holds FitBreak (rest_of head.limits.rest)
 
 pub fit-head : (head : Head) (us : List Val) → shadow ((Struct.row HeadRow.the_type).own_val head us) → FitHead head
@@ -86,8 +73,8 @@ fit-head head us h =
     let l = h.1.1.1.1.1.0 in
     record {
       fixed = passes _ h.1.1.1.1.0.1;
-      max_distance = fit-limit head.limits.max_distance _ l.1.1.0;
-      max_duration = fit-limit head.limits.max_duration _ l.1.1.1.0;
+      max_distance = fit-number head.limits.max_distance _ l.1.1.0;
+      max_duration = fit-number head.limits.max_duration _ l.1.1.1.0;
       rest = fit-rest head.limits.rest _ l.1.1.1.1.0;
     }
 

@@ -4,8 +4,7 @@ use native.Mathlib.Omega.{arith}
 use mathlib.Core.Path.{◌≡◌, refl, subst}
 use mathlib.Core.Bool.{Bool, true, false, ◌||◌}
 use mathlib.Core.List.{List, [], ◌∷◌, map}
-use mathlib.Core.Option
-use mathlib.Core.Option.{Option, none, some}
+use Rattle.std.specs.Prelude.{Option, None, Some, option_map}
 use lib.Dec.{T, leb}
 use lib.Ieee as Ieee
 use lib.Ieee.{Float, binary64}
@@ -63,30 +62,30 @@ module _ (m : ℕ) (l : m ≤ limit) where
       let b = leb-true (whole value x) m e.1 in
       fl-value x (whole value x) f e.0 (omega arith)
 
-  exact-limit : (o : Option Float) → Holds Fit o → bad_optional value (λ (n : ℕ). leb n m) o ≡ false → o ≡ Option.map fl (Option.map (whole value) o)
-  exact-limit none f h = refl
-  exact-limit (some x) f h = λ i. some (exact x f h i)
+  exact-limit : (o : Option Float) → Holds Fit o → bad_optional value (λ (n : ℕ). leb n m) o ≡ false → o ≡ option_map fl (option_map (whole value) o)
+  exact-limit None f h = refl
+  exact-limit (Some x) f h = λ i. Some (exact x f h i)
 
 number : (x : Float) → Fit x → unfit value is_number x ≡ false → x ≡ fl (whole value x)
 number = exact 10000000 (omega arith)
 
-exact-break : (o : Option (BreakOf Float)) → Holds FitBreak o → bad_break value o ≡ false → o ≡ Option.map fl_break (Option.map (map_break (whole value)) o)
-exact-break none f h = refl
-exact-break (some b) f h =
+exact-break : (o : Option (BreakOf Float)) → Holds FitBreak o → bad_break value o ≡ false → o ≡ option_map fl_break (option_map (map_break (whole value)) o)
+exact-break None f h = refl
+exact-break (Some b) f h =
     let R = break-in-range value b h in
     λ i.
-    some
+    Some
     (record {
       earliest = number b.earliest f.earliest R.earliest i;
       latest = number b.latest f.latest R.latest i;
       duration = number b.duration f.duration R.duration i;
     })
 
-exact-window : (o : Option (WindowOf Float)) → Holds FitWindow o → bad_window value o ≡ false → o ≡ Option.map fl_window (Option.map (map_window (whole value)) o)
-exact-window none f h = refl
-exact-window (some w) f h =
+exact-window : (o : Option (WindowOf Float)) → Holds FitWindow o → bad_window value o ≡ false → o ≡ option_map fl_window (option_map (map_window (whole value)) o)
+exact-window None f h = refl
+exact-window (Some w) f h =
     let R = window-in-range value w h in
-    λ i. some (record { ready = number w.ready f.ready R.ready i; due = number w.due f.due R.due i })
+    λ i. Some (record { ready = number w.ready f.ready R.ready i; due = number w.due f.due R.due i })
 
 exact-customer : (c : CustomerOf Float) → FitCustomer c → bad_customer value c ≡ false → c ≡ fl_customer (map_customer (whole value) c)
 exact-customer c f h =
@@ -137,6 +136,6 @@ sheet-image s f h =
     }
 
 -- and so is what an accepted call is lent
-pub accepted-image : (k : Call) (l : Lent Float) → FitSheet l.sheet → refusal_of value k l ≡ none → own l.sheet ≡ fl_sheet (whole_sheet value l.sheet)
+pub accepted-image : (k : Call) (l : Lent Float) → FitSheet l.sheet → refusal_of value k l ≡ None → own l.sheet ≡ fl_sheet (whole_sheet value l.sheet)
 unfolding refusal_of refusals
 accepted-image k l f h = sheet-image l.sheet f (lent-in-range value l (none-fits (refusals value k l) h 1)).sheet

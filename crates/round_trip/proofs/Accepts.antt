@@ -5,7 +5,7 @@ use native.Mathlib.Nat.{mul-le-mul}
 use mathlib.Core.Path.{◌≡◌, refl, sym, ap, subst, ◌∙◌}
 use mathlib.Core.Bool.{Bool, true, false, cond}
 use mathlib.Core.List.{List, [], ◌∷◌, ◌++◌, append-nil, append_assoc, cons≢nil, tail}
-use mathlib.Core.Option.{Option, none, some}
+use Rattle.std.specs.Prelude.{Option, None, Some}
 use mathlib.Core.Logic.{inl, inr}
 use lib.ListN.{length, drop, length-append}
 use lib.Dec.{eqb, ltb, leb, eqb-suc-zero}
@@ -42,9 +42,9 @@ pub record Fine (s : State) (i k v : ℕ) : Type 0 where
   pub stands : among k (may_stand s) ≡ true
   pub ranged : in_range s (word k v) ≡ true
   -- the tests behind 11 and 1: of a kind that they do not ask about, by computation
-  pub others : first_fit (drop 2 (faults s i (word k v))) ≡ none
+  pub others : first_fit (drop 2 (faults s i (word k v))) ≡ None
 
-no-fault : (s : State) (i k v : ℕ) → Fine s i k v → fault_at s i (word k v) ≡ none
+no-fault : (s : State) (i k v : ℕ) → Fine s i k v → fault_at s i (word k v) ≡ None
 unfolding fault_at
 no-fault s i k v F = rw (F.stands, F.ranged) F.others
 
@@ -83,7 +83,7 @@ tour-from fs k v r n d i (c ∷ tour) f p m_e m_f C e =
 
 -- ---- the tables
 
-times-ok : (fs : List ℕ) (v r n d i : ℕ) (ts tour : List ℕ) (f : ℕ) → Passes is_leg ts → length fs ≡ length ts → disagree some fs ts ≡ false → r + length ts ≡ n * n
+times-ok : (fs : List ℕ) (v r n d i : ℕ) (ts tour : List ℕ) (f : ℕ) → Passes is_leg ts → length fs ≡ length ts → disagree Some fs ts ≡ false → r + length ts ≡ n * n
     → GoodTour n tour → f ≡ i + length ts + length tour → Accepted (behind_legs fs 0xD v r n d) i (time_words ts tour f)
 unfolding may_stand in_range pair_falls
 times-ok fs v r n d i [] tour f a l w h C e =
@@ -95,11 +95,11 @@ times-ok [] v r n d i (t ∷ ts) tour f a l w h C e = absurd (none-faced l)
     none-faced z = omega arith
 times-ok (x ∷ fs) v r n d i (t ∷ ts) tour f a l w h C e =
     step (behind_legs (x ∷ fs) 0xD v r n d) i 0xD t (time_words ts tour f) false refl
-    (record { stands = rw (lt-ltb r (n * n) (omega arith)) refl; ranged = a.0; others = rw (or_left (closed_apart x t) (disagree some fs ts) w) refl })
-    ∙ times-ok fs t (suc r) n d (suc i) ts tour f a.1 (omega arith) (or_right (closed_apart x t) (disagree some fs ts) w) (omega arith) C (omega arith)
+    (record { stands = rw (lt-ltb r (n * n) (omega arith)) refl; ranged = a.0; others = rw (or_left (closed_apart x t) (disagree Some fs ts) w) refl })
+    ∙ times-ok fs t (suc r) n d (suc i) ts tour f a.1 (omega arith) (or_right (closed_apart x t) (disagree Some fs ts) w) (omega arith) C (omega arith)
 
 -- the first time, behind the distances fs
-times-from : (fs : List ℕ) (v r n d i t : ℕ) (ts tour : List ℕ) (f : ℕ) → r ≡ n * n → Passes is_leg (t ∷ ts) → length fs ≡ suc (length ts) → disagree some fs (t ∷ ts) ≡ false
+times-from : (fs : List ℕ) (v r n d i t : ℕ) (ts tour : List ℕ) (f : ℕ) → r ≡ n * n → Passes is_leg (t ∷ ts) → length fs ≡ suc (length ts) → disagree Some fs (t ∷ ts) ≡ false
     → 1 + length ts ≡ n * n → GoodTour n tour → f ≡ i + suc (length ts) + length tour → Accepted (behind_legs fs 0xC v r n d) i (time_words (t ∷ ts) tour f)
 unfolding may_stand in_range pair_falls
 times-from [] v r n d i t ts tour f z a l w h C e = absurd (none-faced l)
@@ -108,19 +108,19 @@ times-from [] v r n d i t ts tour f z a l w h C e = absurd (none-faced l)
     none-faced z = omega arith
 times-from (x ∷ fs) v r n d i t ts tour f z a l w h C e =
     step (behind_legs (x ∷ fs) 0xC v r n d) i 0xD t (time_words ts tour f) false refl
-    (record { stands = rw (le-ltb r (n * n) (omega arith)) refl; ranged = a.0; others = rw (or_left (closed_apart x t) (disagree some fs ts) w) refl })
-    ∙ times-ok fs t 1 n d (suc i) ts tour f a.1 (omega arith) (or_right (closed_apart x t) (disagree some fs ts) w) h C (omega arith)
+    (record { stands = rw (le-ltb r (n * n) (omega arith)) refl; ranged = a.0; others = rw (or_left (closed_apart x t) (disagree Some fs ts) w) refl })
+    ∙ times-ok fs t 1 n d (suc i) ts tour f a.1 (omega arith) (or_right (closed_apart x t) (disagree Some fs ts) w) h C (omega arith)
 
 -- the distances ds, behind the distances fs
 distances-ok : (fs : List ℕ) (v n d i : ℕ) (ds ts tour : List ℕ) (f : ℕ) → 0 < n * n → Passes is_leg ds → length fs + length ds ≡ n * n → Passes is_leg ts → AsMany (n * n) ts
-    → disagree some (fs ++ ds) ts ≡ false → GoodTour n tour → f ≡ i + length ds + length ts + length tour
+    → disagree Some (fs ++ ds) ts ≡ false → GoodTour n tour → f ≡ i + length ds + length ts + length tour
     → Accepted (behind_legs fs 0xC v (length fs) n d) i (table_words ds ts tour f)
 unfolding may_stand in_range pair_falls
 distances-ok fs v n d i [] [] tour f z a h at m w C e =
     let full : ltb (length fs) (n * n) ≡ false = le-ltb (length fs) (n * n) (omega arith) in
     tour-from fs 0xC v (length fs) n d i tour f refl (rw full refl) (rw full refl) C (omega arith)
 distances-ok fs v n d i [] (t ∷ ts) tour f z a h at m w C e =
-    times-from fs v (length fs) n d i t ts tour f (omega arith) at (omega (arith, many m)) (subst (λ (l : List ℕ). disagree some l (t ∷ ts) ≡ false) (append-nil fs) w) (many m) C (omega arith)
+    times-from fs v (length fs) n d i t ts tour f (omega arith) at (omega (arith, many m)) (subst (λ (l : List ℕ). disagree Some l (t ∷ ts) ≡ false) (append-nil fs) w) (many m) C (omega arith)
   where
     many : AsMany (n * n) (t ∷ ts) → 1 + length ts ≡ n * n
     many (inl x) = absurd (cons≢nil x)
@@ -130,7 +130,7 @@ distances-ok fs v n d i (c ∷ ds) ts tour f z a h at m w C e =
     (record { stands = rw (lt-ltb (length fs) (n * n) (omega arith)) refl; ranged = a.0; others = refl })
     ∙ subst (λ (r : ℕ). Accepted (behind_legs (fs ++ (c ∷ [])) 0xC c r n d) (suc i) (table_words ds ts tour f)) one_more
     (distances-ok (fs ++ (c ∷ [])) c n d (suc i) ds ts tour f z a.1 (omega (arith, one_more)) at m
-    (subst (λ (l : List ℕ). disagree some l ts ≡ false) (sym (append_assoc fs (c ∷ []) ds)) w) C (omega arith))
+    (subst (λ (l : List ℕ). disagree Some l ts ≡ false) (sym (append_assoc fs (c ∷ []) ds)) w) C (omega arith))
   where
     one_more : length (fs ++ (c ∷ [])) ≡ suc (length fs)
     one_more = simp length-append (omega arith)
@@ -178,8 +178,8 @@ second-ok b m j k v r n d i rest S g on =
     same = eq-eqb j j refl
 
     go : (o : Option ℕ) → IfAny (second_range k) o → Follows j n d (i + length (optional 0 o)) rest → Accepted (behind_word k v r n d) i (optional 0 o ++ rest)
-    go none p F = (follows-at {b = i} F (omega arith)).from k v r S.apart (rw (S.either, S.apart-0, same))
-    go (some x) p F =
+    go None p F = (follows-at {b = i} F (omega arith)).from k v r S.apart (rw (S.either, S.apart-0, same))
+    go (Some x) p F =
         step (behind_word k v r n d) i 0 x rest false refl (record { stands = rw S.either refl; ranged = p; others = refl })
         ∙ (follows-at {b = suc i} F (omega arith)).from 0 x (cond (eqb 0 k) (suc r) 1) S.apart-0 (ap (λ (q : ℕ). among j (q ∷ [])) S.follows ∙ rw same refl)
 
@@ -234,16 +234,16 @@ at-index {n} {d} {rest} on e = subst (λ (q : ℕ). Onward n d q rest) e on
 penalty-ok : (p : Option ℕ) (k v n d i : ℕ) (rest : List Word) → IfAny is_penalty p → Ends k 1 → among 0xB (may_stand (behind_word k v 1 n d)) ≡ true
     → Onward n d (i + length (optional 0xB p)) rest → eqb 0xB k ≡ false → Accepted (behind_word k v 1 n d) i (optional 0xB p ++ rest)
 unfolding in_range pair_falls
-penalty-ok none k v n d i rest g E m on h = (at-index {j = i} on (omega arith)).from k v 1 E
-penalty-ok (some p) k v n d i rest g E m on h =
+penalty-ok None k v n d i rest g E m on h = (at-index {j = i} on (omega arith)).from k v 1 E
+penalty-ok (Some p) k v n d i rest g E m on h =
     step (behind_word k v 1 n d) i 0xB p rest false refl (record { stands = m; ranged = g; others = refl }) ∙ rw h ((at-index {j = suc i} on (omega arith)).from 0xB p 1 ends-B)
 
 -- behind an 8: window and penalty
 inner-ok : (w : Option Window) (p : Option ℕ) (v n d i : ℕ) (rest : List Word) → Holds GoodWindow w → IfAny is_penalty p
     → Onward n d (i + length (window_words w) + length (optional 0xB p)) rest → Accepted (behind_word 8 v 1 n d) i (window_words w ++ (optional 0xB p ++ rest))
 unfolding may_stand in_range pair_falls
-inner-ok none p v n d i rest g h on = penalty-ok p 8 v n d i rest h ends-8 refl (at-index on (omega arith)) refl
-inner-ok (some w) p v n d i rest g h on =
+inner-ok None p v n d i rest g h on = penalty-ok p 8 v n d i rest h ends-8 refl (at-index on (omega arith)) refl
+inner-ok (Some w) p v n d i rest g h on =
     step (behind_word 8 v 1 n d) i 9 w.ready (word 0xA w.due ∷ (optional 0xB p ++ rest)) false refl (record { stands = refl; ranged = g.ready; others = refl })
     ∙ step (behind_word 9 w.ready 1 n d) (suc i) 0xA w.due (optional 0xB p ++ rest) false refl (record { stands = refl; ranged = g.due; others = rw g.rises refl })
     ∙ penalty-ok p 0xA w.due n d (suc (suc i)) rest h ends-A refl (at-index on (omega arith)) refl
@@ -311,7 +311,7 @@ customers-ok said (c ∷ cs) k v r n i rest l g E on =
 -- ---- all but the three first words
 
 tables-ok : (k v r n i : ℕ) (ds ts tour : List ℕ) (f : ℕ) → Ends k r → 0 < n * n → Passes is_leg ds → length ds ≡ n * n → Passes is_leg ts → AsMany (n * n) ts
-    → disagree some ds ts ≡ false → GoodTour n tour → f ≡ i + length ds + length ts + length tour → Accepted (behind_word k v r n 0) i (table_words ds ts tour f)
+    → disagree Some ds ts ≡ false → GoodTour n tour → f ≡ i + length ds + length ts + length tour → Accepted (behind_word k v r n 0) i (table_words ds ts tour f)
 unfolding in_range pair_falls
 tables-ok k v r n i [] ts tour f E z a h at m w C e = absurd (none-due z h)
   where
@@ -324,8 +324,8 @@ tables-ok k v r n i (c ∷ ds) ts tour f E z a h at m w C e =
 break-ok : (b : Option Break) (k v n d i : ℕ) (rest : List Word) → Holds GoodBreak b → Ends k 1 → among 6 (may_stand (behind_word k v 1 n d)) ≡ true
     → eqb 6 k ≡ false → eqb k 6 ≡ false → Onward n d (i + length (break_words b)) rest → Accepted (behind_word k v 1 n d) i (break_words b ++ rest)
 unfolding may_stand in_range pair_falls
-break-ok none k v n d i rest g E m h h' on = (at-index {j = i} on (omega arith)).from k v 1 E
-break-ok (some b) k v n d i rest g E m h h' on =
+break-ok None k v n d i rest g E m h h' on = (at-index {j = i} on (omega arith)).from k v 1 E
+break-ok (Some b) k v n d i rest g E m h h' on =
     step (behind_word k v 1 n d) i 6 b.earliest (word 6 b.latest ∷ word 6 b.duration ∷ rest) false refl (record { stands = m; ranged = g.earliest; others = rw h' refl })
     ∙ rw h
     (step (behind_word 6 b.earliest 1 n d) (suc i) 6 b.latest (word 6 b.duration ∷ rest) false refl (record { stands = refl; ranged = g.latest; others = rw g.rises refl })
@@ -335,14 +335,14 @@ break-ok (some b) k v n d i rest g E m h h' on =
 limits-ok : (dl tl : Option ℕ) (br : Option Break) (v n d i : ℕ) (rest : List Word) → IfAny is_number dl → IfAny is_number tl → Holds GoodBreak br
     → Onward n d (i + length (optional 4 dl) + length (optional 5 tl) + length (break_words br)) rest → Accepted (behind_word 3 v 1 n d) i (limit_words dl tl br rest)
 unfolding may_stand in_range pair_falls
-limits-ok none none br v n d i rest a b g on = break-ok br 3 v n d i rest g ends-3 refl refl refl (at-index on (omega arith))
-limits-ok none (some t) br v n d i rest a b g on =
+limits-ok None None br v n d i rest a b g on = break-ok br 3 v n d i rest g ends-3 refl refl refl (at-index on (omega arith))
+limits-ok None (Some t) br v n d i rest a b g on =
     step (behind_word 3 v 1 n d) i 5 t (break_words br ++ rest) false refl (record { stands = refl; ranged = b; others = refl })
     ∙ break-ok br 5 t n d (suc i) rest g ends-5 refl refl refl (at-index on (omega arith))
-limits-ok (some l) none br v n d i rest a b g on =
+limits-ok (Some l) None br v n d i rest a b g on =
     step (behind_word 3 v 1 n d) i 4 l (break_words br ++ rest) false refl (record { stands = refl; ranged = a; others = refl })
     ∙ break-ok br 4 l n d (suc i) rest g ends-4 refl refl refl (at-index on (omega arith))
-limits-ok (some l) (some t) br v n d i rest a b g on =
+limits-ok (Some l) (Some t) br v n d i rest a b g on =
     step (behind_word 3 v 1 n d) i 4 l (word 5 t ∷ (break_words br ++ rest)) false refl (record { stands = refl; ranged = a; others = refl })
     ∙ step (behind_word 4 l 1 n d) (suc i) 5 t (break_words br ++ rest) false refl (record { stands = refl; ranged = b; others = refl })
     ∙ break-ok br 5 t n d (suc (suc i)) rest g ends-5 refl refl refl (at-index on (omega arith))

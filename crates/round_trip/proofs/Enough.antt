@@ -5,7 +5,7 @@ use native.Mathlib.Nat.{mul-le-mul}
 use mathlib.Core.Path.{◌≡◌, refl, sym, ap, subst}
 use mathlib.Core.Bool.{Bool, true, false, cond, true≢false}
 use mathlib.Core.List.{List, [], ◌∷◌, ◌++◌}
-use mathlib.Core.Option.{Option, none, some}
+use Rattle.std.specs.Prelude.{Option, None, Some}
 use mathlib.Core.Logic.{◌⊎◌, inl, inr}
 use lib.ListN.{length}
 use lib.Dec.{eqb, ltb, leb}
@@ -234,7 +234,7 @@ lowers s w b C m g o f = by_kind (Lower fs cs v r n d u k) (may_stand s) w.kind 
 -- ---- the answer
 
 -- what a word without fault passed
-fine : (s : State) (i : ℕ) (w : Word) → fault_at s i w ≡ none → (among w.kind (may_stand s) ≡ true) × (in_range s w ≡ true) × (repeated s w ≡ false)
+fine : (s : State) (i : ℕ) (w : Word) → fault_at s i w ≡ None → (among w.kind (may_stand s) ≡ true) × (in_range s w ≡ true) × (repeated s w ≡ false)
 unfolding fault_at
 fine s i w h =
     let N = none-fits (faults s i w) h in
@@ -308,8 +308,8 @@ decided s i (w ∷ xs) ys zs left left' b C h p q =
     go : (Begun (next s w) → Called (next s w).places (next s w).called → most_from (next s w) < length xs
         → SameRefusal (walk (next s w) (suc i) (xs ++ ys) left) (walk (next s w) (suc i) (xs ++ zs) left'))
         → (o : Option ℕ) → fault_at s i w ≡ o → SameRefusal (unless o i (on ys left)) (unless o i (on zs left'))
-    go ih (some n) e = (n, i, refl, refl)
-    go ih none e =
+    go ih (Some n) e = (n, i, refl, refl)
+    go ih None e =
         by-test (eqb w.kind 0xF)
         (λ t. rw t (3, suc i, behind-further (suc i) (xs ++ ys) left (further-append xs ys left p), behind-further (suc i) (xs ++ zs) left' (further-append xs zs left' q)))
         (λ t. let m = fine s i w e in

@@ -5,7 +5,7 @@ use native.Mathlib.Nat.{mul-le-mul}
 use mathlib.Core.Path.{◌≡◌, sym, ap, subst, ◌∙◌}
 use mathlib.Core.Bool.{Bool, true, false, ◌||◌}
 use mathlib.Core.List.{List, [], ◌∷◌, ◌++◌, map, tail}
-use mathlib.Core.Option.{Option, none, some}
+use Rattle.std.specs.Prelude.{Option, None, Some}
 use mathlib.Core.Logic.{inl, inr}
 use lib.ListN.{length, length-append}
 use lib.Dec.{leb, ltb}
@@ -54,18 +54,18 @@ fit_row : (k : ℕ) (p : ℕ → Bool) (vs : List ℕ) → k < 16 → Small p �
 fit_row k p vs h s a = all_map Fits (word k) vs (all-imp (λ (v : ℕ). p v ≡ true) (λ (v : ℕ). Fits (word k v)) (fit k p h s) vs a)
 
 fit-optional : (k : ℕ) (p : ℕ → Bool) (o : Option ℕ) → k < 16 → Small p → IfAny p o → AllFit (optional k o)
-fit-optional k p none h s g = tt
-fit-optional k p (some v) h s g = (fit k p h s v g, tt)
+fit-optional k p None h s g = tt
+fit-optional k p (Some v) h s g = (fit k p h s v g, tt)
 
 fit-break : (b : Option Break) → Holds GoodBreak b → AllFit (break_words b)
-fit-break none G = tt
-fit-break (some b) G =
+fit-break None G = tt
+fit-break (Some b) G =
     let six = fit-number 6 (omega arith) in
     (six b.earliest G.earliest, (six b.latest G.latest, (six b.duration G.duration, tt)))
 
 fit-window : (w : Option Window) → Holds GoodWindow w → AllFit (window_words w)
-fit-window none G = tt
-fit-window (some w) G = (fit-number 9 (omega arith) w.ready G.ready, (fit-number 0xA (omega arith) w.due G.due, tt))
+fit-window None G = tt
+fit-window (Some w) G = (fit-number 9 (omega arith) w.ready G.ready, (fit-number 0xA (omega arith) w.due G.due, tt))
 
 -- a second capacity or demand
 fit-second : (p : ℕ → Bool) (b : Bool) (n : ℕ) → Small p → p n ≡ true → AllFit (second_words b n)
@@ -101,16 +101,16 @@ fit-customers said (c ∷ cs) g = (
 -- ---- how many there are
 
 few-optional : (k : ℕ) (o : Option ℕ) → length (optional k o) ≤ 1
-few-optional k none = omega arith
-few-optional k (some v) = omega arith
+few-optional k None = omega arith
+few-optional k (Some v) = omega arith
 
 few-window : (w : Option Window) → length (window_words w) ≤ 2
-few-window none = omega arith
-few-window (some w) = omega arith
+few-window None = omega arith
+few-window (Some w) = omega arith
 
 few-break : (b : Option Break) → length (break_words b) ≤ 3
-few-break none = omega arith
-few-break (some b) = omega arith
+few-break None = omega arith
+few-break (Some b) = omega arith
 
 few-second : (b : Bool) (n : ℕ) → length (second_words b n) ≤ 1
 few-second b n = rw (second_is b n) (few-optional 0 (second b n))

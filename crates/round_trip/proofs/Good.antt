@@ -4,7 +4,7 @@ use native.Mathlib.Omega.{arith}
 use mathlib.Core.Path.{◌≡◌, refl, ◌∙◌}
 use mathlib.Core.Bool.{Bool, true, false, ◌||◌, not, true≢false}
 use mathlib.Core.List.{List, [], ◌∷◌, tail, cons≢nil}
-use mathlib.Core.Option.{Option, none, some}
+use Rattle.std.specs.Prelude.{Option, None, Some}
 use mathlib.Core.Logic.{◌⊎◌, inl, inr}
 use lib.ListN.{length}
 use lib.Seq.{take_all}
@@ -58,7 +58,7 @@ pub record GoodSheet (s : Sheet) : Type 0 where
   pub times : Passes is_leg s.legs.times
   pub as_many : AsMany (s.head.places * s.head.places) s.legs.times
   -- both tables close the same legs
-  pub alike : disagree some s.legs.distances s.legs.times ≡ false
+  pub alike : disagree Some s.legs.distances s.legs.times ≡ false
 
 -- a tour on a sheet with n places
 pub record GoodTour (n : ℕ) (tour : List ℕ) : Type 0 where
@@ -67,14 +67,14 @@ pub record GoodTour (n : ℕ) (tour : List ℕ) : Type 0 where
 
 -- ---- within the limits, so good
 
-limit-good : (p : ℕ → Bool) (o : Option ℕ) → bad_optional some p o ≡ false → IfAny p o
-limit-good p none h = tt
-limit-good p (some v) h = not-false (p v) h
+limit-good : (p : ℕ → Bool) (o : Option ℕ) → bad_optional Some p o ≡ false → IfAny p o
+limit-good p None h = tt
+limit-good p (Some v) h = not-false (p v) h
 
-break-good : (b : Option Break) → bad_break some b ≡ false → break_falls some b ≡ false → Holds GoodBreak b
-break-good none h g = tt
-break-good (some b) h g =
-    let R = break-in-range some b h in
+break-good : (b : Option Break) → bad_break Some b ≡ false → break_falls Some b ≡ false → Holds GoodBreak b
+break-good None h g = tt
+break-good (Some b) h g =
+    let R = break-in-range Some b h in
     record {
       earliest = not-false (is_number b.earliest) R.earliest;
       latest = not-false (is_number b.latest) R.latest;
@@ -82,15 +82,15 @@ break-good (some b) h g =
       rises = g;
     }
 
-window-good : (w : Option Window) → bad_window some w ≡ false → window_falls some w ≡ false → Holds GoodWindow w
-window-good none h g = tt
-window-good (some w) h g =
-    let R = window-in-range some w h in
+window-good : (w : Option Window) → bad_window Some w ≡ false → window_falls Some w ≡ false → Holds GoodWindow w
+window-good None h g = tt
+window-good (Some w) h g =
+    let R = window-in-range Some w h in
     record { ready = not-false (is_number w.ready) R.ready; due = not-false (is_number w.due) R.due; rises = g }
 
-customer-good : (c : Customer) → bad_customer some c ≡ false → window_falls some c.window ≡ false → GoodCustomer c
+customer-good : (c : Customer) → bad_customer Some c ≡ false → window_falls Some c.window ≡ false → GoodCustomer c
 customer-good c h g =
-    let R = customer-in-range some c h in
+    let R = customer-in-range Some c h in
     record {
       demand = not-false (each_of is_demand c.demand) R.demand;
       service = not-false (is_number c.service) R.service;
@@ -98,7 +98,7 @@ customer-good c h g =
       penalty = limit-good is_penalty c.penalty R.penalty;
     }
 
-customers-good : (cs : List Customer) → Fails (bad_customer some) cs → Fails (λ (c : Customer). window_falls some c.window) cs → All GoodCustomer cs
+customers-good : (cs : List Customer) → Fails (bad_customer Some) cs → Fails (λ (c : Customer). window_falls Some c.window) cs → All GoodCustomer cs
 customers-good [] h g = tt
 customers-good (c ∷ cs) h g = (customer-good c h.0 g.0, customers-good cs h.1 g.1)
 
@@ -106,9 +106,9 @@ all_tail : {A : Type 0} (P : A → Type 0) (l : List A) → All P l → All P (t
 all_tail P [] a = a
 all_tail P (x ∷ l) a = a.1
 
-absent : {A : Type 0} (o : Option A) → present o ≡ false → o ≡ none
-absent none h = refl
-absent (some x) h = absurd (true≢false h)
+absent : {A : Type 0} (o : Option A) → present o ≡ false → o ≡ None
+absent None h = refl
+absent (Some x) h = absurd (true≢false h)
 
 none-asked : (a : Load) → each_of (λ (n : ℕ). eqb n 0) a ≡ true → a ≡ no_load
 none-asked a h =
@@ -116,13 +116,13 @@ none-asked a h =
     λ i. record { seats = eqb-true a.seats 0 zero-each.0 i; wheelchairs = eqb-true a.wheelchairs 0 zero-each.1 i }
 
 -- the first record is the depot's
-first_good : (cs : List Customer) → 1 ≤ length cs → bad_depot some cs ≡ false → cs ≡ depot ∷ tail cs
+first_good : (cs : List Customer) → 1 ≤ length cs → bad_depot Some cs ≡ false → cs ≡ depot ∷ tail cs
 first_good [] l h = absurd (no_record l)
   where
     no_record : 1 ≤ 0 → ⊥
     no_record x = omega arith
 first_good (c ∷ cs) l h =
-    let R = depot-in-range some c cs h in
+    let R = depot-in-range Some c cs h in
     let d = none-asked c.demand (not-false (each_of (λ (n : ℕ). eqb n 0) c.demand) R.demand) in
     let s = eqb-true c.service 0 (not-false (eqb c.service 0) R.service) in
     let w = absent c.window R.window in
@@ -146,21 +146,21 @@ good-sheet s W =
       counted = W.counted;
       first = first_good s.customers (omega (arith, W.counted, leb-true 1 s.head.places (and_left (leb 1 s.head.places) (leb s.head.places 64) placed))) (rw all-records at R.depot);
       customers = all_tail GoodCustomer s.customers good-customers;
-      distances = fails-not is_leg s.legs.distances (any-fails (unfit some is_leg) s.legs.distances R.distances);
+      distances = fails-not is_leg s.legs.distances (any-fails (unfit Some is_leg) s.legs.distances R.distances);
       square = eqb-true (length s.legs.distances) full (not-false (eqb (length s.legs.distances) full) T.distances);
-      times = fails-not is_leg s.legs.times (any-fails (unfit some is_leg) s.legs.times R.times);
+      times = fails-not is_leg s.legs.times (any-fails (unfit Some is_leg) s.legs.times R.times);
       as_many = as-many-good full s.legs.times T.times;
       alike = W.closed-alike;
     }
   where
-    R : InRange some s
-    R = in-range some s W.ranged
+    R : InRange Some s
+    R = in-range Some s W.ranged
 
     T : TablesEven s
     T = tables-even s W.tables
 
-    P : PairsRise some s
-    P = pairs-rise some s W.paired
+    P : PairsRise Some s
+    P = pairs-rise Some s W.paired
 
     full : ℕ
     full = s.head.places * s.head.places
@@ -173,8 +173,8 @@ good-sheet s W =
 
     good-customers : All GoodCustomer s.customers
     good-customers =
-        customers-good s.customers (any-fails (bad_customer some) s.customers (rw all-records at R.customers))
-        (any-fails (λ (c : Customer). window_falls some c.window) s.customers (rw all-records at P.windows))
+        customers-good s.customers (any-fails (bad_customer Some) s.customers (rw all-records at R.customers))
+        (any-fails (λ (c : Customer). window_falls Some c.window) s.customers (rw all-records at P.windows))
 
 pub good-tour : (n : ℕ) (tour : List ℕ) → bad_calls n tour ≡ false → repeats tour ≡ false → GoodTour n tour
 good-tour n tour h o =
@@ -183,35 +183,35 @@ good-tour n tour h o =
 
 -- ---- good, so within the limits
 
-good-limit : (p : ℕ → Bool) (o : Option ℕ) → IfAny p o → bad_optional some p o ≡ false
-good-limit p none h = refl
-good-limit p (some v) h = not-of-true (p v) h
+good-limit : (p : ℕ → Bool) (o : Option ℕ) → IfAny p o → bad_optional Some p o ≡ false
+good-limit p None h = refl
+good-limit p (Some v) h = not-of-true (p v) h
 
-good-break : (b : Option Break) → Holds GoodBreak b → bad_break some b ≡ false
-good-break none G = refl
-good-break (some b) G =
-    range-break some b
+good-break : (b : Option Break) → Holds GoodBreak b → bad_break Some b ≡ false
+good-break None G = refl
+good-break (Some b) G =
+    range-break Some b
     (record {
       earliest = not-of-true (is_number b.earliest) G.earliest;
       latest = not-of-true (is_number b.latest) G.latest;
       duration = not-of-true (is_number b.duration) G.duration;
     })
 
-break-rises : (b : Option Break) → Holds GoodBreak b → break_falls some b ≡ false
-break-rises none G = refl
-break-rises (some b) G = G.rises
+break-rises : (b : Option Break) → Holds GoodBreak b → break_falls Some b ≡ false
+break-rises None G = refl
+break-rises (Some b) G = G.rises
 
-good-window : (w : Option Window) → Holds GoodWindow w → bad_window some w ≡ false
-good-window none G = refl
-good-window (some w) G = range-window some w (record { ready = not-of-true (is_number w.ready) G.ready; due = not-of-true (is_number w.due) G.due })
+good-window : (w : Option Window) → Holds GoodWindow w → bad_window Some w ≡ false
+good-window None G = refl
+good-window (Some w) G = range-window Some w (record { ready = not-of-true (is_number w.ready) G.ready; due = not-of-true (is_number w.due) G.due })
 
-window-rises : (w : Option Window) → Holds GoodWindow w → window_falls some w ≡ false
-window-rises none G = refl
-window-rises (some w) G = G.rises
+window-rises : (w : Option Window) → Holds GoodWindow w → window_falls Some w ≡ false
+window-rises None G = refl
+window-rises (Some w) G = G.rises
 
-good-customer : (c : Customer) → GoodCustomer c → bad_customer some c ≡ false
+good-customer : (c : Customer) → GoodCustomer c → bad_customer Some c ≡ false
 good-customer c G =
-    range-customer some c
+    range-customer Some c
     (record {
       demand = not-of-true (each_of is_demand c.demand) G.demand;
       service = not-of-true (is_number c.service) G.service;
@@ -233,7 +233,7 @@ good-within s G =
         distances = not-of-true (eqb (length s.legs.distances) full) (eq-eqb (length s.legs.distances) full G.square);
         times = good-as-many full s.legs.times G.as_many;
       });
-      ranged = range-in some s (record {
+      ranged = range-in Some s (record {
         places = not-of-true (is_places s.head.places) G.places;
         capacity = not-of-true (each_of is_capacity s.head.capacity) G.capacity;
         fixed = not-of-true (is_number s.head.fixed) G.fixed;
@@ -241,14 +241,14 @@ good-within s G =
         max_duration = good-limit is_number s.head.max_duration G.max_duration;
         rest = good-break s.head.rest G.rest;
         depot = rw all-records refl;
-        customers = rw all-records (fails-any (bad_customer some) (others s) (all-imp GoodCustomer (λ (c : Customer). bad_customer some c ≡ false) good-customer (others s) G.customers));
-        distances = fails-any (unfit some is_leg) s.legs.distances (not-fails is_leg s.legs.distances G.distances);
-        times = fails-any (unfit some is_leg) s.legs.times (not-fails is_leg s.legs.times G.times);
+        customers = rw all-records (fails-any (bad_customer Some) (others s) (all-imp GoodCustomer (λ (c : Customer). bad_customer Some c ≡ false) good-customer (others s) G.customers));
+        distances = fails-any (unfit Some is_leg) s.legs.distances (not-fails is_leg s.legs.distances G.distances);
+        times = fails-any (unfit Some is_leg) s.legs.times (not-fails is_leg s.legs.times G.times);
       });
-      paired = rise-pairs some s (record {
+      paired = rise-pairs Some s (record {
         rest = break-rises s.head.rest G.rest;
-        windows = rw all-records (fails-any (λ (c : Customer). window_falls some c.window) (others s)
-            (all-imp GoodCustomer (λ (c : Customer). window_falls some c.window ≡ false) (λ c g. window-rises c.window g.window) (others s) G.customers));
+        windows = rw all-records (fails-any (λ (c : Customer). window_falls Some c.window) (others s)
+            (all-imp GoodCustomer (λ (c : Customer). window_falls Some c.window ≡ false) (λ c g. window-rises c.window g.window) (others s) G.customers));
       });
       closed-alike = G.alike;
     }

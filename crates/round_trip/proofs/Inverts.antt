@@ -5,7 +5,7 @@ use native.Mathlib.Nat.{mul-le-mul}
 use mathlib.Core.Path.{◌≡◌, refl, sym, ap, subst, ◌∙◌}
 use mathlib.Core.Bool.{Bool, true, false, cond, ◌&&◌, not}
 use mathlib.Core.List.{List, [], ◌∷◌, ◌++◌, append-nil, append_assoc, tail}
-use mathlib.Core.Option.{Option, none, some}
+use Rattle.std.specs.Prelude.{Option, None, Some}
 use mathlib.Core.Logic.{inl, inr}
 use lib.ListN.{length, length-append, get_or}
 use lib.Dec.{eqb, ltb, leb, eqb-suc-zero}
@@ -48,8 +48,8 @@ unfolding walk fault_at
 taken s i w ws left h = go (fault_at s i w) refl h
   where
     go : (o : Option ℕ) → fault_at s i w ≡ o → unless o i (cond (eqb w.kind 0xF) (behind (suc i) ws left) (walk (next s w) (suc i) ws left)) ≡ accepted → Taken s i w ws left
-    go (some n) e f = not-accepted n i f
-    go none e f =
+    go (Some n) e f = not-accepted n i f
+    go None e f =
         let N = none-fits (faults s i w) e in
         record { stands = not-false (among w.kind (may_stand s)) (N 11); ranged = not-false (in_range s w) (N 1); once = N 21; paired = N 2; alike = N 22; counted = N 3; on = f }
 
@@ -136,17 +136,17 @@ record TimesEnd (fs : List ℕ) (n r : ℕ) (left : Bool) (i : ℕ) (ws : List W
   is : ws ≡ time_words ts tour (i + length ts + length tour)
   times : Passes is_leg ts
   square : r + length ts ≡ n * n
-  alike : disagree some fs ts ≡ false
+  alike : disagree Some fs ts ≡ false
   calls : GoodTour n tour
   nothing_left : left ≡ false
 
-none-disagrees : (fs : List ℕ) → disagree some fs [] ≡ false
+none-disagrees : (fs : List ℕ) → disagree Some fs [] ≡ false
 none-disagrees [] = refl
 none-disagrees (x ∷ fs) = refl
 
-one-agrees : (fs ts : List ℕ) (t : ℕ) → closed_apart (get_or fs 0 0) t ≡ false → disagree some (tail fs) ts ≡ false → disagree some fs (t ∷ ts) ≡ false
+one-agrees : (fs ts : List ℕ) (t : ℕ) → closed_apart (get_or fs 0 0) t ≡ false → disagree Some (tail fs) ts ≡ false → disagree Some fs (t ∷ ts) ≡ false
 one-agrees [] ts t h w = refl
-one-agrees (x ∷ fs) ts t h w = or-false (closed_apart x t) (disagree some fs ts) h w
+one-agrees (x ∷ fs) ts t h w = or-false (closed_apart x t) (disagree Some fs ts) h w
 
 times-over : (fs : List ℕ) (n r i : ℕ) (ws : List Word) (left : Bool) → r ≡ n * n → TourEnd n [] left i ws → TimesEnd fs n r left i ws
 times-over fs n r i ws left h E =
@@ -196,7 +196,7 @@ record GoodTables (n : ℕ) (fs ds ts tour : List ℕ) : Type 0 where
   square : length fs + length ds ≡ n * n
   times : Passes is_leg ts
   as_many : AsMany (n * n) ts
-  alike : disagree some (fs ++ ds) ts ≡ false
+  alike : disagree Some (fs ++ ds) ts ≡ false
   calls : GoodTour n tour
 
 record TablesEnd (n : ℕ) (fs : List ℕ) (left : Bool) (i : ℕ) (ws : List Word) : Type 0 where
@@ -233,7 +233,7 @@ with-times n fs i v ws left h g w E =
         square = omega arith;
         times = (g, E.times);
         as_many = inr (omega (arith, E.square));
-        alike = subst (λ (l : List ℕ). disagree some l (v ∷ E.ts) ≡ false) (sym (append-nil fs)) (one-agrees fs E.ts v w E.alike);
+        alike = subst (λ (l : List ℕ). disagree Some l (v ∷ E.ts) ≡ false) (sym (append-nil fs)) (one-agrees fs E.ts v w E.alike);
         calls = E.calls;
       };
       nothing_left = E.nothing_left;
@@ -247,7 +247,7 @@ tables_more {n} {fs} {ds} {ts} v h G =
       square = omega (arith, G.square, length-append fs (v ∷ []));
       times = G.times;
       as_many = G.as_many;
-      alike = subst (λ (l : List ℕ). disagree some l ts ≡ false) (append_assoc fs (v ∷ []) ds) G.alike;
+      alike = subst (λ (l : List ℕ). disagree Some l ts ≡ false) (append_assoc fs (v ∷ []) ds) G.alike;
       calls = G.calls;
     }
 
@@ -410,9 +410,9 @@ module _ (n d : ℕ) (left : Bool) (H : FromHere n d left) where
   penalty-cases k v r i u ws c b =
       let s = behind_word k v r n d in
       let B = behind_word 0xB u 1 n d in
-      (λ T. there (some u) ws (suc i) (omega arith) T.ranged
+      (λ T. there (Some u) ws (suc i) (omega arith) T.ranged
       (by_first (Rest n d left) B (suc i) left ws (onward B ∷ []) refl (λ x rest. onward-cases 0xB u 1 (suc i) x rest refl) (rw b at T.on)))
-      or skipping (optional 0xB) (IfAny is_penalty) (Rest n d left) s i left u ws (onward s ∷ []) none refl tt (onward-cases k v r i u ws c)
+      or skipping (optional 0xB) (IfAny is_penalty) (Rest n d left) s i left u ws (onward s ∷ []) None refl tt (onward-cases k v r i u ws c)
 
   window-cases : (v i u : ℕ) (ws : List Word)
       → ByKind (Case (Windowed n d left) (behind_word 8 v 1 n d) i left u ws) (9 ∷ 0xB ∷ onward (behind_word 8 v 1 n d) ∷ [])
@@ -420,12 +420,12 @@ module _ (n d : ℕ) (left : Bool) (H : FromHere n d left) where
   window-cases v i u ws =
       let s = behind_word 8 v 1 n d in
       (λ T. by_first (λ j rest. Windowed n d left i (word 9 u ∷ rest)) (behind_word 9 u 1 n d) (suc i) left ws (0xA ∷ []) refl (λ b rest. window u b rest T.ranged or no_other) T.on)
-      or skipping window_words (Holds GoodWindow) (Penalised n d left) s i left u ws (0xB ∷ onward s ∷ []) none refl tt (penalty-cases 8 v 1 i u ws refl refl)
+      or skipping window_words (Holds GoodWindow) (Penalised n d left) s i left u ws (0xB ∷ onward s ∷ []) None refl tt (penalty-cases 8 v 1 i u ws refl refl)
     where
       window : (a b : ℕ) (rest : List Word) → is_number a ≡ true → Taken (behind_word 9 a 1 n d) (suc i) (word 0xA b) rest left → Windowed n d left i (word 9 a ∷ word 0xA b ∷ rest)
       window a b rest g T =
           let A = behind_word 0xA b 1 n d in
-          there (some (record { ready = a; due = b })) rest (suc (suc i)) (omega arith) (record { ready = g; due = T.ranged; rises = T.paired })
+          there (Some (record { ready = a; due = b })) rest (suc (suc i)) (omega arith) (record { ready = g; due = T.ranged; rises = T.paired })
           (by_first (Penalised n d left) A (suc (suc i)) left rest (0xB ∷ onward A ∷ []) refl (λ x more. penalty-cases 0xA b 1 (suc (suc i)) x more refl refl) T.on)
 
   service-case : (k v r i u : ℕ) (ws : List Word) → eqb 8 k ≡ false → Case (Following 8 (Windowed n d left)) (behind_word k v r n d) i left u ws 8
@@ -442,13 +442,13 @@ module _ (n d : ℕ) (left : Bool) (H : FromHere n d left) where
   break-cases k v r i u ws c b =
       let s = behind_word k v r n d in
       (λ T. by_first (λ j rest. Rested n d left i (word 6 u ∷ rest)) (behind_word 6 u 1 n d) (suc i) left ws (6 ∷ []) refl (λ x rest. second u x rest T.ranged or no_other) (rw b at T.on))
-      or skipping break_words (Holds GoodBreak) (Rest n d left) s i left u ws (onward s ∷ []) none refl tt (onward-cases k v r i u ws c)
+      or skipping break_words (Holds GoodBreak) (Rest n d left) s i left u ws (onward s ∷ []) None refl tt (onward-cases k v r i u ws c)
     where
       third : (e l x : ℕ) (rest : List Word) → is_number e ≡ true → is_number l ≡ true → ltb l e ≡ false → Taken (behind_word 6 l 2 n d) (suc (suc i)) (word 6 x) rest left
           → Rested n d left i (word 6 e ∷ word 6 l ∷ word 6 x ∷ rest)
       third e l x rest g h f T =
           let B = behind_word 6 x 3 n d in
-          there (some (record { earliest = e; latest = l; duration = x })) rest (suc (suc (suc i))) (omega arith) (record { earliest = g; latest = h; duration = T.ranged; rises = f })
+          there (Some (record { earliest = e; latest = l; duration = x })) rest (suc (suc (suc i))) (omega arith) (record { earliest = g; latest = h; duration = T.ranged; rises = f })
           (by_first (Rest n d left) B (suc (suc (suc i))) left rest (onward B ∷ []) refl (λ y more. onward-cases 6 x 3 (suc (suc (suc i))) y more refl) T.on)
 
       second : (e l : ℕ) (rest : List Word) → is_number e ≡ true → Taken (behind_word 6 e 1 n d) (suc i) (word 6 l) rest left → Rested n d left i (word 6 e ∷ word 6 l ∷ rest)
@@ -462,9 +462,9 @@ module _ (n d : ℕ) (left : Bool) (H : FromHere n d left) where
   duration-cases k v r i u ws c b t =
       let s = behind_word k v r n d in
       let D = behind_word 5 u 1 n d in
-      (λ T. there (some u) ws (suc i) (omega arith) T.ranged
+      (λ T. there (Some u) ws (suc i) (omega arith) T.ranged
       (by_first (Rested n d left) D (suc i) left ws (6 ∷ onward D ∷ []) refl (λ x rest. break-cases 5 u 1 (suc i) x rest refl refl) (rw t at T.on)))
-      or skipping (optional 5) (IfAny is_number) (Rested n d left) s i left u ws (6 ∷ onward s ∷ []) none refl tt (break-cases k v r i u ws c b)
+      or skipping (optional 5) (IfAny is_number) (Rested n d left) s i left u ws (6 ∷ onward s ∷ []) None refl tt (break-cases k v r i u ws c b)
 
   limit-cases : (v i u : ℕ) (ws : List Word)
       → ByKind (Case (Limited n d left) (behind_word 3 v 1 n d) i left u ws) (4 ∷ 5 ∷ 6 ∷ onward (behind_word 3 v 1 n d) ∷ [])
@@ -472,9 +472,9 @@ module _ (n d : ℕ) (left : Bool) (H : FromHere n d left) where
   limit-cases v i u ws =
       let s = behind_word 3 v 1 n d in
       let L = behind_word 4 u 1 n d in
-      (λ T. there (some u) ws (suc i) (omega arith) T.ranged
+      (λ T. there (Some u) ws (suc i) (omega arith) T.ranged
       (by_first (Timed n d left) L (suc i) left ws (5 ∷ 6 ∷ onward L ∷ []) refl (λ x rest. duration-cases 4 u 1 (suc i) x rest refl refl refl) T.on))
-      or skipping (optional 4) (IfAny is_number) (Timed n d left) s i left u ws (5 ∷ 6 ∷ onward s ∷ []) none refl tt (duration-cases 3 v 1 i u ws refl refl refl)
+      or skipping (optional 4) (IfAny is_number) (Timed n d left) s i left u ws (5 ∷ 6 ∷ onward s ∷ []) None refl tt (duration-cases 3 v 1 i u ws refl refl refl)
 
   fixed-case : (k v r i u : ℕ) (ws : List Word) → eqb 3 k ≡ false → Case (Following 3 (Limited n d left)) (behind_word k v r n d) i left u ws 3
   unfolding may_stand in_range

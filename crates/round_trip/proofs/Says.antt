@@ -3,7 +3,7 @@ use Prim.Native.Nat.{ℕ, zero, suc}
 use mathlib.Core.Path.{◌≡◌, refl, sym, ap, ◌∙◌}
 use mathlib.Core.Bool.{Bool, true, false}
 use mathlib.Core.List.{List, [], ◌∷◌, ◌++◌, map, append_assoc, append-nil, cons≢nil, tail}
-use mathlib.Core.Option.{Option, none, some}
+use Rattle.std.specs.Prelude.{Option, None, Some}
 use lib.ListN.{length}
 use lib.Dec.{eqb}
 use borrow.Author.Tests.{eq-eqb}
@@ -47,26 +47,26 @@ values_other j k [] h = refl
 values_other j k (v ∷ vs) h = rw h (values_other j k vs h)
 
 values-optional : (k : ℕ) (o : Option ℕ) → first_of (values_of k (optional k o)) ≡ o
-values-optional k none = refl
-values-optional k (some v) = rw (eq-eqb k k refl) refl
+values-optional k None = refl
+values-optional k (Some v) = rw (eq-eqb k k refl) refl
 
 other-optional : (j k : ℕ) (o : Option ℕ) → eqb j k ≡ false → Lacks k (optional j o)
-other-optional j k none h = refl
-other-optional j k (some v) h = rw h refl
+other-optional j k None h = refl
+other-optional j k (Some v) h = rw h refl
 
 other-break : (k : ℕ) (b : Option Break) → eqb 6 k ≡ false → Lacks k (break_words b)
-other-break k none h = refl
-other-break k (some b) h = rw h refl
+other-break k None h = refl
+other-break k (Some b) h = rw h refl
 
 other-window : (k : ℕ) (w : Option Window) → eqb 9 k ≡ false → eqb 0xA k ≡ false → Lacks k (window_words w)
-other-window k none h g = refl
-other-window k (some w) h g = rw (h, g) refl
+other-window k None h g = refl
+other-window k (Some w) h g = rw (h, g) refl
 
 -- a second capacity or demand is a word that may be there: it is there where it is said or is not 0
 abbrev pub second : Bool → ℕ → Option ℕ
-second true n = some n
-second false zero = none
-second false (suc n) = some (suc n)
+second true n = Some n
+second false zero = None
+second false (suc n) = Some (suc n)
 
 pub second_is : (b : Bool) (n : ℕ) → second_words b n ≡ optional 0 (second b n)
 second_is true n = refl
@@ -203,19 +203,19 @@ one-customer b c ys P =
 
     window-of : (w : Option Window) (p : Option ℕ)
         → window_of (values_of 9 ((window_words w ++ optional 0xB p) ++ ys)) (values_of 0xA ((window_words w ++ optional 0xB p) ++ ys)) ≡ w
-    window-of none none = rw P.no9 refl
-    window-of none (some p) = rw P.no9 refl
-    window-of (some w) none = refl
-    window-of (some w) (some p) = refl
+    window-of None None = rw P.no9 refl
+    window-of None (Some p) = rw P.no9 refl
+    window-of (Some w) None = refl
+    window-of (Some w) (Some p) = refl
 
     window : window_of (values_of 9 (behind_seven b c ++ ys)) (values_of 0xA (behind_seven b c ++ ys)) ≡ c.window
     window = rw (past-second 9 refl, past-second 0xA refl) (window-of c.window c.penalty)
 
     penalty-of : (w : Option Window) (p : Option ℕ) → first_of (values_of 0xB ((window_words w ++ optional 0xB p) ++ ys)) ≡ p
-    penalty-of none none = rw P.no_b refl
-    penalty-of none (some p) = refl
-    penalty-of (some w) none = rw P.no_b refl
-    penalty-of (some w) (some p) = refl
+    penalty-of None None = rw P.no_b refl
+    penalty-of None (Some p) = refl
+    penalty-of (Some w) None = rw P.no_b refl
+    penalty-of (Some w) (Some p) = refl
 
     penalty : first_of (values_of 0xB (behind_seven b c ++ ys)) ≡ c.penalty
     penalty = ap first_of (past-second 0xB refl) ∙ penalty-of c.window c.penalty
@@ -299,8 +299,8 @@ tables-past ds ts tour f =
     }
 
 break-said : (b : Option Break) → break_of (values_of 6 (break_words b)) ≡ b
-break-said none = refl
-break-said (some b) = refl
+break-said None = refl
+break-said (Some b) = refl
 
 module _ (said : List Bool) (s : Sheet) (tour : List ℕ) (f : ℕ) where
   abbrev tables : List Word

@@ -3,7 +3,7 @@ use Prim.Native.Nat.{ℕ}
 use mathlib.Core.Path.{◌≡◌, refl, ap, ap₂, ◌∙◌}
 use mathlib.Core.Bool.{true, false, false≢true}
 use mathlib.Core.List.{List}
-use mathlib.Core.Option.{Option, none, map}
+use Rattle.std.specs.Prelude.{Option, None, Some, option_map}
 use lib.Ieee as Ieee
 use lib.Ieee.{Float, binary64}
 use Rattle.basics.specs.Options.{Holds, given}
@@ -12,8 +12,6 @@ use Rattle.definitions.specs.Elimination.{Parted}
 use Rattle.whole.specs.Whole.{fl}
 use Rattle.improve_runs.specs.Least.{by_seats}
 use Rattle.improve_base.specs.Route.{route_distance_f}
-use Rattle.route_elimination.specs.declared.placing.Placed.{Placed}
-use Rattle.route_elimination.specs.declared.placing.Placed.TheVariants.{All, NotAll}
 use Rattle.place_choice.specs.Insertion.{GivenF, leg_f, demand_f}
 use Rattle.route_elimination.specs.Placing.{PlacedF, is_all, placed_of, place_all_f}
 use Rattle.route_elimination.specs.Elimination.{finite_f, saved_f, emptied_f}
@@ -33,21 +31,21 @@ moved-is T saved part run e rest others er = ap₂ (moved_f T saved) e er
 
 -- the run goes when its customers are placed
 module _ (T : GivenF) (p : Parted) (saved : Float) (es : saved ≡ saved_f T p.run) where
-  pub not_finite : finite_f saved ≡ false → none ≡ emptied_f T p
+  pub not_finite : finite_f saved ≡ false → None ≡ emptied_f T p
   unfolding emptied_f
   not_finite f = let g = rw es at f in rw g
 
-  pub found : finite_f saved ≡ true → (q : Option PlacedF) → q ≡ moved_f T saved p.run p.rest → map (λ (r : PlacedF). r.runs) q ≡ emptied_f T p
+  pub found : finite_f saved ≡ true → (q : Option PlacedF) → q ≡ moved_f T saved p.run p.rest → option_map (λ (r : PlacedF). r.runs) q ≡ emptied_f T p
   unfolding emptied_f
   found fin q eq =
       let g = rw es at fin in
-      rw g (ap (map (λ (r : PlacedF). r.runs)) (eq ∙ ap (λ (x : Float). moved_f T x p.run p.rest) es))
+      rw g (ap (option_map (λ (r : PlacedF). r.runs)) (eq ∙ ap (λ (x : Float). moved_f T x p.run p.rest) es))
 
 -- what is answered of the runs with the customers placed
-pub answered-runs : (p : Placed) (runs : List (List ℕ)) → given (is_all p) runs ≡ map (λ (r : PlacedF). r.runs) (placed_of p runs)
-answered-runs NotAll runs = refl
-answered-runs (All added) runs = refl
+pub answered-runs : (p : (Option Float)) (runs : List (List ℕ)) → given (is_all p) runs ≡ option_map (λ (r : PlacedF). r.runs) (placed_of p runs)
+answered-runs None runs = refl
+answered-runs (Some added) runs = refl
 
-pub answered-sound : (X : Type 0) (p : Placed) (runs : List (List ℕ)) → Holds (λ (q : PlacedF). X) (placed_of p runs) → is_all p ≡ true → X
-answered-sound X NotAll runs h e = absurd (false≢true e)
-answered-sound X (All added) runs h e = h
+pub answered-sound : (X : Type 0) (p : (Option Float)) (runs : List (List ℕ)) → Holds (λ (q : PlacedF). X) (placed_of p runs) → is_all p ≡ true → X
+answered-sound X None runs h e = absurd (false≢true e)
+answered-sound X (Some added) runs h e = h

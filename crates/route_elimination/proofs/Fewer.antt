@@ -3,7 +3,7 @@ use Prim.Native.Nat.{ℕ, zero, suc, ◌+◌, ◌≤◌}
 use native.Mathlib.Omega.{arith}
 use mathlib.Core.Path.{◌≡◌, refl, ap}
 use mathlib.Core.List.{List, [], ◌∷◌}
-use mathlib.Core.Option.{Option, none, some, map}
+use Rattle.std.specs.Prelude.{Option, None, Some, option_map}
 use lib.ListN.{length, take, drop, length-append, length-take, length-drop}
 use lib.Ieee.{Float}
 use Rattle.basics.proofs.TestLaws.{by-test}
@@ -79,9 +79,9 @@ module _ (T : GivenF) where
       m : Mover
       m = mover_f c added saved
 
-      go : (o : Option Spot) → Holds (λ (q : PlacedF). Grows 1 rs q.runs) (map (put_at m rs) o)
-      go none = tt
-      go (some x) = record { runs_same = length-put x.run x.pos c rs; calls-more = omega (arith, put-grows x.run x.pos c rs) }
+      go : (o : Option Spot) → Holds (λ (q : PlacedF). Grows 1 rs q.runs) (option_map (put_at m rs) o)
+      go None = tt
+      go (Some x) = record { runs_same = length-put x.run x.pos c rs; calls-more = omega (arith, put-grows x.run x.pos c rs) }
 
   all-grow : (added saved : Float) (cs : List ℕ) (rs : List (List ℕ)) → Holds (λ (q : PlacedF). Grows (length cs) rs q.runs) (place_all_f T added saved cs rs)
   unfolding place_all_f
@@ -93,14 +93,14 @@ module _ (T : GivenF) where
 
       ons : (p : PlacedF) → Grows 1 rs p.runs → (o : Option PlacedF) → Holds (λ (q : PlacedF). Grows (length cs) p.runs q.runs) o
           → Holds (λ (q : PlacedF). Grows (suc (length cs)) rs q.runs) o
-      ons p a none b = tt
-      ons p a (some q) b = on p q a b
+      ons p a None b = tt
+      ons p a (Some q) b = on p q a b
 
       go : ((p : PlacedF) → Holds (λ (q : PlacedF). Grows (length cs) p.runs q.runs) (place_all_f T p.added saved cs p.runs))
           → (o : Option PlacedF) → Holds (λ (q : PlacedF). Grows 1 rs q.runs) o
           → Holds (λ (q : PlacedF). Grows (suc (length cs)) rs q.runs) (o >>= λ p. place_all_f T p.added saved cs p.runs)
-      go ih none a = tt
-      go ih (some p) a = ons p a (place_all_f T p.added saved cs p.runs) (ih p)
+      go ih None a = tt
+      go ih (Some p) a = ons p a (place_all_f T p.added saved cs p.runs) (ih p)
 
   emptied-grows : (p : Parted) → Holds (Grows (length p.run) p.rest) (emptied_f T p)
   unfolding emptied_f
@@ -113,9 +113,9 @@ module _ (T : GivenF) where
       moving = sort (by_seats (demand_f T)) p.run
 
       go : (o : Option PlacedF) → Holds (λ (q : PlacedF). Grows (length moving) p.rest q.runs) o
-          → Holds (Grows (length p.run) p.rest) (map (λ (q : PlacedF). q.runs) o)
-      go none a = tt
-      go (some q) a = record { runs_same = a.runs_same; calls-more = omega (arith, a.calls-more, sort-length (by_seats (demand_f T)) p.run) }
+          → Holds (Grows (length p.run) p.rest) (option_map (λ (q : PlacedF). q.runs) o)
+      go None a = tt
+      go (Some q) a = record { runs_same = a.runs_same; calls-more = omega (arith, a.calls-more, sort-length (by_seats (demand_f T)) p.run) }
 
   first-fewer : (all : List (List ℕ)) (ps : List Parted) → All (Part all) ps → Holds (Fewer all) (first_emptied_f T ps)
   unfolding first_emptied_f
@@ -123,8 +123,8 @@ module _ (T : GivenF) where
   first-fewer all (p ∷ ps) a = go (emptied_f T p) (emptied-grows p) (first_emptied_f T ps) (first-fewer all ps a.1)
     where
       go : (o : Option (List (List ℕ))) → Holds (Grows (length p.run) p.rest) o → (later : Option (List (List ℕ))) → Holds (Fewer all) later → Holds (Fewer all) (or_else o later)
-      go none x later y = y
-      go (some new) x later y = record { one_less = omega (arith, x.runs_same, a.0.others); calls-kept = omega (arith, x.calls-more, a.0.all-calls) }
+      go None x later y = y
+      go (Some new) x later y = record { one_less = omega (arith, x.runs_same, a.0.others); calls-kept = omega (arith, x.calls-more, a.0.all-calls) }
 
   pub search-fewer : (rs : List (List ℕ)) → Holds (Fewer rs) (search_f T rs)
   unfolding search_f
@@ -140,9 +140,9 @@ module _ (T : GivenF) where
   searches-fewer (suc bound) rs = go (λ new. searches-fewer bound new) (search_f T (non_empty rs)) (search-fewer (non_empty rs))
     where
       go : ((new : List (List ℕ)) → NoMore new (searches_f T bound new)) → (o : Option (List (List ℕ))) → Holds (Fewer (non_empty rs)) o
-          → NoMore rs (value_or (non_empty rs) (map (searches_f T bound) o))
-      go ih none a = non-empty-fewer rs
-      go ih (some new) a =
+          → NoMore rs (value_or (non_empty rs) (option_map (searches_f T bound) o))
+      go ih None a = non-empty-fewer rs
+      go ih (Some new) a =
           let m = non-empty-fewer rs in
           let n = ih new in
           record { runs-most = omega (arith, m.runs-most, n.runs-most, a.one_less); calls-most = omega (arith, m.calls-most, n.calls-most, a.calls-kept) }

@@ -4,7 +4,7 @@ use native.Mathlib.Omega.{arith}
 use mathlib.Core.Path.{◌≡◌, sym, ap, subst, ◌∙◌}
 use mathlib.Core.Bool.{Bool, true, false}
 use mathlib.Core.List.{List, ◌∷◌, map}
-use mathlib.Core.Option.{none, some}
+use Rattle.std.specs.Prelude.{None, Some}
 use lib.ListN.{length, get_or, take}
 use Rattle.basics.specs.Options.{Holds, given}
 use Rattle.basics.specs.Lists.{count, All, without}
@@ -49,7 +49,7 @@ module _ (T : GivenF) (rs : List (List ℕ)) (lengths : List ℕ) where
       }
 
   module _ (pending : List ℕ) (n : ℕ) (Y : Trying pending n) where
-    trying-last : n ≤ 0 → search_f T rs ≡ none
+    trying-last : n ≤ 0 → search_f T rs ≡ None
     unfolding first_emptied_f
     trying-last h = sym Y.same ∙ ap (λ (l : List ℕ). first_emptied_f T (map (part_at rs) l)) (none_left (by_length lengths) pending n h)
 
@@ -78,11 +78,11 @@ module _ (T : GivenF) (rs : List (List ℕ)) (lengths : List ℕ) where
       this : first_emptied_f T (part_at rs k ∷ later) ≡ search_f T rs
       this = ap (λ (l : List ℕ). first_emptied_f T (map (part_at rs) l)) (sym (picked (by_length lengths) pending n j short h ej)) ∙ Y.same
 
-      trying-found : (new : List (List ℕ)) → some new ≡ emptied_f T (part_at rs k) → search_f T rs ≡ some new
+      trying-found : (new : List (List ℕ)) → Some new ≡ emptied_f T (part_at rs k) → search_f T rs ≡ Some new
       unfolding first_emptied_f
       trying-found new e = sym this ∙ rw (← e)
 
-      trying-more : none ≡ emptied_f T (part_at rs k) → (less : List ℕ) → length less ≡ room → take (n - 1) less ≡ without j (take n pending) → Trying less (n - 1)
+      trying-more : None ≡ emptied_f T (part_at rs k) → (less : List ℕ) → length less ≡ room → take (n - 1) less ≡ without j (take n pending) → Trying less (n - 1)
       unfolding first_emptied_f
       trying-more e less long el =
           let next : first_emptied_f T (part_at rs k ∷ later) ≡ first_emptied_f T later = rw (← e) in
@@ -106,7 +106,7 @@ module _ (T : GivenF) (whole : List (List ℕ)) where
     abbrev kept : List (List ℕ)
     kept = non_empty (runs_in left)
 
-    pub searching-over : search_f T kept ≡ none → kept ≡ eliminated_f T whole
+    pub searching-over : search_f T kept ≡ None → kept ≡ eliminated_f T whole
     unfolding searches_f
     searching-over e = go X.bound X.same
       where
@@ -114,7 +114,7 @@ module _ (T : GivenF) (whole : List (List ℕ)) where
         go zero q = q
         go (suc b) q = (let d : kept ≡ searches_f T (suc b) (runs_in left) = rw e in d) ∙ q
 
-    module _ (next : Runs) (S : Sound next) (e : search_f T kept ≡ some (runs_in next)) where
+    module _ (next : Runs) (S : Sound next) (e : search_f T kept ≡ Some (runs_in next)) where
       fewer : Fewer kept (runs_in next)
       fewer = subst (Holds (Fewer kept)) e (search-fewer T kept)
 
@@ -143,12 +143,12 @@ pub record Pick (rs : List (List ℕ)) (pending : List ℕ) (n j : ℕ) : Type 0
 
 -- what follows from its answer, among the runs that are left of those before
 pub record Turn (T : GivenF) (before kept : Runs) (lengths pending : List ℕ) (n j : ℕ) (goes : Bool) (new : Runs) : Type 0 where
-  pub found : goes ≡ true → search_f T (non_empty (runs_in before)) ≡ some (runs_in new)
+  pub found : goes ≡ true → search_f T (non_empty (runs_in before)) ≡ Some (runs_in new)
   pub more : goes ≡ false → (less : List ℕ) → length less ≡ room → take (n - 1) less ≡ without j (take n pending)
       → Trying T (runs_in kept) lengths less (n - 1)
 
 module _ (T : GivenF) (kept : Runs) (lengths pending : List ℕ) (n : ℕ) (Y : Trying T (runs_in kept) lengths pending n) where
-  pub tried-all : (before : Runs) → runs_in kept ≡ non_empty (runs_in before) → n ≤ 0 → search_f T (non_empty (runs_in before)) ≡ none
+  pub tried-all : (before : Runs) → runs_in kept ≡ non_empty (runs_in before) → n ≤ 0 → search_f T (non_empty (runs_in before)) ≡ None
   tried-all before ek h = ap (search_f T) (sym ek) ∙ trying-last T (runs_in kept) lengths pending n Y h
 
   module _ (h : 0 < n) (j : ℕ) (ej : j ≡ least_at (by_length lengths) (take n pending)) where

@@ -1,6 +1,5 @@
 -- eliminate_routes on floats, as the code has it, over runs as lists. Definitions only.
-use Rattle.std.specs.Prelude.{ℕ, zero, suc, ◌≡◌, Bool, true, false, cond, ◌&&◌, List, [], ◌∷◌, length, Float}
-use Rattle.std.proofs.Math.Option.{Option, none, some, map}
+use Rattle.std.specs.Prelude.{ℕ, zero, suc, ◌≡◌, Bool, true, false, cond, ◌&&◌, List, [], ◌∷◌, length, Float, Option, None, option_map}
 use Rattle.std.specs.Float.Ieee as Ieee
 use Rattle.std.specs.Float.{binary64, inf}
 use Rattle.basics.specs.Options.{value_or, or_else, given}
@@ -35,10 +34,10 @@ module _ (G : GivenF) where
   emptied_f p =
       let saved = saved_f p.run in
       let placed = place_all_f G (fl 0) saved (sort (by_seats (demand_f G)) p.run) p.rest in
-      cond (finite_f saved) (map (λ (q : PlacedF). q.runs) placed) none
+      cond (finite_f saved) (option_map (λ (q : PlacedF). q.runs) placed) None
 
   unfoldable pub first_emptied_f : List Parted → Option (List (List ℕ))
-  first_emptied_f [] = none
+  first_emptied_f [] = None
   first_emptied_f (p ∷ ps) = or_else (emptied_f p) (first_emptied_f ps)
 
   -- the shortest run first: what is left after the first that can go
@@ -48,7 +47,7 @@ module _ (G : GivenF) where
   -- the search begins again after a success
   unfoldable pub searches_f : ℕ → List (List ℕ) → List (List ℕ)
   searches_f zero runs = non_empty runs
-  searches_f (suc bound) runs = value_or (non_empty runs) (map (searches_f bound) (search_f (non_empty runs)))
+  searches_f (suc bound) runs = value_or (non_empty runs) (option_map (searches_f bound) (search_f (non_empty runs)))
 
   -- the runs that eliminate_routes gives
   unfoldable pub eliminated_f : List (List ℕ) → List (List ℕ)

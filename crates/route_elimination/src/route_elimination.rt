@@ -130,9 +130,8 @@ pub fn eliminate(
         left = drop_empty(&mut *ends, left);
         let lengths = lengths_of(ends, left);
         let mut pending = [0usize; 128];
-        let mut n = left;
-        number(&mut pending, 0, n);
-        while 0 < n {
+        number(&mut pending, 0, left);
+        for n in (1..=left).rev() {
             let j = shortest(&pending[..n], &lengths);
             let r = pending[j];
             let goes = emptied(
@@ -156,7 +155,6 @@ pub fn eliminate(
                 continue 'search;
             }
             remove(&mut pending, n, j);
-            n -= 1;
         }
         break 'search;
     }

@@ -4,8 +4,7 @@ use native.Mathlib.Omega.{arith}
 use mathlib.Core.Path.{◌≡◌, refl, sym, ap, ap₂, subst, ◌∙◌}
 use mathlib.Core.Bool.{true}
 use mathlib.Core.List.{List, [], ◌∷◌, map}
-use mathlib.Core.Option
-use mathlib.Core.Option.{Option, none, some}
+use Rattle.std.specs.Prelude.{Option, None, Some, option_map}
 use lib.Dec.{eqb}
 use lib.Ieee.{Float}
 use lib.ListN.{length, length-append}
@@ -37,13 +36,13 @@ use Rattle.sheet_plan.specs.Breaks.{taken_in, break_by, breaks_f, places_in, sta
 use Rattle.sheet_plan.specs.Plan.{starts_of}
 use Rattle.sheet_plan.proofs.PlanRuns.{all_both, runs-are, placed-are, served-few, served-inside}
 
-value-fl : (o : Option ℕ) → value_or (fl 0) (Option.map fl o) ≡ fl (value_or 0 o)
-value-fl none = refl
-value-fl (some n) = refl
+value-fl : (o : Option ℕ) → value_or (fl 0) (option_map fl o) ≡ fl (value_or 0 o)
+value-fl None = refl
+value-fl (Some n) = refl
 
 -- the break of a run at its place
 abbrev taken : Sheet → Run → TakenF
-taken s r = record { place = r.place; start = Option.map fl (start_of s r) }
+taken s r = record { place = r.place; start = option_map fl (start_of s r) }
 
 taken_places : (s : Sheet) (runs : List Run) → places_in (map (taken s) runs) ≡ map (λ r. r.place) runs
 taken_places s [] = refl
@@ -60,10 +59,10 @@ eval-is by_clock s calls = refl
 eval-is by_pay s calls = refl
 
 -- a legal run that has its place by the placement is allowed with the totals that it has there
-placed-allowed : (p : Whole.Placement) (s : Sheet) (r : Run) → legal s r ≡ true → (u : Totals) → totals_by p s r.calls ≡ some u → u.place ≡ r.place → allowed s u ≡ true
+placed-allowed : (p : Whole.Placement) (s : Sheet) (r : Run) → legal s r ≡ true → (u : Totals) → totals_by p s r.calls ≡ Some u → u.place ≡ r.place → allowed s u ≡ true
 placed-allowed p s r h u e q =
     let (t, L) = legal-has s r h in
-    let rode : ride s r ≡ some u = subst (λ (n : ℕ). ride s (with s r.calls n) ≡ some u) q (totals-own s p r.calls u e).0 in
+    let rode : ride s r ≡ Some u = subst (λ (n : ℕ). ride s (with s r.calls n) ≡ Some u) q (totals-own s p r.calls u e).0 in
     subst (λ (v : Totals). allowed s v ≡ true) (same (sym L.rode ∙ rode)) L.kept-limits
 
 module _ (p : Placement) (s : Sheet) (S : Sized s) (t : Tables) (I : Image s t) where
@@ -81,7 +80,7 @@ module _ (p : Placement) (s : Sheet) (S : Sized s) (t : Tables) (I : Image s t) 
       let q : u.0.place ≡ r.place = eqb-true u.0.place r.place u.2 in
       ap taken_in
       (sized-eval-by-exact s S t I r.calls few i p
-      ∙ ap (Option.map fl_evaluation) (eval-is placement s r.calls ∙ ap (λ (o : Option Totals). o >>= eval_of s r.calls) u.1))
+      ∙ ap (option_map fl_evaluation) (eval-is placement s r.calls ∙ ap (λ (o : Option Totals). o >>= eval_of s r.calls) u.1))
       ∙ rw (placed-allowed placement s r h u.0 u.1 q, q) refl
 
   all_found : (runs : List Run) → length (joined runs) ≤ most_calls → All (Place s) (joined runs) → legal_cutting s runs ≡ true → placed_by placement s runs ≡ true

@@ -1,6 +1,5 @@
 -- The breaks of the runs of a run list, where the placement puts them, on floats. Definitions only.
-use Rattle.std.specs.Prelude.{ℕ, List, map, Float}
-use Rattle.std.proofs.Math.Option.{Option, none, some}
+use Rattle.std.specs.Prelude.{ℕ, List, map, Float, Option, None, Some}
 use Rattle.basics.specs.Options.{value_or}
 use Rattle.whole.specs.Whole.{fl}
 use Rattle.definitions.specs.RunList.{runs_of}
@@ -10,8 +9,8 @@ use Rattle.placements.specs.Placed.{eval_by}
 
 -- the break of a run by its evaluation; none where the run isn't allowed
 abbrev pub taken_in : Option EvaluationF → TakenF
-taken_in none = record { place = 0; start = none }
-taken_in (some e) = record { place = e.totals.place; start = e.start }
+taken_in None = record { place = 0; start = None }
+taken_in (Some e) = record { place = e.totals.place; start = e.start }
 
 unfoldable pub break_by : Tables → LimitsF → Placement → List ℕ → TakenF
 break_by t limits placement calls = taken_in (eval_by t limits placement calls)

@@ -4,10 +4,10 @@ ghost use Rattle.basics.specs.Options.{value_or};
 ghost use Rattle.whole.specs.Whole.{fl};
 ghost use Rattle.definitions.specs.Room.{written};
 ghost use Rattle.theorems.proofs.RunListLaws.{RiseTo};
-ghost use Rattle.evaluation.specs.Records.{lent, limits_of, start_of, taken_of};
+ghost use Rattle.evaluation.specs.Records.{lent, limits_of, taken_of};
 ghost use Rattle.sheet_plan.specs.Breaks.{break_by, breaks_f, places_in, starts_in};
 
-use evaluation::route::{Evaluated, Start, Taken};
+use evaluation::route::Taken;
 use models::customer::Customer;
 use models::limits::RouteLimits;
 use models::placement::Placement;
@@ -26,11 +26,10 @@ fn break_by(
     ensures { let tables = lent customers distances.now times.now size in
         taken_of result ≡ break_by tables (limits_of limits) placement run.now }
 {
-    let Evaluated::Allowed(e) = eval_by(run, customers, distances, times, size, limits, placement)
-    else {
+    let Some(e) = eval_by(run, customers, distances, times, size, limits, placement) else {
         return Taken {
             place: 0,
-            start: Start::Unbroken,
+            start: None,
         };
     };
     let start = e.start;
@@ -41,12 +40,12 @@ fn break_by(
 }
 
 // When a break starts, and 0 where there is none.
-fn start_or_zero(start: Start) -> f64
-    ensures { result ≡ value_or (fl 0) (start_of start) }
+fn start_or_zero(start: Option<f64>) -> f64
+    ensures { result ≡ value_or (fl 0) start }
 {
     match start {
-        Start::Unbroken => 0.0,
-        Start::At(time) => time,
+        None => 0.0,
+        Some(time) => time,
     }
 }
 
@@ -74,9 +73,7 @@ pub fn write_breaks(
         starts.new ≡ written (starts_in breaks) starts.old }
 {
     let mut from = 0;
-    let mut k = 0;
-    while k < ends.len() {
-        let to = ends[k];
+    for (k, &to) in ends.iter().enumerate() {
         let b = break_by(
             &calls[from..to],
             customers,
@@ -90,6 +87,5 @@ pub fn write_breaks(
         let start = b.start;
         starts[k] = start_or_zero(start);
         from = to;
-        k += 1;
     }
 }

@@ -1,35 +1,17 @@
 -- The words of one customer: those up to the next 7. Assumes nothing.
-use Prim.Native.Nat.{ℕ, suc, ◌≤◌, ◌<◌}
+use Prim.Native.Nat.{ℕ}
 use mathlib.Core.Path.{◌≡◌, refl}
-use mathlib.Core.Bool.{true, false}
 use mathlib.Core.List.{List, [], ◌∷◌}
-use mathlib.Core.Option.{Option, none, some}
-use lib.ListN.{length, drop, get_or, drop_of_length-le}
+use Rattle.std.specs.Prelude.{Option}
 use lib.Dec.{eqb}
 use Rattle.basics.proofs.TestLaws.{by-test}
 use Rattle.definitions.specs.Words.{Word}
 use Rattle.definitions.specs.Reader.{values_of, first_of, own, load_of, window_of}
-use Rattle.sheet_words.specs.Held.{no_word}
-use Rattle.sheet_words.proofs.ByIndex.{words-from}
 use Rattle.sheet_read.specs.Parts.{window_from}
 
 -- the first value of kind k among them
 abbrev pub own_first : ℕ → List Word → Option ℕ
 own_first k ws = first_of (values_of k (own ws))
-
-module _ (k : ℕ) (ws : List Word) (i : ℕ) where
-  pub own-end : length ws ≤ i → none ≡ own_first k (drop i ws)
-  own-end h = rw (drop_of_length-le ws h)
-
-  module _ (w : Word) (h : i < length ws) (e : w ≡ get_or ws i no_word) where
-    pub own-next : eqb w.kind 7 ≡ true → none ≡ own_first k (drop i ws)
-    own-next s = rw (words-from ws i w h e, s)
-
-    pub own-here : eqb w.kind 7 ≡ false → eqb w.kind k ≡ true → some w.value ≡ own_first k (drop i ws)
-    own-here s t = rw (words-from ws i w h e, s, t)
-
-    pub own_on : eqb w.kind 7 ≡ false → eqb w.kind k ≡ false → own_first k (drop (suc i) ws) ≡ own_first k (drop i ws)
-    own_on s t = rw (words-from ws i w h e, s, t)
 
 -- they are the same words of themselves, and so have the same second capacity or demand
 own-own : (ws : List Word) → own (own ws) ≡ own ws

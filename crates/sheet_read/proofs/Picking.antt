@@ -3,9 +3,11 @@ use Prim.Native.Nat.{ℕ, suc, ◌+◌, ◌≤◌, ◌<◌}
 use native.Mathlib.Omega.{arith}
 use native.Mathlib.Numerals.{add-one}
 use mathlib.Core.Path.{◌≡◌, refl, sym, ap, ◌∙◌}
+use mathlib.Core.Bool.{false}
 use mathlib.Core.List.{List, [], ◌∷◌, ◌++◌, map, append-nil, append_assoc}
 use lib.ListN.{length, drop, get_or, length-append, drop_of_length-le}
 use lib.Seq.{drop-cons}
+use lib.Dec.{eqb}
 use Rattle.whole.specs.Whole.{fl}
 use Rattle.definitions.specs.Words.{Word}
 use Rattle.definitions.specs.Reader.{values_of, tour_of, own, customer_of, customers_of}
@@ -21,9 +23,12 @@ pub record Picks {A : Type 0} (k : ℕ) (g : List Word → List A) (f : Word →
   pub picks : (w : Word) (ws : List Word) → IsKind k w → g (w ∷ ws) ≡ f w ws ∷ g ws
 
 module _ {A : Type 0} {k : ℕ} {g : List Word → List A} {f : Word → List Word → A} (p : Picks k g f) (ws : List Word) where
-  -- at a word of kind k stands its element
+  -- at a word of kind k stands its element, and at another none
   at-kind : (i : ℕ) → i < length ws → IsKind k (get_or ws i no_word) → g (drop i ws) ≡ f (get_or ws i no_word) (drop (suc i) ws) ∷ g (drop (suc i) ws)
   at-kind i h t = ap g (drop-cons ws i no_word h) ∙ p.picks (get_or ws i no_word) (drop (suc i) ws) t
+
+  at-other : (i : ℕ) → i < length ws → eqb (get_or ws i no_word).kind k ≡ false → g (drop i ws) ≡ g (drop (suc i) ws)
+  at-other i h t = ap g (drop-cons ws i no_word h) ∙ p.skips (get_or ws i no_word) (drop (suc i) ws) t
 
   at-end : (i : ℕ) → length ws ≤ i → g (drop i ws) ≡ []
   at-end i h = ap g (drop_of_length-le ws h) ∙ p.none
@@ -40,41 +45,40 @@ module _ {A : Type 0} {k : ℕ} {g : List Word → List A} {f : Word → List Wo
 pub behind : (k : ℕ) (ws : List Word) (i r : ℕ) → r ≡ i + 1 + before k (drop (i + 1) ws) → r ≡ suc i + before k (drop (suc i) ws)
 behind k ws i r e = rw add-one at e
 
--- A loop stands at index i, at a word of kind k or at the end. It has passed the n elements of `front`: those of `first`, and then those of the words before i.
-pub record Passed {A : Type 0} (k : ℕ) (g : List Word → List A) (first : List A) (ws : List Word) (front : List A) (i n : ℕ) : Type 0 where
+-- A loop stands at index i. It has passed the n elements of `front`: those of `first`, and then those of the words before i.
+pub record Passed {A : Type 0} (g : List Word → List A) (first : List A) (ws : List Word) (front : List A) (i n : ℕ) : Type 0 where
   pub same : front ++ g (drop i ws) ≡ first ++ g ws
   pub many : n ≡ length front
   pub few : n ≤ length first + i
-  pub here : i < length ws → IsKind k (get_or ws i no_word)
 
-module _ {A : Type 0} {k : ℕ} {g : List Word → List A} {f : Word → List Word → A} (p : Picks k g f) where
-  pub set_out : (first : List A) (ws : List Word) (r : ℕ) → r ≡ 0 + before k ws → Passed k g first ws first r (length first)
-  set_out first ws r e =
-      record {
-        same = ap (λ (l : List A). first ++ l) (sym (skipped k ws 0 r e g p.skips));
-        many = refl;
-        few = omega arith;
-        here = found-kind k ws 0 r e;
-      }
+pub set_out : {A : Type 0} (g : List Word → List A) (first : List A) (ws : List Word) → Passed g first ws first 0 (length first)
+set_out g first ws = record { same = refl; many = refl; few = omega arith }
 
-  module _ {first : List A} {ws : List Word} {front : List A} {i n : ℕ} (q : Passed k g first ws front i n) where
-    pub turn : (r m : ℕ) → i < length ws → r ≡ i + 1 + before k (drop (i + 1) ws) → m ≡ n + 1
-        → Passed k g first ws (front ++ f (get_or ws i no_word) (drop (suc i) ws) ∷ []) r m
-    turn r m h e c =
-        let w = get_or ws i no_word in
-        let x = f w (drop (suc i) ws) in
-        let j : i + 1 ≡ suc i = omega arith in
-        let behind : g (drop i ws) ≡ x ∷ g (drop r ws) =
-        at-kind p ws i h (q.here h) ∙ ap (λ (l : List A). x ∷ l) (rw j at (skipped k ws (i + 1) r e g p.skips)) in
+module _ {A : Type 0} {k : ℕ} {g : List Word → List A} {f : Word → List Word → A} (p : Picks k g f) {first : List A} {ws : List Word} {front : List A} {i n : ℕ} (q : Passed g first ws front i n) where
+  module _ (h : i < length ws) where
+    -- past a word of kind k
+    pub turn : IsKind k (get_or ws i no_word) → Passed g first ws (front ++ f (get_or ws i no_word) (drop (suc i) ws) ∷ []) (i + 1) (n + 1)
+    turn t =
+        let x = f (get_or ws i no_word) (drop (suc i) ws) in
         record {
-          same = append_assoc front (x ∷ []) (g (drop r ws)) ∙ ap (λ (l : List A). front ++ l) (sym behind) ∙ q.same;
+          same =
+              rw add-one
+              (append_assoc front (x ∷ []) (g (drop (suc i) ws)) ∙ ap (λ (l : List A). front ++ l) (sym (at-kind p ws i h t)) ∙ q.same);
           many = omega (arith, length-append front (x ∷ []), q.many);
           few = omega (arith, q.few);
-          here = found-kind k ws (i + 1) r e;
         }
 
-    pub passed-all : length ws ≤ i → front ≡ first ++ g ws
-    passed-all h = sym (append-nil front) ∙ ap (λ (l : List A). front ++ l) (sym (at-end p ws i h)) ∙ q.same
+    -- past another
+    pub pass : eqb (get_or ws i no_word).kind k ≡ false → Passed g first ws front (i + 1) n
+    pass t =
+        record {
+          same = rw add-one (ap (λ (l : List A). front ++ l) (sym (at-other p ws i h t)) ∙ q.same);
+          many = q.many;
+          few = omega (arith, q.few);
+        }
+
+  pub passed-all : length ws ≤ i → front ≡ first ++ g ws
+  passed-all h = sym (append-nil front) ∙ ap (λ (l : List A). front ++ l) (sym (at-end p ws i h)) ∙ q.same
 
 -- ---- the values of a kind
 

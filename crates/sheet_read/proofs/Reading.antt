@@ -2,8 +2,7 @@
 use Prim.Native.Nat.{ℕ, ◌*◌, ◌≤◌}
 use native.Mathlib.Omega.{arith}
 use mathlib.Core.Path.{◌≡◌, refl, sym, ap, ◌∙◌}
-use mathlib.Core.Option as Option
-use mathlib.Core.Option.{Option, none, some}
+use Rattle.std.specs.Prelude.{Option, None, Some, unwrap_or}
 use Rattle.basics.specs.Options.{value_or}
 use lib.Ieee.{Float}
 use lib.ListN.{length}
@@ -54,6 +53,6 @@ module _ (bytes : List ℕ) where
           ∙ sym (ap summary_of sheet-read)
 
 -- the library's word for a value or 0 gives what the definitions' gives
-pub get_or-value_or : (o : Option ℕ) (d : ℕ) → Option.get_or o d ≡ value_or d o
-get_or-value_or none d = refl
-get_or-value_or (some n) d = refl
+pub get_or-value_or : (o : Option ℕ) (d : ℕ) → unwrap_or o d ≡ value_or d o
+get_or-value_or None d = refl
+get_or-value_or (Some n) d = refl

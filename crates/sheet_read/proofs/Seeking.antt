@@ -1,16 +1,15 @@
 -- The search for the first word of a kind. Assumes nothing.
-use Prim.Native.Nat.{ℕ, suc, ◌+◌, ◌≤◌, ◌<◌}
+use Prim.Native.Nat.{ℕ, suc, ◌+◌, ◌<◌}
 use native.Mathlib.Omega.{arith}
 use mathlib.Core.Path.{◌≡◌, refl, sym, ap, ◌∙◌}
 use mathlib.Core.Bool.{true, false, cond}
 use mathlib.Core.List.{List, [], ◌∷◌}
-use lib.ListN.{length, drop, get_or, length-drop, drop_of_length-le}
+use lib.ListN.{length, drop, get_or, length-drop}
 use lib.Seq.{drop-drop, get_or-drop}
 use lib.Dec.{eqb}
 use Rattle.basics.proofs.TestLaws.{by-test}
 use Rattle.definitions.specs.Words.{Word}
 use Rattle.sheet_words.specs.Held.{no_word}
-use Rattle.sheet_words.proofs.ByIndex.{words-from}
 use Rattle.sheet_read.specs.Seeking.{before}
 
 -- the word is of kind k
@@ -18,21 +17,6 @@ abbrev pub IsKind : ℕ → Word → Type 0
 IsKind k w = eqb w.kind k ≡ true
 
 module _ (k : ℕ) where
-  -- ---- the loop
-
-  module _ (ws : List Word) (i : ℕ) where
-    pub seek-end : length ws ≤ i → before k (drop i ws) ≡ 0
-    seek-end h = rw (drop_of_length-le ws h)
-
-    module _ (w : Word) (h : i < length ws) (e : w ≡ get_or ws i no_word) where
-      pub seek-here : IsKind k w → before k (drop i ws) ≡ 0
-      seek-here t = rw (words-from ws i w h e, t)
-
-      pub seek-on : eqb w.kind k ≡ false → before k (drop i ws) ≡ suc (before k (drop (suc i) ws))
-      seek-on f = rw (words-from ws i w h e, f)
-
-  -- ---- what it finds
-
   -- a part of the words to which those of other kinds are nothing
   abbrev pub Skips : {A : Type 0} → (List Word → List A) → Type 0
   Skips g = (w : Word) (ws : List Word) → eqb w.kind k ≡ false → g (w ∷ ws) ≡ g ws

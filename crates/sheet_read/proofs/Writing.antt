@@ -3,20 +3,20 @@ use Prim.Native.Nat.{ℕ, suc, ◌+◌, ◌≤◌, ◌<◌}
 use native.Mathlib.Omega.{arith}
 use mathlib.Core.Path.{◌≡◌, refl, sym, ap, ◌∙◌}
 use mathlib.Core.List.{List, [], ◌∷◌, ◌++◌}
+use borrow.Author.Tests.{eq-eqb, ne_eqb}
 use lib.ListN.{length, drop, get_or, set}
 use Rattle.definitions.specs.Words.{Word}
 use Rattle.definitions.specs.Room.{written}
 use Rattle.sheet_words.specs.Held.{no_word}
-use Rattle.sheet_read.specs.Seeking.{before}
 use Rattle.sheet_read.specs.Fitting.{fitting}
 use Rattle.sheet_read.proofs.Picking as Picking
 use Rattle.sheet_read.proofs.Picking.{Picks, Passed}
 use Rattle.sheet_read.proofs.Fitting.{write-more, write-length, took-all, took-full}
 
 -- at index i, n elements stand at the front of `out`, which was `old`
-pub record Wrote {A : Type 0} (k : ℕ) (g : List Word → List A) (first : List A) (ws : List Word) (old out : List A) (i n : ℕ) : Type 0 where
+pub record Wrote {A : Type 0} (g : List Word → List A) (first : List A) (ws : List Word) (old out : List A) (i n : ℕ) : Type 0 where
   pub front : List A
-  pub passed : Passed k g first ws front i n
+  pub passed : Passed g first ws front i n
   pub room : n ≤ length old
   pub holds : out ≡ written front old
 
@@ -25,12 +25,12 @@ pub record Done {A : Type 0} (all old out : List A) (n : ℕ) : Type 0 where
   pub holds : out ≡ written (fitting all old) old
   pub many : n ≡ length (fitting all old)
 
-module _ {A : Type 0} {k : ℕ} {g : List Word → List A} {f : Word → List Word → A} (p : Picks k g f) where
-  pub set_out : (first : List A) (ws : List Word) (old : List A) (r : ℕ) → r ≡ 0 + before k ws → length first ≤ length old
-      → Wrote k g first ws old (written first old) r (length first)
-  set_out first ws old r e h = record { front = first; passed = Picking.set_out p first ws r e; room = h; holds = refl }
+pub set_out : {A : Type 0} (g : List Word → List A) (first : List A) (ws : List Word) (old : List A) → length first ≤ length old
+    → Wrote g first ws old (written first old) 0 (length first)
+set_out g first ws old h = record { front = first; passed = Picking.set_out g first ws; room = h; holds = refl }
 
-  module _ {first : List A} {ws : List Word} {old out : List A} {i n : ℕ} (q : Wrote k g first ws old out i n) where
+module _ {A : Type 0} {k : ℕ} {g : List Word → List A} {f : Word → List Word → A} (p : Picks k g f) where
+  module _ {first : List A} {ws : List Word} {old out : List A} {i n : ℕ} (q : Wrote g first ws old out i n) where
     pub kept : length out ≡ length old
     kept = ap length q.holds ∙ write-length old q.front (omega (arith, q.room, q.passed.many))
 
@@ -38,15 +38,21 @@ module _ {A : Type 0} {k : ℕ} {g : List Word → List A} {f : Word → List Wo
     pub place : (n ≡ length out → ⊥) → n < length old
     place h = omega (arith, kept, q.room)
 
-    pub turn : (r m : ℕ) (x : A) → i < length ws → n < length old → x ≡ f (get_or ws i no_word) (drop (suc i) ws)
-        → r ≡ i + 1 + before k (drop (i + 1) ws) → m ≡ n + 1 → Wrote k g first ws old (set out n x) r m
-    turn r m x h l b e c =
+    -- past the word w, of kind k
+    pub turn : (w : Word) (x : A) → i < length ws → w ≡ get_or ws i no_word → w.kind ≡ k → n < length old → x ≡ f (get_or ws i no_word) (drop (suc i) ws)
+        → Wrote g first ws old (set out n x) (i + 1) (n + 1)
+    turn w x h e t l b =
         record {
           front = q.front ++ f (get_or ws i no_word) (drop (suc i) ws) ∷ [];
-          passed = Picking.turn p q.passed r m h e c;
+          passed = Picking.turn p q.passed h (rw e at (eq-eqb w.kind k t));
           room = omega arith;
           holds = rw (q.holds, b) (write-more old q.front (f (get_or ws i no_word) (drop (suc i) ws)) n q.passed.many l);
         }
+
+    -- past another word
+    pub pass : (w : Word) → i < length ws → w ≡ get_or ws i no_word → (w.kind ≡ k → ⊥) → Wrote g first ws old out (i + 1) n
+    pass w h e t =
+        record { front = q.front; passed = Picking.pass p q.passed h (rw e at (ne_eqb w.kind k t)); room = q.room; holds = q.holds }
 
     -- what was passed is what there is room for
     close : q.front ≡ fitting (first ++ g ws) old → Done (first ++ g ws) old out n

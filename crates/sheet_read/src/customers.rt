@@ -1,41 +1,37 @@
 // The customers that accepted words say.
-ghost use Rattle.std.specs.Prelude.{suc, ◌<◌, ◌≡◌, map, length, drop, get_or};
-ghost use Rattle.std.proofs.Math.Option;
+ghost use Rattle.std.specs.Prelude.{suc, ◌<◌, ◌≡◌, map, length, drop, get_or, option_map};
 ghost use Rattle.whole.specs.Whole.{fl};
 ghost use Rattle.definitions.specs.Words.{words_of};
 ghost use Rattle.definitions.specs.Reader as Reader;
 ghost use Rattle.definitions.specs.Reader.{values_of, first_of, own, sheet_of};
 ghost use Rattle.definitions.specs.Room.{written};
 ghost use Rattle.models.specs.Load.{space_of};
-ghost use Rattle.models.specs.Records.{opening_of, penalty_of, customer_of};
+ghost use Rattle.models.specs.Records.{opening_of, customer_of};
 ghost use Rattle.models.specs.Image.{fl_window, fl_customer};
 ghost use Rattle.sheet_words.specs.Held.{no_word};
 ghost use Rattle.sheet_read.specs.Parts as Parts;
-ghost use Rattle.sheet_read.specs.Parts.{value_of, window_from};
+ghost use Rattle.sheet_read.specs.Parts.{window_from};
 ghost use Rattle.sheet_read.specs.Fitting.{fitting};
 
-use crate::values::{Value, find, or_zero};
-use models::customer::{Customer, Opening, Penalty, TimeWindow, depots};
+use crate::values::or_zero;
+use models::customer::{Customer, TimeWindow, depots};
 use models::load::Space;
 use sheet_words::{word_at, word_count};
 
 // The first value of that kind from `from` on and before the next customer.
-pub fn own_value(bytes: &[u8], kind: u32, from: usize) -> Value
-    ensures { value_of result ≡ first_of (values_of kind (own (drop from (words_of bytes.now)))) }
+pub fn own_value(bytes: &[u8], kind: u32, from: usize) -> Option<u32>
+    ensures { result ≡ first_of (values_of kind (own (drop from (words_of bytes.now)))) }
 {
-    let count = word_count(bytes);
-    let mut i = from;
-    while i < count {
+    for i in from..word_count(bytes) {
         let w = word_at(bytes, i);
         if w.kind == 7 {
-            return Value::Missing;
+            return None;
         }
         if w.kind == kind {
-            return Value::Given(w.value);
+            return Some(w.value);
         }
-        i += 1;
     }
-    Value::Missing
+    None
 }
 
 // So many seats, and the second capacity or demand among the words from `from` on and before the next customer.
@@ -47,14 +43,14 @@ pub fn load_from(bytes: &[u8], seats: u32, from: usize) -> Space
 }
 
 // A window needs both its ends.
-pub fn opening_of(ready: Value, due: Value) -> Opening
-    ensures { opening_of result ≡ Option.map fl_window (window_from (value_of ready) (value_of due)) }
+pub fn opening_of(ready: Option<u32>, due: Option<u32>) -> Option<TimeWindow>
+    ensures { opening_of result ≡ option_map fl_window (window_from ready due) }
 {
     match ready {
-        Value::Missing => Opening::Always,
-        Value::Given(from) => match due {
-            Value::Missing => Opening::Always,
-            Value::Given(to) => Opening::Window(TimeWindow {
+        None => None,
+        Some(from) => match due {
+            None => None,
+            Some(to) => Some(TimeWindow {
                 ready: from as f64,
                 due: to as f64,
             }),
@@ -62,12 +58,12 @@ pub fn opening_of(ready: Value, due: Value) -> Opening
     }
 }
 
-pub fn penalty_of(v: Value) -> Penalty
-    ensures { penalty_of result ≡ Option.map fl (value_of v) }
+pub fn penalty_of(v: Option<u32>) -> Option<f64>
+    ensures { result ≡ option_map fl v }
 {
     match v {
-        Value::Missing => Penalty::Hard,
-        Value::Given(n) => Penalty::Soft(n as f64),
+        None => None,
+        Some(n) => Some(n as f64),
     }
 }
 
@@ -98,17 +94,18 @@ pub fn customers_of(bytes: &[u8]) -> [Customer; 64]
     ensures { let all = map fl_customer (sheet_of (words_of bytes.now)).customers in
         map customer_of result ≡ written (fitting all Parts.depots) Parts.depots }
 {
-    let count = word_count(bytes);
     let mut all = depots();
     let mut n = 1;
-    let mut i = find(bytes, 7, 0);
-    while i < count {
+    for i in 0..word_count(bytes) {
+        let w = word_at(bytes, i);
+        if w.kind != 7 {
+            continue;
+        }
         if n == 64 {
             return all;
         }
         all[n] = customer_at(bytes, i);
         n += 1;
-        i = find(bytes, 7, i + 1);
     }
     all
 }

@@ -1,47 +1,45 @@
 // The head of a sheet: places, capacity, fixed run cost, limits and break.
-ghost use Rattle.std.specs.Prelude.{◌≡◌};
-ghost use Rattle.std.proofs.Math.Option.{map};
+ghost use Rattle.std.specs.Prelude.{◌≡◌, option_map};
 ghost use Rattle.whole.specs.Whole.{fl};
 ghost use Rattle.definitions.specs.Words.{words_of};
 ghost use Rattle.definitions.specs.Reader.{values_of, break_of, sheet_of};
-ghost use Rattle.models.specs.Records.{limit_of, rest_of, head_of};
+ghost use Rattle.models.specs.Records.{rest_of, head_of};
 ghost use Rattle.models.specs.Image.{fl_break, fl_sheet};
-ghost use Rattle.sheet_read.specs.Parts.{value_of};
 
 use crate::customers::load_from;
-use crate::values::{Value, find, first_value, number_at, or_zero};
+use crate::values::{find, first_value, number_at, or_zero};
 use models::head::Head;
-use models::limits::{Limit, RouteLimits};
-use models::vehicle::{Rest, VehicleBreak};
+use models::limits::RouteLimits;
+use models::vehicle::VehicleBreak;
 use sheet_words::word_count;
 
-pub fn limit_of(v: Value) -> Limit
-    ensures { limit_of result ≡ map fl (value_of v) }
+pub fn limit_of(v: Option<u32>) -> Option<f64>
+    ensures { result ≡ option_map fl v }
 {
     match v {
-        Value::Missing => Limit::Unlimited,
-        Value::Given(n) => Limit::At(n as f64),
+        None => None,
+        Some(n) => Some(n as f64),
     }
 }
 
 // The break, from the first three words of its kind.
-pub fn rest_of(bytes: &[u8]) -> Rest
-    ensures { rest_of result ≡ map fl_break (break_of (values_of 6 (words_of bytes.now))) }
+pub fn rest_of(bytes: &[u8]) -> Option<VehicleBreak>
+    ensures { rest_of result ≡ option_map fl_break (break_of (values_of 6 (words_of bytes.now))) }
 {
     let count = word_count(bytes);
     let earliest = find(bytes, 6, 0);
     if count <= earliest {
-        return Rest::Unbroken;
+        return None;
     }
     let latest = find(bytes, 6, earliest + 1);
     if count <= latest {
-        return Rest::Unbroken;
+        return None;
     }
     let duration = find(bytes, 6, latest + 1);
     if count <= duration {
-        return Rest::Unbroken;
+        return None;
     }
-    Rest::Break(VehicleBreak {
+    Some(VehicleBreak {
         earliest: number_at(bytes, earliest),
         latest: number_at(bytes, latest),
         duration: number_at(bytes, duration),

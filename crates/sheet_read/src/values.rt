@@ -1,31 +1,23 @@
 // The values of a kind, in order: what accepted words say.
-ghost use Rattle.std.specs.Prelude.{◌≡◌, ◌+◌, length, drop, get_or};
-ghost use Rattle.std.proofs.Math.Option;
+ghost use Rattle.std.specs.Prelude.{◌≡◌, ◌+◌, length, drop, get_or, unwrap_or};
 ghost use Rattle.whole.specs.Whole.{fl};
 ghost use Rattle.definitions.specs.Words.{words_of};
 ghost use Rattle.definitions.specs.Reader.{values_of, first_of, tour_of};
 ghost use Rattle.definitions.specs.Room.{written};
 ghost use Rattle.sheet_words.specs.Held.{no_word};
-ghost use Rattle.sheet_read.specs.Parts.{value_of, floats_of};
+ghost use Rattle.sheet_read.specs.Parts.{floats_of};
 ghost use Rattle.sheet_read.specs.Seeking.{before};
 ghost use Rattle.sheet_read.specs.Fitting.{fitting};
 
 use sheet_words::{word_at, word_count};
 
-// No value, or one.
-#[derive(Clone, Copy)]
-pub enum Value {
-    Missing,
-    Given(u32),
-}
-
 // The value, and 0 where there is none.
-pub fn or_zero(v: Value) -> u32
-    ensures { result ≡ Option.get_or (value_of v) 0 }
+pub fn or_zero(v: Option<u32>) -> u32
+    ensures { result ≡ unwrap_or v 0 }
 {
     match v {
-        Value::Missing => 0,
-        Value::Given(n) => n,
+        None => 0,
+        Some(n) => n,
     }
 }
 
@@ -34,27 +26,25 @@ pub fn find(bytes: &[u8], kind: u32, from: usize) -> usize
     ensures { result ≡ from + before kind (drop from (words_of bytes.now)) }
 {
     let count = word_count(bytes);
-    let mut i = from;
-    while i < count {
+    for i in from..count {
         let w = word_at(bytes, i);
         if w.kind == kind {
             return i;
         }
-        i += 1;
     }
-    i
+    count.max(from)
 }
 
-// The first value of that kind.
-pub fn first_value(bytes: &[u8], kind: u32) -> Value
-    ensures { value_of result ≡ first_of (values_of kind (words_of bytes.now)) }
+// The first value of that kind, if there is one.
+pub fn first_value(bytes: &[u8], kind: u32) -> Option<u32>
+    ensures { result ≡ first_of (values_of kind (words_of bytes.now)) }
 {
     let i = find(bytes, kind, 0);
     if i < word_count(bytes) {
         let w = word_at(bytes, i);
-        Value::Given(w.value)
+        Some(w.value)
     } else {
-        Value::Missing
+        None
     }
 }
 
@@ -78,12 +68,12 @@ pub fn call_at(bytes: &[u8], i: usize) -> usize
 pub fn count_values(bytes: &[u8], kind: u32) -> usize
     ensures { result ≡ length (values_of kind (words_of bytes.now)) }
 {
-    let count = word_count(bytes);
     let mut n = 0;
-    let mut i = find(bytes, kind, 0);
-    while i < count {
-        n += 1;
-        i = find(bytes, kind, i + 1);
+    for i in 0..word_count(bytes) {
+        let w = word_at(bytes, i);
+        if w.kind == kind {
+            n += 1;
+        }
     }
     n
 }
@@ -94,16 +84,17 @@ pub fn write_values(bytes: &[u8], kind: u32, out: &mut [f64]) -> usize
         out.new ≡ written values out.old }
     ensures count { result ≡ length (fitting (floats_of kind bytes.now) out.old) }
 {
-    let count = word_count(bytes);
     let mut n = 0;
-    let mut i = find(bytes, kind, 0);
-    while i < count {
+    for i in 0..word_count(bytes) {
+        let w = word_at(bytes, i);
+        if w.kind != kind {
+            continue;
+        }
         if n == out.len() {
             return n;
         }
         out[n] = number_at(bytes, i);
         n += 1;
-        i = find(bytes, kind, i + 1);
     }
     n
 }
@@ -114,16 +105,17 @@ pub fn write_tour(bytes: &[u8], out: &mut [usize]) -> usize
         out.new ≡ written calls out.old }
     ensures count { result ≡ length (fitting (tour_of (words_of bytes.now)) out.old) }
 {
-    let count = word_count(bytes);
     let mut n = 0;
-    let mut i = find(bytes, 0xE, 0);
-    while i < count {
+    for i in 0..word_count(bytes) {
+        let w = word_at(bytes, i);
+        if w.kind != 0xE {
+            continue;
+        }
         if n == out.len() {
             return n;
         }
         out[n] = call_at(bytes, i);
         n += 1;
-        i = find(bytes, 0xE, i + 1);
     }
     n
 }

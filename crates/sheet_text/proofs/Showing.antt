@@ -3,7 +3,7 @@ use Prim.Native.Nat.{ℕ, suc, ◌+◌, ◌*◌, ◌≤◌, ◌<◌}
 use native.Mathlib.Omega.{arith}
 use mathlib.Core.Path.{◌≡◌, sym, ap, ◌∙◌}
 use mathlib.Core.List.{List, [], ◌∷◌, ◌++◌}
-use lib.ListN.{length, drop, get_or, drop_of_length-le}
+use lib.ListN.{length, drop, get_or}
 use lib.Seq.{drop-cons}
 use lib.Dec.{eqb}
 use Rattle.basics.proofs.TestLaws.{by-test}
@@ -63,6 +63,3 @@ module _ (ws : List Word) (old : List ℕ) where
         distances = (next was w).facing;
         wrote = rw (m, g) (Putting.turn q.wrote left p more (omega (arith, q.short, l, room, h)));
       }
-
-  pub all_shown : {out : List ℕ} {end : ℕ} (s : Code.State) (i : ℕ) (q : Shown ws old out s end i) → length ws ≤ i → Put 0 (show_words ws) old out end
-  all_shown s i q h = Putting.ended q.wrote (ap (show_from (state_with q.calls q.distances s)) (drop_of_length-le ws h))

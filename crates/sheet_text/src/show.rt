@@ -58,15 +58,12 @@ pub fn show(out: &mut [u8], bytes: &[u8]) -> usize
     ensures text { Put 0 (Text.show_words (words_of bytes.now)) out.old out.new result }
     ensures short { result ≤ length out.old }
 {
-    let count = word_count(bytes);
     let mut state = State::start();
     let mut end = 0;
-    let mut i = 0;
-    while i < count {
+    for i in 0..word_count(bytes) {
         let w = word_at(bytes, i);
         end = show_word(&mut *out, end, state, w);
         state = state.next(w);
-        i += 1;
     }
     end
 }

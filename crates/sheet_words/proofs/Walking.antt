@@ -4,7 +4,7 @@ use native.Mathlib.Omega.{arith}
 use mathlib.Core.Path.{◌≡◌, refl, sym, ap, subst, ◌∙◌}
 use mathlib.Core.Bool.{Bool, true, false}
 use mathlib.Core.List.{List, []}
-use mathlib.Core.Option.{none, some}
+use Rattle.std.specs.Prelude.{None, Some}
 use lib.ListN.{length, drop, get_or, length-set, drop_of_length-le}
 use lib.Seq.{drop-cons}
 use lib.Dec.{eqb, leb, ltb}
@@ -34,20 +34,20 @@ module _ (ws : List Word) (left : Bool) (i : ℕ) where
     walk_ends h = rw (drop_of_length-le ws h)
 
     module _ (w : Word) (h : i < length ws) (e : w ≡ get_or ws i no_word) where
-      pub walk-bad : (n : ℕ) → some n ≡ fault_at s i w → refused n i ≡ walk s i (drop i ws) left
+      pub walk-bad : (n : ℕ) → Some n ≡ fault_at s i w → refused n i ≡ walk s i (drop i ws) left
       unfolding walk
       walk-bad n f = rw (words-from ws i w h e, ← f)
 
-      pub walk-last : none ≡ fault_at s i w → eqb w.kind 0xF ≡ true → behind (suc i) (drop (suc i) ws) left ≡ walk s i (drop i ws) left
+      pub walk-last : None ≡ fault_at s i w → eqb w.kind 0xF ≡ true → behind (suc i) (drop (suc i) ws) left ≡ walk s i (drop i ws) left
       unfolding walk
       walk-last f k = rw (words-from ws i w h e, ← f, k)
 
-      pub walk-on : none ≡ fault_at s i w → eqb w.kind 0xF ≡ false → walk (next s w) (suc i) (drop (suc i) ws) left ≡ walk s i (drop i ws) left
+      pub walk-on : None ≡ fault_at s i w → eqb w.kind 0xF ≡ false → walk (next s w) (suc i) (drop (suc i) ws) left ≡ walk s i (drop i ws) left
       unfolding walk
       walk-on f k = rw (words-from ws i w h e, ← f, k)
 
 -- what a word without fault passed
-module _ (s : State) (i : ℕ) (w : Word) (h : fault_at s i w ≡ none) where
+module _ (s : State) (i : ℕ) (w : Word) (h : fault_at s i w ≡ None) where
   stands : among w.kind (may_stand s) ≡ true
   unfolding fault_at
   stands = not-false (among w.kind (may_stand s)) (none-fits (faults s i w) h 11)
@@ -117,7 +117,7 @@ module _ (ws : List Word) (left : Bool) where
   state_at s called i r = state_with r.calls r.distances s
 
   pub turn : (s t : Code.State) (called after : List Bool) (i k : ℕ) (w : Word) (r : Reached ws left s called i) → i < length ws → w ≡ get_or ws i no_word
-      → none ≡ fault_at (state_at s called i r) i w → eqb w.kind 0xF ≡ false
+      → None ≡ fault_at (state_at s called i r) i w → eqb w.kind 0xF ≡ false
       → state_with (next (state_at s called i r) w).called (next (state_at s called i r) w).facing t ≡ next (state_at s called i r) w
       → after ≡ notes_with called w → k ≡ suc i → Reached ws left t after k
   turn s t called after i k w r h e f n g m q =

@@ -1,12 +1,9 @@
 -- What the code's structs and enums hold, as the records of crates/definitions. Definitions only.
-use Rattle.std.specs.Prelude.{ℕ, Bool, true, cond, List, [], set, eqb}
-use Rattle.std.proofs.Math.Option.{Option, none, some}
+use Rattle.std.specs.Prelude.{ℕ, Bool, true, cond, List, [], set, eqb, Option, None, Some}
 use Rattle.definitions.specs.Words as D
 use Rattle.definitions.specs.Reader as Reader
 use Rattle.sheet_words.specs.declared.Word.{Word}
 use Rattle.sheet_words.specs.declared.state.State.{State}
-use Rattle.sheet_words.specs.declared.state.Fault.{Fault}
-use Rattle.sheet_words.specs.declared.state.Fault.TheVariants.{Sound, Number}
 use Rattle.sheet_words.specs.declared.check.Checked.{Checked}
 use Rattle.sheet_words.specs.declared.check.Checked.TheVariants.{Accepted, Refused}
 
@@ -30,10 +27,6 @@ state_of s = state_with [] [] s
 -- the notes of the customers called, behind one more word
 abbrev pub notes_with : List Bool → D.Word → List Bool
 notes_with called w = cond (eqb w.kind 0xE) (set called w.value true) called
-
-abbrev pub fault_of : Fault → Option ℕ
-fault_of Sound = none
-fault_of (Number n) = some n
 
 abbrev pub outcome_of : Checked → Reader.Outcome
 outcome_of Accepted = Reader.accepted

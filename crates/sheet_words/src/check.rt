@@ -6,7 +6,7 @@ ghost use Rattle.definitions.specs.Reader as Reader;
 ghost use Rattle.definitions.specs.Reader.{walk, start};
 ghost use Rattle.sheet_words.specs.Held.{held_word, no_word, notes_with, outcome_of};
 
-use crate::state::{Fault, State};
+use crate::state::State;
 use crate::{Word, left_over, word_at, word_count};
 use models::domain::is_closed;
 use refuse_lists::called::{is_called, note_call};
@@ -82,12 +82,11 @@ pub fn check(bytes: &[u8]) -> Checked
     let count = word_count(bytes);
     let mut state = State::start();
     let mut called = [false; 64];
-    let mut i = 0;
-    while i < count {
+    for i in 0..count {
         let w = word_at(bytes, i);
         let again = calls_again(&called, w);
         let differs = closure_differs(bytes, i, state.full(), w);
-        if let Fault::Number(number) = state.fault_at(i, w, again, differs) {
+        if let Some(number) = state.fault_at(i, w, again, differs) {
             return Checked::Refused(number, i);
         }
         if w.kind == 0xF {
@@ -95,7 +94,6 @@ pub fn check(bytes: &[u8]) -> Checked
         }
         note_word(&mut called, w);
         state = state.next(w);
-        i += 1;
     }
-    Checked::Refused(12, i)
+    Checked::Refused(12, count)
 }

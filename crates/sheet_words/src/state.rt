@@ -5,7 +5,7 @@ ghost use Rattle.definitions.specs.Domain.{is_capacity, is_demand};
 ghost use Rattle.definitions.specs.Reader as Reader;
 ghost use Rattle.definitions.specs.Reader.{among, onward, behind_second, may_stand, in_range, repeated, pair_falls};
 ghost use Rattle.definitions.specs.Reader.{closure_differs, fault_at};
-ghost use Rattle.sheet_words.specs.Held.{held_word, state_with, state_of, fault_of};
+ghost use Rattle.sheet_words.specs.Held.{held_word, state_with, state_of};
 
 use crate::Word;
 use models::domain::{is_call, is_capacity, is_demand, is_leg, is_number, is_penalty, is_places};
@@ -20,13 +20,6 @@ pub struct State {
     pub places: u32,
     // How many customers have yet to come.
     pub coming: u32,
-}
-
-// A word is sound, or refused by a number.
-#[derive(Clone, Copy)]
-pub enum Fault {
-    Sound,
-    Number(u32),
 }
 
 // One less, and 0 of 0.
@@ -286,18 +279,18 @@ impl State {
         first_fit(&numbers, &fits)
     }
 
-    // What is wrong with the word of index i.
-    pub fn fault_at(self, i: usize, w: Word, again: bool, differs: bool) -> Fault
+    // What is wrong with the word of index i, by number; none where it is sound.
+    pub fn fault_at(self, i: usize, w: Word, again: bool, differs: bool) -> Option<u32>
         ensures { (called facing : List ℕ) →
             let s = state_with called facing self in
             again ≡ repeated s (held_word w)
             → (among w.kind (may_stand s) ≡ true → differs ≡ closure_differs s (held_word w))
-            → fault_of result ≡ fault_at s i (held_word w) }
+            → result ≡ fault_at s i (held_word w) }
     {
         let number = self.number_at(i, w, again, differs);
         if number == 0 {
-            return Fault::Sound;
+            return None;
         }
-        Fault::Number(number)
+        Some(number)
     }
 }

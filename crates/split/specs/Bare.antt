@@ -1,6 +1,5 @@
 -- What `split` lends, by what it is lent itself. Definitions only.
-use Rattle.std.specs.Prelude.{map}
-use Rattle.std.proofs.Math.Option.{none}
+use Rattle.std.specs.Prelude.{map, None}
 use Rattle.models.specs.declared.placement.Placement.TheVariants.{Clock}
 use Rattle.cut_runs.specs.Runs.{Instance, bare_f}
 
@@ -12,6 +11,6 @@ bare_of I =
       tables = record { customers = map bare_f t.customers; distances = t.distances; times = t.times; size = t.size };
       capacity = I.capacity;
       fixed = I.fixed;
-      limits = record { max_distance = none; max_duration = none; rest = none };
+      limits = record { max_distance = None; max_duration = None; rest = None };
       placement = Clock;
     }

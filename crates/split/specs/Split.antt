@@ -1,15 +1,13 @@
 -- What `split` lends to the cut: terms on which loads and closed legs alone count. Definitions only.
-use Rattle.std.specs.Prelude.{ℕ, true, List, Float}
+use Rattle.std.specs.Prelude.{ℕ, true, List, Float, None}
 use Rattle.models.specs.declared.customer.Customer.{Customer}
 use Rattle.models.specs.declared.limits.RouteLimits.{RouteLimits}
-use Rattle.models.specs.declared.limits.Limit.TheVariants.{Unlimited}
 use Rattle.models.specs.declared.load.Space.{Space}
-use Rattle.models.specs.declared.vehicle.Rest.TheVariants.{Unbroken}
 use Rattle.models.specs.declared.placement.Placement.TheVariants.{Clock}
 use Rattle.cut_runs.specs.Runs.{Instance, lent_on}
 
 abbrev pub no_limits : RouteLimits
-no_limits = record { max_distance = Unlimited; max_duration = Unlimited; rest = Unbroken }
+no_limits = record { max_distance = None; max_duration = None; rest = None }
 
 abbrev pub bare_lent : List Customer → List Float → List Float → ℕ → Space → Float → Instance
 bare_lent customers distances times size capacity fixed =

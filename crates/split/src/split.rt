@@ -9,10 +9,9 @@ ghost use Rattle.split.specs.Split.{bare_lent};
 
 use cut_runs::terms::Terms;
 use models::customer::Customer;
-use models::limits::{Limit, RouteLimits};
+use models::limits::RouteLimits;
 use models::load::Space;
 use models::placement::Placement;
-use models::vehicle::Rest;
 use split_tw::answer::SplitResult;
 use split_tw::split_tw::cut;
 
@@ -49,9 +48,9 @@ pub fn split(
         dropped.new ≡ written plan.dropped dropped.old }
 {
     let limits = RouteLimits {
-        max_distance: Limit::Unlimited,
-        max_duration: Limit::Unlimited,
-        rest: Rest::Unbroken,
+        max_distance: None,
+        max_duration: None,
+        rest: None,
     };
     let terms = Terms {
         capacity,

@@ -42,12 +42,9 @@ pub fn filled(out: &mut [u8], at: usize, template: &[u8], numbers: &[u64]) -> us
 {
     let mut end = at;
     let mut k = 0;
-    let mut i = 0;
-    while i < template.len() {
-        let b = template[i];
+    for &b in template {
         end = put_piece(&mut *out, end, b, numbers, k);
         k = used(b, k, numbers.len());
-        i += 1;
     }
     end
 }

@@ -8,7 +8,7 @@
 use call_cuts::cutting::Cut;
 use call_cuts::marking::{Marking, mark};
 use call_runs::evaluating::Evaluation;
-use evaluation::route::{RouteEval, Start};
+use evaluation::route::RouteEval;
 use listing_lines::number::whole_part;
 use marker::verdict::Verdict;
 use models::byte::number_of;
@@ -64,7 +64,7 @@ fn evaluate(case: Case, run: &[u8]) -> Evaluation {
 // The break, if one is taken, and the time at home.
 fn show_times(rt: &impl Print, eval: RouteEval) -> io::Result<()> {
     let start = eval.start;
-    if let Start::At(time) = start {
+    if let Some(time) = start {
         numbered(rt, " rest ", eval.place as u64)?;
         amount(rt, " at ", time)?;
     }

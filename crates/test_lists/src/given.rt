@@ -37,9 +37,7 @@ pub fn write_numbers(bytes: &[u8], numbers: &mut [usize])
     requires { length bytes.now ≤ length numbers.old }
     ensures { numbers.new ≡ written bytes.now numbers.old }
 {
-    let mut k = 0;
-    while k < bytes.len() {
-        numbers[k] = number_of(bytes[k]);
-        k += 1;
+    for (k, &byte) in bytes.iter().enumerate() {
+        numbers[k] = number_of(byte);
     }
 }

@@ -79,6 +79,7 @@ fn main(rt: HostRuntime) {
     let mut input = rt.reader();
     let mut tally = start();
     let mut last = next(&mut input);
+    // A `while`: how many answers come is not known before.
     while tally.answers < MOST && is_answer(last) {
         tally = counted(tally, last);
         last = next(&mut input);

@@ -6,8 +6,8 @@ use mathlib.Core.Path.{◌≡◌, refl, sym, ap, ◌∙◌}
 use mathlib.Core.Bool.{Bool, true, false, false≢true}
 use mathlib.Core.List.{List, [], ◌∷◌, ◌++◌}
 use lib.ListN.{length, take, drop, get_or, length-take, length-drop, drop_of_length-le}
-use lib.Seq.{get_or-take}
 use borrow.Author.Tests.{leb-true, le-leb}
+use Rattle.std.proofs.lemmas.List.{take_min}
 use Rattle.basics.proofs.TestLaws.{by-test, both}
 use Rattle.listing_lines.proofs.Pieces.{next-left}
 use Rattle.test_runs.specs.Along.{unlike, says, follow, follows}
@@ -85,13 +85,9 @@ module _ (recorded : List ℕ) (at : ℕ) (text : List ℕ) where
     pub is-not-there : r ≡ false → unlike ≡ follow recorded at text
     is-not-there t = unsaid (λ l q. false≢true (sym t ∙ h.1 (ap (λ (m : ℕ). take m (drop at recorded)) e ∙ q)))
 
--- the same of the first elements of an array
-module _ {A : Type 0} (recorded : List ℕ) (f : A → Words) (count : ℕ) (xs : List A) (at k : ℕ) where
-  pub first_more : (d : A) → k < count → k < length xs
-      → follows recorded at (each f (drop k (take count xs))) ≡ follows recorded (follows recorded at (f (get_or xs k d))) (each f (drop (k + 1) (take count xs)))
-  first_more d l h =
-      each_more recorded f (take count xs) at k d (omega (arith, length-take count xs))
-      ∙ ap (λ (x : A). follows recorded (follows recorded at (f x)) (each f (drop (k + 1) (take count xs)))) (get_or-take count xs k d l)
-
-  pub first_done : min count (length xs) ≤ k → follows recorded at (each f (drop k (take count xs))) ≡ at
-  first_done h = each-done recorded f (take count xs) at k (omega (arith, length-take count xs))
+-- the words of the first elements of an array, of which there are n: behind the last of them
+pub first_done : {A : Type 0} (recorded : List ℕ) (f : A → Words) (count : ℕ) (xs : List A) (at end k n : ℕ) → n ≡ min count (length xs) → length (take n xs) ≤ k
+    → follows recorded end (each f (drop k (take n xs))) ≡ follows recorded at (each f (take n xs)) → end ≡ follows recorded at (each f (take count xs))
+first_done recorded f count xs at end k n few h e =
+    sym (each-done recorded f (take n xs) end k h) ∙ e
+    ∙ ap (λ l. follows recorded at (each f l)) (ap (λ m. take m xs) few ∙ take_min count xs)

@@ -1,7 +1,6 @@
 -- The words of the lines that a recorded answer has on a run, number by number. Definitions only.
-use Rattle.std.specs.Prelude.{ℕ, Bool, cond, false, List, [], ◌∷◌, ◌++◌, Float}
+use Rattle.std.specs.Prelude.{ℕ, Bool, cond, false, List, [], ◌∷◌, ◌++◌, Float, Option, None, Some}
 use Prim.Native.String.{String}
-use Rattle.std.proofs.Math.Option.{Option, none, some}
 use Rattle.std.specs.Float.{inf}
 use Rattle.std.specs.Float.Ieee.{lt}
 use Rattle.definitions.specs.Load.{Load}
@@ -66,8 +65,8 @@ violation_line v = line "violation" (violation_figures v.kind)
 
 -- the break's place and start, where there is a break
 abbrev pub break_figures : ℕ → Option Float → Words
-break_figures place none = []
-break_figures place (some start) = spaced place ∷ figure start ∷ []
+break_figures place None = []
+break_figures place (Some start) = spaced place ∷ figure start ∷ []
 
 -- distance, duration, lateness with its cost, and load
 abbrev pub total_figures : RouteF → Words

@@ -2,14 +2,12 @@
 ghost use Rattle.std.specs.Prelude.{◌≡◌, [], ◌∷◌, take};
 ghost use Rattle.definitions.specs.Listing.{spaced};
 ghost use Rattle.models.specs.Load.{load_of};
-ghost use Rattle.evaluation.specs.Records.{start_of};
 ghost use Rattle.visits.specs.Building.{built_of};
 ghost use Rattle.test_runs.specs.Along.{follows};
 ghost use Rattle.test_runs.specs.Words as Words;
 ghost use Rattle.test_runs.specs.Words.{each, load_figures, visit_line, over_figures, violation_figures, violation_line, break_figures, total_figures, built_lines};
 
 use crate::recorded::{figure, number, word};
-use evaluation::route::Start;
 use models::count::fewer;
 use models::load::Load;
 use visits::evaluator::Built;
@@ -111,10 +109,8 @@ fn visit_lines(recorded: &[u8], at: usize, visits: [Visit; 128], count: usize) -
 {
     let n = fewer(count, 128);
     let mut end = at;
-    let mut k = 0;
-    while k < n {
-        end = visit_line(recorded, end, visits[k]);
-        k += 1;
+    for visit in &visits[..n] {
+        end = visit_line(recorded, end, *visit);
     }
     end
 }
@@ -130,21 +126,19 @@ fn violation_lines(
 {
     let n = fewer(count, MOST_VIOLATIONS);
     let mut end = at;
-    let mut k = 0;
-    while k < n {
-        end = violation_line(recorded, end, violations[k]);
-        k += 1;
+    for violation in &violations[..n] {
+        end = violation_line(recorded, end, *violation);
     }
     end
 }
 
 // The break's place and start, where there is a break.
-fn break_figures(recorded: &[u8], at: usize, place: usize, start: Start) -> usize
-    ensures { result ≡ follows recorded.now at (break_figures place (start_of start)) }
+fn break_figures(recorded: &[u8], at: usize, place: usize, start: Option<f64>) -> usize
+    ensures { result ≡ follows recorded.now at (break_figures place start) }
 {
     match start {
-        Start::Unbroken => at,
-        Start::At(time) => {
+        None => at,
+        Some(time) => {
             let end = number(recorded, at, place as u64);
             figure(recorded, end, time)
         }

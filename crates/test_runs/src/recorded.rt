@@ -52,10 +52,8 @@ pub fn calls(recorded: &[u8], at: usize, run: &[usize]) -> usize
         result ≡ follows recorded.now at words }
 {
     let mut end = at;
-    let mut k = 0;
-    while k < run.len() {
-        end = number(recorded, end, run[k] as u64);
-        k += 1;
+    for &call in run {
+        end = number(recorded, end, call as u64);
     }
     word(recorded, end, b"\n")
 }

@@ -183,12 +183,9 @@ fn each_run(
 {
     let mut end = at;
     let mut from = 0;
-    let mut k = 0;
-    while k < ends.len() {
-        let to = ends[k];
+    for &to in ends {
         end = run_text(recorded, end, topic, &all[from..to], held, distances, times);
         from = to;
-        k += 1;
     }
     end
 }

@@ -2,7 +2,6 @@
 ghost use Rattle.std.specs.Prelude.{◌≡◌};
 
 use crate::sheets::{Sheet, base};
-use models::customer::Penalty;
 use models::load::Space;
 
 #[derive(Clone, Copy)]
@@ -35,13 +34,11 @@ pub fn changed(change: Change) -> Sheet
         Change::Capacity(most) => sheet.capacity(most),
         Change::Wheelchairs(seats, wheelchairs) => sheet.wheelchairs(Space { seats, wheelchairs }),
         Change::Between(leg) => sheet.leg(1, 2, leg).leg(2, 1, leg),
-        Change::Due(due) => sheet.window(0.0, due, Penalty::Hard),
-        Change::DueAtPrice(due, price) => sheet.window(0.0, due, Penalty::Soft(price)),
+        Change::Due(due) => sheet.window(0.0, due, None),
+        Change::DueAtPrice(due, price) => sheet.window(0.0, due, Some(price)),
         Change::DistanceLimit(most) => sheet.distance_limit(most),
         Change::FarHome(leg, most) => sheet.leg(1, 0, leg).distance_limit(most),
         Change::Break(earliest, latest) => sheet.rest(earliest, latest, 4.0),
-        Change::BreakAtPrice => sheet
-            .rest(0.0, 30.0, 4.0)
-            .window(12.0, 13.0, Penalty::Soft(5.0)),
+        Change::BreakAtPrice => sheet.rest(0.0, 30.0, 4.0).window(12.0, 13.0, Some(5.0)),
     }
 }

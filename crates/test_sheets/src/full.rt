@@ -3,11 +3,11 @@
 ghost use Rattle.std.specs.Prelude.{◌≡◌};
 ghost use Rattle.models.specs.Load.{seat_space};
 
-use models::customer::{Customer, Opening, Penalty, TimeWindow, depots};
+use models::customer::{Customer, TimeWindow, depots};
 use models::head::Head;
-use models::limits::{Limit, RouteLimits};
+use models::limits::RouteLimits;
 use models::load::seats;
-use models::vehicle::{Rest, VehicleBreak};
+use models::vehicle::VehicleBreak;
 
 #[derive(Clone, Copy)]
 pub struct FullSheet {
@@ -20,16 +20,21 @@ fn customer(demand: u32, service_duration: f64) -> Customer {
     Customer {
         demand: seats(demand),
         service_duration,
-        time_window: Opening::Always,
-        lateness_penalty: Penalty::Hard,
+        time_window: None,
+        lateness_penalty: None,
     }
 }
 
-fn windowed(service_duration: f64, ready: f64, due: f64, lateness_penalty: Penalty) -> Customer {
+fn windowed(
+    service_duration: f64,
+    ready: f64,
+    due: f64,
+    lateness_penalty: Option<f64>,
+) -> Customer {
     Customer {
         demand: seats(1),
         service_duration,
-        time_window: Opening::Window(TimeWindow { ready, due }),
+        time_window: Some(TimeWindow { ready, due }),
         lateness_penalty,
     }
 }
@@ -37,11 +42,11 @@ fn windowed(service_duration: f64, ready: f64, due: f64, lateness_penalty: Penal
 // The customers 1 to 5.
 fn customers() -> [Customer; 64] {
     let mut all = depots();
-    all[1] = windowed(1.0, 0.0, 14.0, Penalty::Hard);
+    all[1] = windowed(1.0, 0.0, 14.0, None);
     all[2] = customer(2, 0.0);
-    all[3] = windowed(20.0, 0.0, 31.0, Penalty::Hard);
+    all[3] = windowed(20.0, 0.0, 31.0, None);
     all[4] = customer(1, 3.0);
-    all[5] = windowed(1.0, 26.0, 27.0, Penalty::Soft(5.0));
+    all[5] = windowed(1.0, 26.0, 27.0, Some(5.0));
     all
 }
 
@@ -52,9 +57,9 @@ fn limits() -> RouteLimits {
         duration: 4.0,
     };
     RouteLimits {
-        max_distance: Limit::At(60.0),
-        max_duration: Limit::At(80.0),
-        rest: Rest::Break(rest),
+        max_distance: Some(60.0),
+        max_duration: Some(80.0),
+        rest: Some(rest),
     }
 }
 

@@ -2,11 +2,11 @@
 ghost use Rattle.std.specs.Prelude.{◌≡◌, ◌+◌, ◌*◌, ◌<◌, set};
 ghost use Rattle.models.specs.Load.{seat_space};
 
-use models::customer::{Customer, Opening, Penalty, TimeWindow, depots};
+use models::customer::{Customer, TimeWindow, depots};
 use models::head::Head;
-use models::limits::{Limit, RouteLimits};
+use models::limits::RouteLimits;
 use models::load::{Space, seats};
-use models::vehicle::{Rest, VehicleBreak};
+use models::vehicle::VehicleBreak;
 
 #[derive(Clone, Copy)]
 pub struct Sheet {
@@ -15,7 +15,11 @@ pub struct Sheet {
     pub distances: [f64; 9],
 }
 
-fn customer(demand: Space, time_window: Opening, lateness_penalty: Penalty) -> Customer {
+fn customer(
+    demand: Space,
+    time_window: Option<TimeWindow>,
+    lateness_penalty: Option<f64>,
+) -> Customer {
     Customer {
         demand,
         service_duration: 0.0,
@@ -24,10 +28,10 @@ fn customer(demand: Space, time_window: Opening, lateness_penalty: Penalty) -> C
     }
 }
 
-fn limits(max_distance: Limit, rest: Rest) -> RouteLimits {
+fn limits(max_distance: Option<f64>, rest: Option<VehicleBreak>) -> RouteLimits {
     RouteLimits {
         max_distance,
-        max_duration: Limit::Unlimited,
+        max_duration: None,
         rest,
     }
 }
@@ -40,9 +44,9 @@ pub fn base() -> Sheet
         places: 3,
         capacity: seats(4),
         fixed_cost: 0.0,
-        limits: limits(Limit::Unlimited, Rest::Unbroken),
+        limits: limits(None, None),
     };
-    let c = customer(seats(2), Opening::Always, Penalty::Hard);
+    let c = customer(seats(2), None, None);
     let mut customers = depots();
     customers[1] = c;
     customers[2] = c;
@@ -75,7 +79,7 @@ impl Sheet {
             seats: 2,
             wheelchairs: 1,
         };
-        let c = customer(demand, Opening::Always, Penalty::Hard);
+        let c = customer(demand, None, None);
         self.customers[1] = c;
         self.customers[2] = c;
         let mut head = self.head;
@@ -96,14 +100,10 @@ impl Sheet {
     }
 
     // The window and the penalty of customer 1.
-    pub fn window(mut self, ready: f64, due: f64, penalty: Penalty) -> Sheet
+    pub fn window(mut self, ready: f64, due: f64, penalty: Option<f64>) -> Sheet
         ensures { (result.head ≡ self.head) × (result.distances ≡ self.distances) }
     {
-        let first = customer(
-            seats(2),
-            Opening::Window(TimeWindow { ready, due }),
-            penalty,
-        );
+        let first = customer(seats(2), Some(TimeWindow { ready, due }), penalty);
         self.customers[1] = first;
         self
     }
@@ -123,7 +123,7 @@ impl Sheet {
         ensures { (result.head.places ≡ self.head.places) × (result.customers ≡ self.customers)
             × (result.distances ≡ self.distances) }
     {
-        self.limits(limits(Limit::At(limit), Rest::Unbroken))
+        self.limits(limits(Some(limit), None))
     }
 
     pub fn rest(self, earliest: f64, latest: f64, duration: f64) -> Sheet
@@ -135,6 +135,6 @@ impl Sheet {
             latest,
             duration,
         };
-        self.limits(limits(Limit::Unlimited, Rest::Break(rest)))
+        self.limits(limits(None, Some(rest)))
     }
 }

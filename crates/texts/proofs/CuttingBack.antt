@@ -3,7 +3,7 @@ use Prim.Native.Nat.{ℕ, zero, suc}
 use mathlib.Core.Path.{◌≡◌, refl, sym, ap, ap₂, subst, ◌∙◌}
 use mathlib.Core.Bool.{true}
 use mathlib.Core.List.{List, [], ◌∷◌, ◌++◌, map, append_assoc, append-nil}
-use mathlib.Core.Option.{none, some}
+use Rattle.std.specs.Prelude.{None, Some}
 use lib.ListN.{length, length-append}
 use Rattle.basics.proofs.TestLaws.{both}
 use Rattle.basics.proofs.OptionLaws.{clash}
@@ -26,7 +26,7 @@ use Rattle.theorems.proofs.GivenMarks.{own-places}
 use Rattle.texts.proofs.CuttingSteps.{steps, walked, goes, Byte, read, line-goes, drops-go, total-goes}
 
 -- a legal run whose line shows no break has none
-unbroken : (s : Sheet) (calls : List ℕ) (p : ℕ) → legal s (record { calls = calls; place = p }) ≡ true → start_of s (record { calls = calls; place = p }) ≡ none → p ≡ 0
+unbroken : (s : Sheet) (calls : List ℕ) (p : ℕ) → legal s (record { calls = calls; place = p }) ≡ true → start_of s (record { calls = calls; place = p }) ≡ None → p ≡ 0
 unbroken s calls zero h e = refl
 unbroken s calls (suc k) h e = clash (sym e ∙ (starts-at s calls k h).1)
 
@@ -34,12 +34,12 @@ all_both : (P : ℕ → Type 0) (l m : List ℕ) → All P (l ++ m) → All P l 
 all_both P [] m a = (tt, a)
 all_both P (x ∷ l) m a = let b = all_both P l m a.1 in ((a.0, b.0), b.1)
 
-same_read : {a b c d e f : List ℕ} → a ≡ d → b ≡ e → c ≡ f → some (read a b c) ≡ some (read d e f)
-same_read p q r i = some (read (p i) (q i) (r i))
+same_read : {a b c d e f : List ℕ} → a ≡ d → b ≡ e → c ≡ f → Some (read a b c) ≡ Some (read d e f)
+same_read p q r i = Some (read (p i) (q i) (r i))
 
 -- the lines of legal runs
 runs-go : (s : Sheet) (calls ends places : List ℕ) (rs : List Run) → legal_cutting s rs ≡ true → All Byte (joined rs) → All Byte (map (λ r. r.place) rs)
-    → steps (read calls ends places) (run_lines s rs) ≡ some (read (calls ++ joined rs) (ends ++ ends_from (length calls) (calls_in rs)) (places ++ map (λ r. r.place) rs))
+    → steps (read calls ends places) (run_lines s rs) ≡ Some (read (calls ++ joined rs) (ends ++ ends_from (length calls) (calls_in rs)) (places ++ map (λ r. r.place) rs))
 unfolding run_line
 runs-go s calls ends places [] h a b = sym (same_read (append-nil calls) (append-nil ends) (append-nil places))
 runs-go s calls ends places (r ∷ rs) h a b =
@@ -72,7 +72,7 @@ module _ (p : Placement) (s : Sheet) (tour : List ℕ) where
       let run-lines = run_lines s (with_places (runs_of x.served x.ends) x.places) in
       let begun = read [] [] [] in
       let end = read x.served x.ends x.places in
-      let lines : steps begun run-lines ≡ some end =
+      let lines : steps begun run-lines ≡ Some end =
       ap (λ (rs : List Run). steps begun (run_lines s rs)) runs-are
       ∙ runs-go s [] [] [] P.runs P.all-legal (subst (All Byte) (sym P.cuts) a) (subst (All Byte) (sym P.places-are) b)
       ∙ same_read P.cuts P.ends-are P.places-are in

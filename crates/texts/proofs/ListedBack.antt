@@ -2,7 +2,7 @@
 use Prim.Native.Nat.{ℕ}
 use mathlib.Core.Path.{◌≡◌, ap, sym, ◌∙◌}
 use mathlib.Core.List.{List}
-use mathlib.Core.Option.{some}
+use Rattle.std.specs.Prelude.{Some}
 use Rattle.definitions.specs.Sheet.{Sheet}
 use Rattle.definitions.specs.Placement.{by_clock}
 use Rattle.definitions.specs.Drop.{split_tw}
@@ -27,5 +27,5 @@ module _ (bs : List ℕ) (s : Sheet) (tour : List ℕ) (bytes : AllBytes bs) (ac
   pub listing-read : let x = split_tw s tour in read_cutting (listing bs) ≡ runs x.served x.ends x.places
   listing-read = listed ∙ own_read by_clock s tour F.within F.calls F.once
 
-  pub listing-best : (calls ends places : List ℕ) → read_cutting (listing bs) ≡ runs calls ends places → mark_of some (lent_runs s tour calls ends places) ≡ gives best
+  pub listing-best : (calls ends places : List ℕ) → read_cutting (listing bs) ≡ runs calls ends places → mark_of Some (lent_runs s tour calls ends places) ≡ gives best
   listing-best calls ends places e = own-text-marked by_clock s tour F.within F.calls F.once calls ends places (sym listed ∙ e)

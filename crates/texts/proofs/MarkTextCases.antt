@@ -4,7 +4,7 @@ use Prim.Native.Char.{code}
 use Prim.Native.String.{String}
 use mathlib.Core.Path.{◌≡◌, refl}
 use mathlib.Core.List.{List, [], ◌∷◌}
-use mathlib.Core.Option.{none, some}
+use Rattle.std.specs.Prelude.{None, Some}
 use Rattle.definitions.specs.Sheet.{Sheet, depot, asking}
 use Rattle.definitions.specs.RunList.{runs_from}
 use Rattle.definitions.specs.Lent.{whole_sheet}
@@ -41,7 +41,7 @@ case-b = (refl, refl)
 
 -- leg 1 to 0 is 30, limit 27: the planner drops customer 1, though run 1 2 is legal
 abbrev one_way : Sheet
-one_way = Bench.sheet 4 (0 ∷ 10 ∷ 12 ∷ 30 ∷ 0 ∷ 5 ∷ 12 ∷ 5 ∷ 0 ∷ []) (some 27) none none anyone
+one_way = Bench.sheet 4 (0 ∷ 10 ∷ 12 ∷ 30 ∷ 0 ∷ 5 ∷ 12 ∷ 5 ∷ 0 ∷ []) (Some 27) None None anyone
 
 case-l : marked one_way tour "run 1 2\n" ≡ text "other calls at 1: 1 where the planner serves 2\ndrop 1\n"
 unfolding opened
@@ -70,8 +70,8 @@ ended = (refl, refl, refl, refl)
 abbrev one_bay : Sheet
 one_bay =
     record {
-      head = record { places = 3; capacity = record { seats = 4; wheelchairs = 1 }; fixed = 0; max_distance = none; max_duration = none; rest = none };
-      customers = depot ∷ asking (record { seats = 1; wheelchairs = 1 }) 0 none none ∷ asking (record { seats = 1; wheelchairs = 1 }) 0 none none ∷ [];
+      head = record { places = 3; capacity = record { seats = 4; wheelchairs = 1 }; fixed = 0; max_distance = None; max_duration = None; rest = None };
+      customers = depot ∷ asking (record { seats = 1; wheelchairs = 1 }) 0 None None ∷ asking (record { seats = 1; wheelchairs = 1 }) 0 None None ∷ [];
       legs = record { distances = Bench.legs; times = [] };
     }
 
@@ -79,7 +79,7 @@ wheelchairs : marked one_bay tour "run 1 2\n" ≡ text "run 1 overloaded: 2 of 1
 unfolding opened
 wheelchairs = refl
 
-window : marked (until 14 none) (2 ∷ 1 ∷ []) "run 2 1\n" ≡ text "run 1 call 2 customer 1: window shut at 14, ready at 17\n"
+window : marked (until 14 None) (2 ∷ 1 ∷ []) "run 2 1\n" ≡ text "run 1 call 2 customer 1: window shut at 14, ready at 17\n"
 unfolding opened
 window = refl
 
@@ -102,7 +102,7 @@ long = refl
 
 -- from 1 to 2 there is no road
 abbrev closed : Sheet
-closed = Bench.sheet 4 (0 ∷ 10 ∷ 12 ∷ 10 ∷ 0 ∷ no_road ∷ 12 ∷ 5 ∷ 0 ∷ []) none none none anyone
+closed = Bench.sheet 4 (0 ∷ 10 ∷ 12 ∷ 10 ∷ 0 ∷ no_road ∷ 12 ∷ 5 ∷ 0 ∷ []) None None None anyone
 
 no-road : marked closed tour "run 1 2\n" ≡ text "run 1 leg 2: no road\n"
 unfolding opened

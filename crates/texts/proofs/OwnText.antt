@@ -4,8 +4,7 @@ use native.Mathlib.Omega.{arith}
 use mathlib.Core.Path.{◌≡◌, refl, sym, ap, subst, ◌∙◌}
 use mathlib.Core.Bool.{true, false, not, false≢true}
 use mathlib.Core.List.{List, [], ◌∷◌, map, map-id}
-use mathlib.Core.Option
-use mathlib.Core.Option.{Option, none, some}
+use Rattle.std.specs.Prelude.{Option, None, Some, option_map}
 use lib.ListN.{length}
 use lib.Seq.{take_all}
 use lib.Dec.{leb, ltb}
@@ -34,15 +33,15 @@ use Rattle.texts.proofs.CuttingBack.{plan-read}
 
 -- ---- a sheet in whole numbers means itself
 
-same-option : {A : Type 0} (o : Option A) → Option.map (λ (x : A). x) o ≡ o
-same-option none = refl
-same-option (some x) = refl
+same-option : {A : Type 0} (o : Option A) → option_map (λ (x : A). x) o ≡ o
+same-option None = refl
+same-option (Some x) = refl
 
 same-customers : (cs : List Customer) → map (map_customer (λ (n : ℕ). n)) cs ≡ cs
 same-customers [] = refl
 same-customers (c ∷ cs) = λ i. record { demand = c.demand; service = c.service; window = same-option c.window i; penalty = same-option c.penalty i } ∷ same-customers cs i
 
-pub means-itself : (s : Sheet) → length s.customers ≡ s.head.places → whole_sheet some s ≡ s
+pub means-itself : (s : Sheet) → length s.customers ≡ s.head.places → whole_sheet Some s ≡ s
 unfolding whole_sheet
 means-itself s counted =
     λ i.
@@ -75,7 +74,7 @@ module _ (p : Placement) (s : Sheet) (tour : List ℕ) (W : Within s) (C : Withi
   served-bytes : All Byte x.served
   served-bytes =
       let n = s.head.places in
-      let few : n ≤ most_places = leb-true n most_places (both (leb 1 n) (leb n most_places) (not-false (is_places n) (in-range some s W.ranged).places)).1 in
+      let few : n ≤ most_places = leb-true n most_places (both (leb 1 n) (leb n most_places) (not-false (is_places n) (in-range Some s W.ranged).places)).1 in
       let each = any-fails (λ (c : ℕ). not (is_call n c)) x.served (calls-in-range n x.served served-range).each in
       all-imp (λ (c : ℕ). is_call n c ≡ true) Byte (λ c h. omega (arith, few, ltb-true c n (both (leb 1 c) (ltb c n) h).1)) x.served (fails-not (is_call n) x.served each)
 
@@ -92,17 +91,17 @@ module _ (p : Placement) (s : Sheet) (tour : List ℕ) (W : Within s) (C : Withi
   abbrev cutting_lent : Lent ℕ
   cutting_lent = record { sheet = s; tour = tour; calls = []; ends = []; breaks = []; rooms = length tour ∷ length tour ∷ length tour ∷ [] }
 
-  itself : whole_sheet some s ≡ s
+  itself : whole_sheet Some s ≡ s
   itself = means-itself s W.counted
 
-  cut-accepted : refusal_of some cutting cutting_lent ≡ none
+  cut-accepted : refusal_of Some cutting cutting_lent ≡ None
   cut-accepted =
-      accepted-none some cutting cutting_lent
+      accepted-none Some cutting cutting_lent
       (record {
         customers = omega (arith, W.counted);
         results = (omega arith, (omega arith, (omega arith, tt)));
         breaks = λ m. absurd (false≢true m);
-        ranged = in-range some s W.ranged;
+        ranged = in-range Some s W.ranged;
         within = subst Within (sym itself) W;
         tour = subst (λ (t : Sheet). WithinCalls t tour) (sym itself) C;
         calls = refl;
@@ -112,13 +111,13 @@ module _ (p : Placement) (s : Sheet) (tour : List ℕ) (W : Within s) (C : Withi
         drivable = λ m. absurd (false≢true m);
       })
 
-  marked : mark_by_of some p (lent_runs s tour x.served x.ends x.places) ≡ gives best
+  marked : mark_by_of Some p (lent_runs s tour x.served x.ends x.places) ≡ gives best
   marked =
-      ap (λ (t : Sheet). let y = split_by p t tour in mark_by_of some p (lent_runs s tour y.served y.ends y.places)) (sym itself) ∙ own-marked p some cutting_lent cut-accepted
+      ap (λ (t : Sheet). let y = split_by p t tour in mark_by_of Some p (lent_runs s tour y.served y.ends y.places)) (sym itself) ∙ own-marked p Some cutting_lent cut-accepted
 
   -- whatever runs are read in the plan's text, they are marked Best
-  pub own-text-marked : (calls ends places : List ℕ) → read_cutting (plan_text s tour x) ≡ runs calls ends places → mark_by_of some p (lent_runs s tour calls ends places) ≡ gives best
-  own-text-marked calls ends places e = ap (λ (r : CuttingRead). mark_by_of some p (lent_read r)) (sym e ∙ own_read) ∙ marked
+  pub own-text-marked : (calls ends places : List ℕ) → read_cutting (plan_text s tour x) ≡ runs calls ends places → mark_by_of Some p (lent_runs s tour calls ends places) ≡ gives best
+  own-text-marked calls ends places e = ap (λ (r : CuttingRead). mark_by_of Some p (lent_read r)) (sym e ∙ own_read) ∙ marked
     where
       lent_read : CuttingRead → Lent ℕ
       lent_read (runs c e b) = lent_runs s tour c e b

@@ -4,7 +4,7 @@ use native.Mathlib.Omega.{arith}
 use mathlib.Core.Path.{◌≡◌, refl, subst}
 use mathlib.Core.Bool.{cond}
 use mathlib.Core.List.{List, [], ◌∷◌, ◌++◌}
-use mathlib.Core.Option.{Option, none, some, map}
+use Rattle.std.specs.Prelude.{Option, None, Some, option_map}
 use lib.ListN.{length, length-append}
 use Rattle.basics.proofs.TestLaws.{by-test}
 use Rattle.basics.proofs.OptionLaws.{same, clash, bound}
@@ -22,7 +22,7 @@ Ended s = EndsIn s.calls s.ends
 
 -- ---- a step
 
-blank-keeps : (m : Mode) (s t : State) → Ended s → blank m s ≡ some t → Ended t
+blank-keeps : (m : Mode) (s t : State) → Ended s → blank m s ≡ Some t → Ended t
 blank-keeps fresh s t E e = subst Ended (same e) E
 blank-keeps (spelling [] m) s t E e = subst Ended (same e) E
 blank-keeps (spelling (l ∷ ls) m) s t E e = clash e
@@ -40,7 +40,7 @@ blank-keeps behind s t E e = subst Ended (same e) E
 run-keeps : (s : State) → Ended s → Ended (run_ended s)
 run-keeps s E = all_append (λ (e : ℕ). e ≤ length s.calls) s.ends (length s.calls ∷ []) E (omega arith, tt)
 
-line-keeps : (m : Mode) (s t : State) → Ended s → line_ended m s ≡ some t → Ended t
+line-keeps : (m : Mode) (s t : State) → Ended s → line_ended m s ≡ Some t → Ended t
 line-keeps fresh s t E e = subst Ended (same e) E
 line-keeps (spelling ls m) s t E e = clash e
 line-keeps passing s t E e = subst Ended (same e) E
@@ -49,11 +49,11 @@ line-keeps (within k n) s t E e = clash e
 line-keeps between s t E e = subst Ended (same e) (run-keeps s E)
 line-keeps behind s t E e = subst Ended (same e) (run-keeps s E)
 
-letter-keeps : (o : Option Mode) (s t : State) → Ended s → map (λ m. to m s) o ≡ some t → Ended t
-letter-keeps none s t E e = clash e
-letter-keeps (some m) s t E e = subst Ended (same e) E
+letter-keeps : (o : Option Mode) (s t : State) → Ended s → option_map (λ m. to m s) o ≡ Some t → Ended t
+letter-keeps None s t E e = clash e
+letter-keeps (Some m) s t E e = subst Ended (same e) E
 
-step_keeps : (s t : State) (b : ℕ) → Ended s → step s b ≡ some t → Ended t
+step_keeps : (s t : State) (b : ℕ) → Ended s → step s b ≡ Some t → Ended t
 unfolding step
 step_keeps s t b E e =
     by-test (is_line_end b)
@@ -73,8 +73,8 @@ walk-keeps line column s [] E = E
 walk-keeps line column s (b ∷ bs) E = go (step s b) refl (λ x y t F. walk-keeps x y t bs F)
   where
     go : (o : Option State) → step s b ≡ o → ((x y : ℕ) (t : State) → Ended t → Said (walk x y t bs)) → Said (walk line column s (b ∷ bs))
-    go none e rest = rw (e, walk) tt
-    go (some t) e rest = rw (e, walk) (rest (cond (is_line_end b) (suc line) line) (cond (is_line_end b) 1 (suc column)) t (step_keeps s t b E e))
+    go None e rest = rw (e, walk) tt
+    go (Some t) e rest = rw (e, walk) (rest (cond (is_line_end b) (suc line) line) (cond (is_line_end b) 1 (suc column)) t (step_keeps s t b E e))
 
 pub read-ends : (bytes calls ends places : List ℕ) → read_cutting bytes ≡ runs calls ends places → EndsIn calls ends
 unfolding read_cutting

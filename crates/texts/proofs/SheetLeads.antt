@@ -4,7 +4,7 @@ use native.Mathlib.Omega.{arith}
 use mathlib.Core.Path.{◌≡◌, refl, sym, ap, subst, ◌∙◌}
 use mathlib.Core.Bool.{Bool, true, false, cond, ◌&&◌, ◌||◌, not, false≢true}
 use mathlib.Core.List.{List, [], ◌∷◌, ◌++◌, append_assoc}
-use mathlib.Core.Option.{none, some}
+use Rattle.std.specs.Prelude.{None, Some}
 use lib.ListN.{length}
 use lib.Dec.{ltb, eqb}
 use borrow.Author.Tests.{eqb-true, eqb-false, eq-eqb, ne_eqb, ltb-true, ltb-false}
@@ -27,7 +27,7 @@ pub record Leads (is : List Item) (s : State) (k : ℕ) : Type 0 where
       → (g : Bool) × (steps at (settled is f s ws sp) (lead_in (leads s) k ++ text " ") ≡ on (settled (items_for s k) g s ws sp)) × (row_goes s k g ≡ true)
 
 -- a customer's own number
-own-ends : (at : ℕ) (l : List ℕ) (is : List Item) (f : Bool) (s : State) (ws : List Word) (sp : List ℕ) → is_empty l ≡ false → value_of l ≡ some (own_number s)
+own-ends : (at : ℕ) (l : List ℕ) (is : List Item) (f : Bool) (s : State) (ws : List Word) (sp : List ℕ) → is_empty l ≡ false → value_of l ≡ Some (own_number s)
     → ended at (begun l (settled (own ∷ is) f s ws sp)) ≡ on (settled is f s ws sp)
 own-ends at l is f s ws sp h v = rw (h, v, eq-eqb (own_number s) (own_number s) refl) refl
 
@@ -103,14 +103,14 @@ full-goes true false c h = absurd (false≢true h)
 full-goes false b c h = refl
 
 -- a name behind a table that is full opens the next record
-name-ends : (at k : ℕ) (l : List ℕ) (f : Bool) (s : State) (ws : List Word) (sp : List ℕ) (is : List Item) → full k s ≡ true → is_empty l ≡ false → value_of l ≡ none → behind_in records l ≡ some is
+name-ends : (at k : ℕ) (l : List ℕ) (f : Bool) (s : State) (ws : List Word) (sp : List ℕ) (is : List Item) → full k s ≡ true → is_empty l ≡ false → value_of l ≡ None → behind_in records l ≡ Some is
     → ended at (begun l (settled (rows k ∷ []) f s ws sp)) ≡ on (settled is f s ws sp)
 unfolding records
 name-ends at k l f s ws sp is h some-letter v b = rw (some-letter, v, h, b) refl
 
 -- a record that opens behind a full table
 behind-table : (at k : ℕ) (name : List ℕ) (f : Bool) (s : State) (ws : List Word) (sp : List ℕ) (is : List Item) (bs : List ℕ) → full k s ≡ true → begins bs ≡ true
-    → is_empty name ≡ false → value_of name ≡ none → behind_in records name ≡ some is
+    → is_empty name ≡ false → value_of name ≡ None → behind_in records name ≡ Some is
     → ((at : ℕ) → steps at (settled (rows k ∷ []) true s ws sp) name ≡ on (begun name (settled (rows k ∷ []) true s ws sp)))
     → steps at (settled (rows k ∷ []) f s ws sp) (end_of_line ++ name ++ bs) ≡ steps (length name + (1 + at)) (settled is true s ws sp) bs
 behind-table at k name f s ws sp is bs h g some-letter v b spelled =

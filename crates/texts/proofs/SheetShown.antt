@@ -4,7 +4,7 @@ use native.Mathlib.Omega.{arith}
 use mathlib.Core.Path.{◌≡◌, refl, sym, ap, subst, ◌∙◌}
 use mathlib.Core.Bool.{Bool, true, false, cond, not, false≢true}
 use mathlib.Core.List.{List, [], ◌∷◌, ◌++◌, append_assoc, append-nil}
-use mathlib.Core.Option.{Option, none, some}
+use Rattle.std.specs.Prelude.{Option, None, Some}
 use lib.ListN.{length, length-append}
 use lib.Dec.{eqb, ltb}
 use borrow.Author.Tests.{eqb-true, eqb-false, ltb-true}
@@ -28,11 +28,11 @@ is_accepted accepted = true
 is_accepted (refused n i) = false
 
 -- the reading of accepted words goes on behind their first
-sound : (o : Option ℕ) (i : ℕ) (v : Outcome) → unless o i v ≡ accepted → (o ≡ none) × (v ≡ accepted)
-sound none i v e = (refl, e)
-sound (some n) i v e = absurd (false≢true (ap is_accepted e))
+sound : (o : Option ℕ) (i : ℕ) (v : Outcome) → unless o i v ≡ accepted → (o ≡ None) × (v ≡ accepted)
+sound None i v e = (refl, e)
+sound (Some n) i v e = absurd (false≢true (ap is_accepted e))
 
-module _ (s : State) (i : ℕ) (w : Word) (h : fault_at s i w ≡ none) where
+module _ (s : State) (i : ℕ) (w : Word) (h : fault_at s i w ≡ None) where
   stands : among w.kind (may_stand s) ≡ true
   unfolding fault_at
   stands = not-false (among w.kind (may_stand s)) (none-fits (faults s i w) h 11)
@@ -215,8 +215,8 @@ write-shown ws a e =
     let (t, all, sq, go, same) = all_back ws a e in
     let spelled = spell-steps 0 begin (settled (numbers 0xE ∷ []) true t all sq) bytes end_of_line go in
     ap (λ (r : Spelled). judged bytes r (walk start 0 r.made false)) spelled
-    ∙ ap (λ (l : List Word). judged bytes (record { made = l; spots = sq; end = suc (length bytes + 0); wrong = none }) (walk start 0 l false)) same
-    ∙ ap (λ (o : Outcome). judged bytes (record { made = ws; spots = sq; end = suc (length bytes + 0); wrong = none }) o) e
+    ∙ ap (λ (l : List Word). judged bytes (record { made = l; spots = sq; end = suc (length bytes + 0); wrong = None }) (walk start 0 l false)) same
+    ∙ ap (λ (o : Outcome). judged bytes (record { made = ws; spots = sq; end = suc (length bytes + 0); wrong = None }) o) e
 
 -- so different words show different texts
 pub show-injective : (vs ws : List Word) → AllFit vs → AllFit ws → walk start 0 vs false ≡ accepted → walk start 0 ws false ≡ accepted → show_words vs ≡ show_words ws → vs ≡ ws

@@ -5,7 +5,7 @@ use native.Mathlib.Omega.{arith}
 use mathlib.Core.Path.{◌≡◌, refl, sym, ap, subst, ◌∙◌}
 use mathlib.Core.Bool.{Bool, true, false, cond, ◌&&◌, ◌||◌, not, false≢true}
 use mathlib.Core.List.{List, [], ◌∷◌, ◌++◌, append_assoc, append-nil}
-use mathlib.Core.Option.{some}
+use Rattle.std.specs.Prelude.{Some}
 use lib.ListN.{length}
 use lib.Dec.{ltb, leb, eqb}
 use borrow.Author.Tests.{eqb-true, eqb-false, ne_eqb, leb-true, le-leb}
@@ -100,7 +100,7 @@ digits-some turns n = by-test (ltb n 10) (λ t. (code "0" + n, [], rw t)) (λ f.
 
 -- a number's letters, as they are shown, say it
 pub record Says (l : List ℕ) (v : ℕ) : Type 0 where
-  pub value : value_of l ≡ some v
+  pub value : value_of l ≡ Some v
   pub some-letter : is_empty l ≡ false
   pub goes : (at : ℕ) (is : List Item) (f : Bool) (s : State) (ws : List Word) (sp : List ℕ) → steps at (settled is f s ws sp) l ≡ on (begun l (settled is f s ws sp))
 
@@ -110,7 +110,7 @@ decimal-says v h =
     let p = subst (Passes is_digit) e (decimal-digits v) in
     let q : value_from 0 (d ∷ ds) ≡ v = ap (value_from 0) (sym e) ∙ decimal-value v in
     record {
-      value = ap value_of e ∙ rw (below-digits d p.0 45 (omega arith), all-passes (d ∷ ds) p) (ap some (value_in_lem 0 (d ∷ ds) (omega (arith, q, h)) ∙ q));
+      value = ap value_of e ∙ rw (below-digits d p.0 45 (omega arith), all-passes (d ∷ ds) p) (ap Some (value_in_lem 0 (d ∷ ds) (omega (arith, q, h)) ∙ q));
       some-letter = ap is_empty e;
       goes = λ at is f s ws sp. digits-go at [] (settled is f s ws sp) (decimal v) (decimal-digits v);
     }
@@ -170,7 +170,7 @@ row_goes s k f = not ((eqb k 0xC || eqb k 0xD) && eqb s.last.kind k && row_ends 
 abbrev pub counted : List ℕ
 counted = 0 ∷ 1 ∷ 2 ∷ 3 ∷ 4 ∷ 5 ∷ 6 ∷ 7 ∷ 8 ∷ 9 ∷ 0xA ∷ 0xB ∷ 0xC ∷ 0xD ∷ 0xE ∷ []
 
-module _ (at : ℕ) (l : List ℕ) (s : State) (v : ℕ) (g : Bool) (ws : List Word) (sp : List ℕ) (h : is_empty l ≡ false) (e : value_of l ≡ some v) (small : v ≤ no_road) where
+module _ (at : ℕ) (l : List ℕ) (s : State) (v : ℕ) (g : Bool) (ws : List Word) (sp : List ℕ) (h : is_empty l ≡ false) (e : value_of l ≡ Some v) (small : v ≤ no_road) where
   -- it makes the word of kind k
   abbrev Made : ℕ → Type 0
   Made k =

@@ -4,7 +4,7 @@ use Prim.Native.Nat.{ℕ}
 use Prim.Native.String.{String}
 use mathlib.Core.Path.{◌≡◌, refl}
 use mathlib.Core.List.{List, [], ◌∷◌, ◌++◌}
-use mathlib.Core.Option.{none, some}
+use Rattle.std.specs.Prelude.{None, Some}
 use Rattle.definitions.specs.Sheet.{Sheet, depot, asking}
 use Rattle.definitions.specs.RunList.{runs_from}
 use Rattle.definitions.specs.Refusals.{bad_sheet, out_of_range, pairs_fall, closures_differ, any_closed, refusals, refusal_of}
@@ -74,7 +74,7 @@ unbroken : (timed (rested 5 10 4) "run 1 2 rest 2 15\n" ≡ calls ++ text "run 1
 unfolding opened
 unbroken = (refl, refl)
 
-shut : timed (until 14 none) "run 2 1\n" ≡
+shut : timed (until 14 None) "run 2 1\n" ≡
     text "run 1 call 1 customer 2: arrive 12, serve 12, leave 12, seats 2, wheelchairs 0\n"
     ++ text "run 1 call 2 customer 1: arrive 17, serve 17, leave 17, seats 4, wheelchairs 0, window 0 to 14, late 3\nrun 1: home at 27, distance 27, lateness 0, pay 0\n"
     ++ text "run 1 customer 1: window shut at 14, ready at 17\n"
@@ -83,7 +83,7 @@ shut = refl
 
 limits : (timed (carrying 3) "run 1 2\n" ≡ calls ++ text "run 1 overloaded: 4 of 3 seats\n")
     × (timed (limited 26) "run 1 2\n" ≡ calls ++ text "run 1 too far: 27 of 26\n")
-    × (timed (Bench.sheet 4 Bench.legs none (some 26) none anyone) "run 1 2\n" ≡ calls ++ text "run 1 too long: 27 of 26\n")
+    × (timed (Bench.sheet 4 Bench.legs None (Some 26) None anyone) "run 1 2\n" ≡ calls ++ text "run 1 too long: 27 of 26\n")
 unfolding opened
 limits = (refl, refl, refl)
 
@@ -91,8 +91,8 @@ limits = (refl, refl, refl)
 abbrev one_bay : Sheet
 one_bay =
     record {
-      head = record { places = 3; capacity = record { seats = 4; wheelchairs = 1 }; fixed = 0; max_distance = none; max_duration = none; rest = none };
-      customers = depot ∷ asking (record { seats = 1; wheelchairs = 1 }) 0 none none ∷ asking (record { seats = 1; wheelchairs = 1 }) 0 none none ∷ [];
+      head = record { places = 3; capacity = record { seats = 4; wheelchairs = 1 }; fixed = 0; max_distance = None; max_duration = None; rest = None };
+      customers = depot ∷ asking (record { seats = 1; wheelchairs = 1 }) 0 None None ∷ asking (record { seats = 1; wheelchairs = 1 }) 0 None None ∷ [];
       legs = record { distances = Bench.legs; times = [] };
     }
 
@@ -104,7 +104,7 @@ unfolding opened
 wheelchairs = refl
 
 -- from 1 to 2 there is no road: of that run nothing else is told
-closed : timed (Bench.sheet 4 (0 ∷ 10 ∷ 12 ∷ 10 ∷ 0 ∷ no_road ∷ 12 ∷ 5 ∷ 0 ∷ []) none none none anyone) "run 1 2\n" ≡ text "run 1 leg 2: no road\n"
+closed : timed (Bench.sheet 4 (0 ∷ 10 ∷ 12 ∷ 10 ∷ 0 ∷ no_road ∷ 12 ∷ 5 ∷ 0 ∷ []) None None None anyone) "run 1 2\n" ≡ text "run 1 leg 2: no road\n"
 unfolding opened
 closed = refl
 

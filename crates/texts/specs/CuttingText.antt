@@ -1,8 +1,7 @@
 -- A cutting as text, in the listing's own form: a line for each run. Any bytes are read: as runs, or up to the first byte that may not
 -- stand where it stands. Definitions only.
-use Rattle.std.specs.Prelude.{ℕ, suc, ◌+◌, ◌-◌, ◌*◌, Bool, cond, ◌&&◌, ◌||◌, List, [], ◌∷◌, ◌++◌, length, leb, eqb}
+use Rattle.std.specs.Prelude.{ℕ, suc, ◌+◌, ◌-◌, ◌*◌, Bool, cond, ◌&&◌, ◌||◌, List, [], ◌∷◌, ◌++◌, length, leb, eqb, Option, None, Some, option_map}
 use Prim.Native.Char.{code}
-use Rattle.std.proofs.Math.Option.{Option, none, some, map}
 use Rattle.basics.specs.Options.{◌>>=◌, value_or, or_else, given}
 use Rattle.definitions.specs.Listing.{text, is_digit, end_of_line}
 
@@ -59,14 +58,14 @@ taken a_place n s = record { mode = before a_start; place = n; calls = s.calls; 
 taken a_start n s = to behind s
 
 abbrev pub blank : Mode → State → Option State
-blank fresh s = some s
-blank (spelling [] m) s = some (to m s)
-blank (spelling (l ∷ ls) m) s = none
-blank passing s = some s
-blank (before k) s = some s
-blank (within k n) s = some (taken k n s)
-blank between s = some s
-blank behind s = some s
+blank fresh s = Some s
+blank (spelling [] m) s = Some (to m s)
+blank (spelling (l ∷ ls) m) s = None
+blank passing s = Some s
+blank (before k) s = Some s
+blank (within k n) s = Some (taken k n s)
+blank between s = Some s
+blank behind s = Some s
 
 -- ---- the end of a line
 
@@ -75,13 +74,13 @@ run_ended s =
     record { mode = fresh; place = 0; calls = s.calls; ends = s.ends ++ length s.calls ∷ []; places = s.places ++ s.place ∷ [] }
 
 abbrev pub line_ended : Mode → State → Option State
-line_ended fresh s = some s
-line_ended (spelling ls m) s = none
-line_ended passing s = some (to fresh s)
-line_ended (before k) s = none
-line_ended (within k n) s = none
-line_ended between s = some (run_ended s)
-line_ended behind s = some (run_ended s)
+line_ended fresh s = Some s
+line_ended (spelling ls m) s = None
+line_ended passing s = Some (to fresh s)
+line_ended (before k) s = None
+line_ended (within k n) s = None
+line_ended between s = Some (run_ended s)
+line_ended behind s = Some (run_ended s)
 
 -- ---- any other byte
 
@@ -105,13 +104,13 @@ opening b =
 
 abbrev pub letter : Mode → ℕ → Option Mode
 letter fresh b = opening b
-letter (spelling [] m) b = none
+letter (spelling [] m) b = None
 letter (spelling (l ∷ ls) m) b = given (eqb b l) (spelling ls m)
-letter passing b = some passing
+letter passing b = Some passing
 letter (before k) b = digit k 0 b
 letter (within k n) b = digit k n b
 letter between b = or_else (digit a_customer 0 b) (given (eqb b (code "r")) (spelling (text "est") (before a_place)))
-letter behind b = none
+letter behind b = None
 
 -- ---- byte by byte
 
@@ -122,7 +121,7 @@ is_line_end b = eqb b (code "\n")
 unfoldable pub step : State → ℕ → Option State
 step s b =
     cond (is_line_end b) (blank s.mode s >>= λ t. line_ended t.mode t)
-    (cond (is_blank b) (blank s.mode s) (map (λ m. to m s) (letter s.mode b)))
+    (cond (is_blank b) (blank s.mode s) (option_map (λ m. to m s) (letter s.mode b)))
 
 -- what could have stood instead of a bad byte
 pub data Expected : Type 0 where
@@ -160,8 +159,8 @@ unfoldable pub walk : ℕ → ℕ → State → List ℕ → CuttingRead
 walk line column s [] = runs s.calls s.ends s.places
 walk line column s (b ∷ bs) =
     elim (step s b) [
-      | none ↦ bad_at line column (missing s b)
-      | some t ↦ walk (cond (is_line_end b) (suc line) line) (cond (is_line_end b) 1 (suc column)) t bs
+      | None ↦ bad_at line column (missing s b)
+      | Some t ↦ walk (cond (is_line_end b) (suc line) line) (cond (is_line_end b) 1 (suc column)) t bs
     ]
 
 -- the end of the text ends its last line

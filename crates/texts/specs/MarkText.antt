@@ -1,8 +1,7 @@
 -- What the program `mark` prints for the bytes of a sheet and of a cutting. Definitions only.
-use Rattle.std.specs.Prelude.{ℕ, ◌-◌, cond, List, [], ◌∷◌, ◌++◌, drop, eqb}
+use Rattle.std.specs.Prelude.{ℕ, ◌-◌, cond, List, [], ◌∷◌, ◌++◌, drop, eqb, Some}
 use Prim.Native.Char.{code}
 use Prim.Native.String.{String}
-use Rattle.std.proofs.Math.Option.{some}
 use Rattle.definitions.specs.Sheet.{Sheet}
 use Rattle.definitions.specs.RunList.{runs_of}
 use Rattle.definitions.specs.Cutting.{cutting_cost}
@@ -126,7 +125,7 @@ answer_text tour plan calls cost (gives v) = verdict_text tour plan calls cost v
 -- the mark is that by the clock, as the listing's plan is
 abbrev pub cutting_text : Sheet → (tour : List ℕ) → CuttingRead → List ℕ
 cutting_text s tour (runs calls ends places) =
-    answer_text tour (split_tw s tour) calls (runs_cost s calls ends places) (mark_of some (lent_runs s tour calls ends places))
+    answer_text tour (split_tw s tour) calls (runs_cost s calls ends places) (mark_of Some (lent_runs s tour calls ends places))
 cutting_text s tour (bad_at line column e) = bad_text line column e
 
 abbrev pub sheet_text : Reading → (cutting : List ℕ) → List ℕ

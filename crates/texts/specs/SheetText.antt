@@ -1,9 +1,8 @@
 -- A sheet as text that a person can write. The text is a spelling of the sheet's words: a name says which number comes behind it, and each
 -- number makes one word. Which words may stand, and what is wrong with one, is judged by the reader alone. Definitions only.
-use Rattle.std.specs.Prelude.{ℕ, zero, suc, ◌+◌, ◌-◌, ◌*◌, ◌/◌, ◌%◌, Bool, true, false, cond, ◌&&◌, not, List, [], ◌∷◌, ◌++◌, length, get_or, ltb, leb, eqb}
+use Rattle.std.specs.Prelude.{ℕ, zero, suc, ◌+◌, ◌-◌, ◌*◌, ◌/◌, ◌%◌, Bool, true, false, cond, ◌&&◌, not, List, [], ◌∷◌, ◌++◌, length, get_or, ltb, leb, eqb, Option, None, Some}
 use Prim.Native.Char.{code}
 use Prim.Native.String.{String}
-use Rattle.std.proofs.Math.Option.{Option, none, some}
 use Rattle.basics.specs.Options.{given}
 use Rattle.basics.specs.Lists.{is_empty, all}
 use Rattle.definitions.specs.Domain.{no_road, is_closed}
@@ -143,8 +142,8 @@ same_text (x ∷ xs) (y ∷ ys) = eqb x y && same_text xs ys
 
 -- what comes behind an opening word
 abbrev pub behind_in : List Record → List ℕ → Option (List Item)
-behind_in [] w = none
-behind_in (r ∷ rs) w = cond (same_text w r.opens) (some r.items) (behind_in rs w)
+behind_in [] w = None
+behind_in (r ∷ rs) w = cond (same_text w r.opens) (Some r.items) (behind_in rs w)
 
 -- a number with one more digit; what no word holds is one too many
 abbrev pub grown : ℕ → ℕ → ℕ
@@ -156,7 +155,7 @@ value_in n (d ∷ ds) = value_in (grown n d) ds
 
 -- the number that letters say, a dash that of a closed leg
 abbrev pub value_of : List ℕ → Option ℕ
-value_of [] = none
+value_of [] = None
 value_of (l ∷ ls) = cond (eqb l (code "-")) (given (is_empty ls) no_road) (given (all is_digit (l ∷ ls)) (value_in 0 (l ∷ ls)))
 
 -- ---- byte by byte
@@ -225,7 +224,7 @@ makes at k v is s =
 
 -- a word that opens a record
 abbrev pub opened : ℕ → List ℕ → Spelling → Step
-opened at l s = elim (behind_in records l) [ none ↦ bad at (misses s.awaited) | some is ↦ awaits is s ]
+opened at l s = elim (behind_in records l) [ None ↦ bad at (misses s.awaited) | Some is ↦ awaits is s ]
 
 abbrev pub of_table : ℕ → State → Bool
 of_table k s = eqb s.last.kind k
@@ -247,16 +246,16 @@ taken at l [] s = opened at l s
 taken at l (says w ∷ is) s = cond (same_text l w) (awaits is s) (bad at (misses s.awaited))
 taken at l (own ∷ is) s =
     elim (value_of l) [
-      | none ↦ bad at (misses s.awaited)
-      | some v ↦ cond (eqb v (own_number s.state)) (awaits is s) (bad at (misses s.awaited))
+      | None ↦ bad at (misses s.awaited)
+      | Some v ↦ cond (eqb v (own_number s.state)) (awaits is s) (bad at (misses s.awaited))
     ]
-taken at l (number k ∷ is) s = elim (value_of l) [ none ↦ bad at (misses s.awaited) | some v ↦ makes at k v is s ]
+taken at l (number k ∷ is) s = elim (value_of l) [ None ↦ bad at (misses s.awaited) | Some v ↦ makes at k v is s ]
 taken at l (rows k ∷ is) s =
     elim (value_of l) [
-      | none ↦ cond (full k s.state) (opened at l s) (bad at (misses s.awaited))
-      | some v ↦ of_row at k v s
+      | None ↦ cond (full k s.state) (opened at l s) (bad at (misses s.awaited))
+      | Some v ↦ of_row at k v s
     ]
-taken at l (numbers k ∷ is) s = elim (value_of l) [ none ↦ bad at (misses s.awaited) | some v ↦ makes at k v s.awaited s ]
+taken at l (numbers k ∷ is) s = elim (value_of l) [ None ↦ bad at (misses s.awaited) | Some v ↦ makes at k v s.awaited s ]
 
 -- a word or number that stands right before this place has ended; there may be none
 abbrev pub ended : ℕ → Spelling → Step
@@ -309,15 +308,15 @@ in_tour (numbers k ∷ is) = true
 abbrev pub finished : ℕ → Spelling → Spelled
 finished at s =
     cond (in_tour s.awaited)
-    (record { made = s.made ++ word 0xF (length s.made) ∷ []; spots = s.spots; end = at; wrong = none })
-    (record { made = s.made; spots = s.spots; end = at; wrong = some unfinished })
+    (record { made = s.made ++ word 0xF (length s.made) ∷ []; spots = s.spots; end = at; wrong = None })
+    (record { made = s.made; spots = s.spots; end = at; wrong = Some unfinished })
 
 unfoldable pub spell : ℕ → Spelling → List ℕ → Spelled
 spell at s [] = finished at s
 spell at s (b ∷ bs) =
     elim (step at s b) [
       | on t ↦ spell (suc at) t bs
-      | bad end x ↦ record { made = s.made; spots = s.spots; end = end; wrong = some x }
+      | bad end x ↦ record { made = s.made; spots = s.spots; end = end; wrong = Some x }
     ]
 
 -- line and column, from 1, of a place in the text
@@ -338,7 +337,7 @@ pub data Written : Type 0 where
 
 -- what is wrong first: a word that the reader refuses among those made before the spelling went wrong, or else that
 abbrev pub first_wrong : Spelled → ℕ → ℕ → Wrong
-first_wrong r n i = elim r.wrong [ none ↦ refused_by n | some x ↦ cond (ltb i (length r.spots)) (refused_by n) x ]
+first_wrong r n i = elim r.wrong [ None ↦ refused_by n | Some x ↦ cond (ltb i (length r.spots)) (refused_by n) x ]
 
 abbrev pub judged : List ℕ → Spelled → Outcome → Written
 judged bytes r accepted = written r.made

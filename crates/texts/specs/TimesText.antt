@@ -1,7 +1,5 @@
 -- What the program `timetable` prints for the bytes of a sheet and of a cutting: the timeline of each run. Definitions only.
-use Rattle.std.specs.Prelude.{ℕ, suc, ◌+◌, ◌-◌, cond, List, [], ◌∷◌, ◌++◌, map, leb}
-use Rattle.std.proofs.Math.Option
-use Rattle.std.proofs.Math.Option.{Option, none, some}
+use Rattle.std.specs.Prelude.{ℕ, suc, ◌+◌, ◌-◌, cond, List, [], ◌∷◌, ◌++◌, map, leb, Option, None, Some, option_map}
 use Rattle.basics.specs.Lists.{is_empty}
 use Rattle.basics.specs.Options.{◌>>=◌}
 use Rattle.definitions.specs.Load.{Load}
@@ -40,8 +38,8 @@ pub record Told : Type 0 where
   pub window : Option Window
 
 abbrev pub rest_words : Option Pause → List ℕ
-rest_words none = []
-rest_words (some p) = figure " break" p.from ++ figure " to" p.until ++ text ","
+rest_words None = []
+rest_words (Some p) = figure " break" p.from ++ figure " to" p.until ++ text ","
 
 -- how long before due the service starts, or how long after it
 abbrev pub slack_words : Window → ℕ → List ℕ
@@ -49,8 +47,8 @@ slack_words w begin = cond (leb begin w.due) (figure ", slack" (w.due - begin)) 
 
 -- the window, and the end of the line
 abbrev pub window_words : Option Window → ℕ → List ℕ
-window_words none begin = end_of_line
-window_words (some w) begin = figure ", window" w.ready ++ figure " to" w.due ++ slack_words w begin ++ end_of_line
+window_words None begin = end_of_line
+window_words (Some w) begin = figure ", window" w.ready ++ figure " to" w.due ++ slack_words w begin ++ end_of_line
 
 -- call number k of run n
 unfoldable pub stop_line : (n k : ℕ) → Told → List ℕ
@@ -104,7 +102,7 @@ run_lines n stops totals violations =
 
 -- the sheet's break, that starts then
 abbrev pub pause_of : Option Break → Option ℕ → Option Pause
-pause_of rest start = rest >>= λ b. Option.map (λ t. record { from = t; until = t + b.duration }) start
+pause_of rest start = rest >>= λ b. option_map (λ t. record { from = t; until = t + b.duration }) start
 
 abbrev pub told_of : Sheet → Stop → Told
 told_of s x =
@@ -136,7 +134,7 @@ times_answer (gives lines) = lines
 abbrev pub runs_times : Sheet → (tour : List ℕ) → CuttingRead → List ℕ
 runs_times s tour (runs calls ends places) =
     times_answer
-    (unless_refused (refusal_of some marking (lent_runs s tour calls ends places)) (timelines_text s 1 (with_places (runs_of calls ends) places)))
+    (unless_refused (refusal_of Some marking (lent_runs s tour calls ends places)) (timelines_text s 1 (with_places (runs_of calls ends) places)))
 runs_times s tour (bad_at line column e) = bad_text line column e
 
 abbrev pub sheet_times : Reading → (cutting : List ℕ) → List ℕ

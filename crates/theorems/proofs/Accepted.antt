@@ -5,8 +5,7 @@ use mathlib.Core.Logic.{◌↔◌}
 use mathlib.Core.Path.{◌≡◌, refl, sym, ap, ◌∙◌}
 use mathlib.Core.Bool.{Bool, true, false, ◌&&◌, ◌||◌, not, true≢false, false≢true}
 use mathlib.Core.List.{List, [], ◌∷◌, map}
-use mathlib.Core.Option
-use mathlib.Core.Option.{Option, none, some}
+use Rattle.std.specs.Prelude.{Option, None, Some, option_map}
 use lib.ListN.{length, length-map}
 use lib.Seq.{take_all, length-take-le}
 use lib.Dec.{eqb, ltb}
@@ -58,9 +57,9 @@ module _ {A B : Type 0} (g : A → B) where
   any_same p q h [] = refl
   any_same p q h (x ∷ l) = λ i. h x i || any_same p q h l i
 
-  pub present-same : (o : Option A) → present (Option.map g o) ≡ present o
-  present-same none = refl
-  present-same (some x) = refl
+  pub present-same : (o : Option A) → present (option_map g o) ≡ present o
+  present-same None = refl
+  present-same (Some x) = refl
 
   empty-same : (l : List A) → is_empty (map g l) ≡ is_empty l
   empty-same [] = refl
@@ -70,37 +69,37 @@ module _ {F : Type 0} (value : F → Option ℕ) where
   -- ---- what is fit means what is fit
 
   -- a number that is fit is held, and passes the test
-  pub held : (p : ℕ → Bool) (x : F) → unfit value p x ≡ false → (value x ≡ some (whole value x)) × (p (whole value x) ≡ true)
+  pub held : (p : ℕ → Bool) (x : F) → unfit value p x ≡ false → (value x ≡ Some (whole value x)) × (p (whole value x) ≡ true)
   held p x h = go (value x) (not-false (holds (value x) p) h)
     where
-      go : (o : Option ℕ) → holds o p ≡ true → (o ≡ some (value_or 0 o)) × (p (value_or 0 o) ≡ true)
-      go none e = absurd (false≢true e)
-      go (some n) e = (refl, e)
+      go : (o : Option ℕ) → holds o p ≡ true → (o ≡ Some (value_or 0 o)) × (p (value_or 0 o) ≡ true)
+      go None e = absurd (false≢true e)
+      go (Some n) e = (refl, e)
 
-  fit : (p : ℕ → Bool) (x : F) → unfit value p x ≡ false → unfit some p (whole value x) ≡ false
+  fit : (p : ℕ → Bool) (x : F) → unfit value p x ≡ false → unfit Some p (whole value x) ≡ false
   fit p x h = not-of-true (p (whole value x)) (held p x h).1
 
-  fit-limit : (p : ℕ → Bool) (o : Option F) → bad_optional value p o ≡ false → bad_optional some p (Option.map (whole value) o) ≡ false
-  fit-limit p none h = refl
-  fit-limit p (some x) h = fit p x h
+  fit-limit : (p : ℕ → Bool) (o : Option F) → bad_optional value p o ≡ false → bad_optional Some p (option_map (whole value) o) ≡ false
+  fit-limit p None h = refl
+  fit-limit p (Some x) h = fit p x h
 
-  fit-break : (b : Option (BreakOf F)) → bad_break value b ≡ false → bad_break some (Option.map (map_break (whole value)) b) ≡ false
-  fit-break none h = refl
-  fit-break (some b) h =
+  fit-break : (b : Option (BreakOf F)) → bad_break value b ≡ false → bad_break Some (option_map (map_break (whole value)) b) ≡ false
+  fit-break None h = refl
+  fit-break (Some b) h =
       let R = break-in-range value b h in
-      range-break some (map_break (whole value) b)
+      range-break Some (map_break (whole value) b)
       (record { earliest = fit is_number b.earliest R.earliest; latest = fit is_number b.latest R.latest; duration = fit is_number b.duration R.duration })
 
-  fit-window : (w : Option (WindowOf F)) → bad_window value w ≡ false → bad_window some (Option.map (map_window (whole value)) w) ≡ false
-  fit-window none h = refl
-  fit-window (some w) h =
+  fit-window : (w : Option (WindowOf F)) → bad_window value w ≡ false → bad_window Some (option_map (map_window (whole value)) w) ≡ false
+  fit-window None h = refl
+  fit-window (Some w) h =
       let R = window-in-range value w h in
-      range-window some (map_window (whole value) w) (record { ready = fit is_number w.ready R.ready; due = fit is_number w.due R.due })
+      range-window Some (map_window (whole value) w) (record { ready = fit is_number w.ready R.ready; due = fit is_number w.due R.due })
 
-  fit-customer : (c : CustomerOf F) → bad_customer value c ≡ false → bad_customer some (map_customer (whole value) c) ≡ false
+  fit-customer : (c : CustomerOf F) → bad_customer value c ≡ false → bad_customer Some (map_customer (whole value) c) ≡ false
   fit-customer c h =
       let R = customer-in-range value c h in
-      range-customer some (map_customer (whole value) c)
+      range-customer Some (map_customer (whole value) c)
       (record {
         demand = R.demand;
         service = fit is_number c.service R.service;
@@ -108,11 +107,11 @@ module _ {F : Type 0} (value : F → Option ℕ) where
         penalty = fit-limit is_penalty c.penalty R.penalty;
       })
 
-  fit-depot : (cs : List (CustomerOf F)) → bad_depot value cs ≡ false → bad_depot some (map (map_customer (whole value)) cs) ≡ false
+  fit-depot : (cs : List (CustomerOf F)) → bad_depot value cs ≡ false → bad_depot Some (map (map_customer (whole value)) cs) ≡ false
   fit-depot [] h = refl
   fit-depot (c ∷ cs) h =
       let R = depot-in-range value c cs h in
-      range-depot some (map_customer (whole value) c) (map (map_customer (whole value)) cs)
+      range-depot Some (map_customer (whole value) c) (map (map_customer (whole value)) cs)
       (record {
         demand = R.demand;
         service = fit (λ (n : ℕ). eqb n 0) c.service R.service;
@@ -120,29 +119,29 @@ module _ {F : Type 0} (value : F → Option ℕ) where
         penalty = present-same (whole value) c.penalty ∙ R.penalty;
       })
 
-  window_same : (w : Option (WindowOf F)) → window_falls some (Option.map (map_window (whole value)) w) ≡ window_falls value w
-  window_same none = refl
-  window_same (some w) = refl
+  window_same : (w : Option (WindowOf F)) → window_falls Some (option_map (map_window (whole value)) w) ≡ window_falls value w
+  window_same None = refl
+  window_same (Some w) = refl
 
-  break-same : (b : Option (BreakOf F)) → break_falls some (Option.map (map_break (whole value)) b) ≡ break_falls value b
-  break-same none = refl
-  break-same (some b) = refl
+  break-same : (b : Option (BreakOf F)) → break_falls Some (option_map (map_break (whole value)) b) ≡ break_falls value b
+  break-same None = refl
+  break-same (Some b) = refl
 
   soft-same : (c : CustomerOf F) → soft (map_customer (whole value) c) ≡ soft c
   soft-same c = λ i. present-same (map_window (whole value)) c.window i && present-same (whole value) c.penalty i
 
   -- ---- closed legs
 
-  disagree-same : (ds ts : List F) → disagree some (map (whole value) ds) (map (whole value) ts) ≡ disagree value ds ts
+  disagree-same : (ds ts : List F) → disagree Some (map (whole value) ds) (map (whole value) ts) ≡ disagree value ds ts
   disagree-same [] ts = refl
   disagree-same (d ∷ ds) [] = refl
   disagree-same (d ∷ ds) (t ∷ ts) = ap (λ (b : Bool). closed_apart (whole value d) (whole value t) || b) (disagree-same ds ts)
 
-  closures-same : (l : LegsOf F) → closures_differ some (map_legs (whole value) l) ≡ closures_differ value l
+  closures-same : (l : LegsOf F) → closures_differ Some (map_legs (whole value) l) ≡ closures_differ value l
   unfolding closures_differ
   closures-same l = disagree-same l.distances l.times
 
-  pub closed_same : (l : LegsOf F) → any_closed some (map_legs (whole value) l) ≡ any_closed value l
+  pub closed_same : (l : LegsOf F) → any_closed Some (map_legs (whole value) l) ≡ any_closed value l
   unfolding any_closed
   closed_same l = any_same (whole value) (λ (x : F). is_closed (whole value x)) is_closed (λ x. refl) l.distances
 
@@ -157,7 +156,7 @@ module _ {F : Type 0} (value : F → Option ℕ) where
     unfolding whole_sheet
     all-records = take_all s.head.places (map (map_customer (whole value)) (records s)) (omega (arith, counted))
 
-    whole_in_range : InRange value s → InRange some (whole_sheet value s)
+    whole_in_range : InRange value s → InRange Some (whole_sheet value s)
     unfolding whole_sheet
     whole_in_range R =
         record {
@@ -168,18 +167,18 @@ module _ {F : Type 0} (value : F → Option ℕ) where
           max_duration = fit-limit is_number s.head.max_duration R.max_duration;
           rest = fit-break s.head.rest R.rest;
           depot = rw all-records (fit-depot (records s) R.depot);
-          customers = rw all-records (any-imp (map_customer (whole value)) (bad_customer value) (bad_customer some) fit-customer (records s) R.customers);
-          distances = any-imp (whole value) (unfit value is_leg) (unfit some is_leg) (fit is_leg) s.legs.distances R.distances;
-          times = any-imp (whole value) (unfit value is_leg) (unfit some is_leg) (fit is_leg) s.legs.times R.times;
+          customers = rw all-records (any-imp (map_customer (whole value)) (bad_customer value) (bad_customer Some) fit-customer (records s) R.customers);
+          distances = any-imp (whole value) (unfit value is_leg) (unfit Some is_leg) (fit is_leg) s.legs.distances R.distances;
+          times = any-imp (whole value) (unfit value is_leg) (unfit Some is_leg) (fit is_leg) s.legs.times R.times;
         }
 
-    whole-rises : PairsRise value s → PairsRise some (whole_sheet value s)
+    whole-rises : PairsRise value s → PairsRise Some (whole_sheet value s)
     unfolding whole_sheet
     whole-rises P =
         record {
           rest = break-same s.head.rest ∙ P.rest;
           windows =
-              rw all-records (any_same (map_customer (whole value)) (λ (c : CustomerOf F). window_falls value c.window) (λ (c : Customer). window_falls some c.window) (λ c. window_same c.window)
+              rw all-records (any_same (map_customer (whole value)) (λ (c : CustomerOf F). window_falls value c.window) (λ (c : Customer). window_falls Some c.window) (λ c. window_same c.window)
               (records s) ∙ P.windows);
         }
 
@@ -190,8 +189,8 @@ module _ {F : Type 0} (value : F → Option ℕ) where
         record {
           counted = counted;
           tables = rw (length-map s.legs.distances (whole value), length-map s.legs.times (whole value), empty-same (whole value) s.legs.times) t;
-          ranged = range-in some (whole_sheet value s) (whole_in_range (in-range value s r));
-          paired = rise-pairs some (whole_sheet value s) (whole-rises (pairs-rise value s p));
+          ranged = range-in Some (whole_sheet value s) (whole_in_range (in-range value s r));
+          paired = rise-pairs Some (whole_sheet value s) (whole-rises (pairs-rise value s p));
           closed-alike = closures-same s.legs ∙ c;
         }
 
@@ -219,9 +218,9 @@ module _ {F : Type 0} (value : F → Option ℕ) where
     -- 4
     pub unpaid : k.improves ≡ true → lateness_pay (whole_sheet value l.sheet) ≡ false
     -- 23
-    pub drivable : k.improves ≡ true → any_closed some (whole_sheet value l.sheet).legs ≡ false
+    pub drivable : k.improves ≡ true → any_closed Some (whole_sheet value l.sheet).legs ≡ false
 
-  pub accepted-within : (k : Call) (l : Lent F) → refusal_of value k l ≡ none → Accepted k l
+  pub accepted-within : (k : Call) (l : Lent F) → refusal_of value k l ≡ None → Accepted k l
   unfolding whole_sheet refusals
   accepted-within k l h =
       record {
@@ -277,17 +276,17 @@ module _ {F : Type 0} (value : F → Option ℕ) where
     not-falling : pairs_fall value l.sheet ≡ false
     unfolding whole_sheet
     not-falling =
-        let P = pairs-rise some (whole_sheet value l.sheet) A.within.paired in
+        let P = pairs-rise Some (whole_sheet value l.sheet) A.within.paired in
         rise-pairs value l.sheet
         (record {
           rest = sym (break-same l.sheet.head.rest) ∙ P.rest;
           windows =
-              sym (any_same (map_customer (whole value)) (λ (c : CustomerOf F). window_falls value c.window) (λ (c : Customer). window_falls some c.window) (λ c. window_same c.window)
+              sym (any_same (map_customer (whole value)) (λ (c : CustomerOf F). window_falls value c.window) (λ (c : Customer). window_falls Some c.window) (λ c. window_same c.window)
               (records l.sheet))
               ∙ (rw (all-records l.sheet A.customers) at P.windows);
         })
 
-    pub accepted-none : refusal_of value k l ≡ none
+    pub accepted-none : refusal_of value k l ≡ None
     unfolding whole_sheet refusal_of refusals
     accepted-none =
         fits-none (refusals value k l)
@@ -303,5 +302,5 @@ module _ {F : Type 0} (value : F → Option ℕ) where
         also tt)
 
   -- accepted is all else
-  pub accepted-exactly : (k : Call) (l : Lent F) → (refusal_of value k l ≡ none) ↔ Accepted k l
+  pub accepted-exactly : (k : Call) (l : Lent F) → (refusal_of value k l ≡ None) ↔ Accepted k l
   accepted-exactly k l = (accepted-within k l, accepted-none k l)

@@ -3,7 +3,7 @@ use Prim.Native.Nat.{ℕ}
 use mathlib.Core.Path.{◌≡◌, refl, sym, ap, ◌∙◌, fun_ext}
 use mathlib.Core.Bool.{Bool, true, false, not, ◌&&◌}
 use mathlib.Core.List.{List}
-use mathlib.Core.Option.{Option, none, some}
+use Rattle.std.specs.Prelude.{Option, None, Some}
 use Rattle.basics.specs.Options.{◌>>=◌, given}
 use Rattle.basics.specs.Lists.{is_empty}
 use Rattle.definitions.specs.Sheet.{Sheet}
@@ -28,8 +28,8 @@ module _ (s : Sheet) (P : Plain s) where
       same-price true d t a e p q = rw (a, e, p, q) refl
 
       go : (o : Option ℕ) → distance_from s 0 calls ≡ o → arc s calls ≡ plain_arc s calls
-      go none e = ap priced (clock-closed s calls e) ∙ sym (ap (λ (o : Option ℕ). o >>= λ d. given {A = Arc} (not (is_empty calls) && fits s calls) (record { place = 0; cost = price s d 0 })) e)
-      go (some d) e =
+      go None e = ap priced (clock-closed s calls e) ∙ sym (ap (λ (o : Option ℕ). o >>= λ d. given {A = Arc} (not (is_empty calls) && fits s calls) (record { place = 0; cost = price s d 0 })) e)
+      go (Some d) e =
           let (t, c, a, f, p, q) = plain-clock s P calls d e in
           ap priced c ∙ same-price (not (is_empty calls) && fits s calls) d t a f p q
           ∙ sym (ap (λ (o : Option ℕ). o >>= λ d. given {A = Arc} (not (is_empty calls) && fits s calls) (record { place = 0; cost = price s d 0 })) e)

@@ -3,7 +3,7 @@ use Prim.Native.Nat.{ℕ, zero, suc, ◌+◌}
 use mathlib.Core.Path.{◌≡◌, refl, sym, ap, ap₂, subst, ◌∙◌, fun_ext}
 use mathlib.Core.Bool.{Bool, false, not, ◌&&◌}
 use mathlib.Core.List.{List, [], ◌∷◌, map}
-use mathlib.Core.Option.{Option, some}
+use Rattle.std.specs.Prelude.{Option, Some}
 use lib.ListN.{get_or}
 use Rattle.basics.specs.Options.{◌>>=◌, present, value_or, given}
 use Rattle.basics.specs.Lists.{any, is_empty, sum}
@@ -45,7 +45,7 @@ module _ (s : Sheet) where
   same-distance : (a : ℕ) (calls : List ℕ) → distance_from (bare s) a calls ≡ distance_from s a calls
   unfolding bare drive
   same-distance a [] = refl
-  same-distance a (c ∷ cs) = ap (λ (o : Option ℕ). drive s a c >>= λ l. o >>= λ d. some (l.length + d)) (same-distance c cs)
+  same-distance a (c ∷ cs) = ap (λ (o : Option ℕ). drive s a c >>= λ l. o >>= λ d. Some (l.length + d)) (same-distance c cs)
 
   same-arc : plain_arc (bare s) ≡ plain_arc s
   unfolding plain_arc bare

@@ -5,7 +5,7 @@ use mathlib.Core.Logic.{◌↔◌}
 use mathlib.Core.Path.{◌≡◌, refl, sym, ap, ap₂, subst, ◌∙◌}
 use mathlib.Core.Bool.{true, false}
 use mathlib.Core.List.{List}
-use mathlib.Core.Option.{Option, none, some}
+use Rattle.std.specs.Prelude.{Option, None, Some}
 use lib.ListN.{length}
 use borrow.Author.Tests.{eqb-true}
 use Rattle.basics.proofs.OptionLaws.{clash}
@@ -23,17 +23,17 @@ use Rattle.theorems.proofs.Promised.{split-plan, promised-by}
 
 module _ (s : Sheet) where
   -- a run is legal with some break place exactly when it is with the placement's
-  pub some-place : (p : Placement) (calls : List ℕ) → ((place : ℕ) × (legal s (record { calls = calls; place = place }) ≡ true)) ↔ ((a : Arc) × (arc_by p s calls ≡ some a))
+  pub some-place : (p : Placement) (calls : List ℕ) → ((place : ℕ) × (legal s (record { calls = calls; place = place }) ≡ true)) ↔ ((a : Arc) × (arc_by p s calls ≡ Some a))
   some-place p calls = (λ x. has-arc s p (record { calls = calls; place = x.0 }) x.1, λ y. (y.0.place, ((pricing s p).sound calls y.0 y.1).0))
 
   -- without lateness pay a run costs the same by either
-  pub free-arcs : lateness_pay s ≡ false → (p q : Placement) (calls : List ℕ) (a b : Arc) → arc_by p s calls ≡ some a → arc_by q s calls ≡ some b → a.cost ≡ b.cost
+  pub free-arcs : lateness_pay s ≡ false → (p q : Placement) (calls : List ℕ) (a b : Arc) → arc_by p s calls ≡ Some a → arc_by q s calls ≡ Some b → a.cost ≡ b.cost
   free-arcs z p q calls a b e f =
       let x = (pricing s p).sound calls a e in
       sym x.1 ∙ free-cost s q z (record { calls = calls; place = a.place }) x.0 b f
 
   -- on a sheet without a break both price every run alike
-  module _ (unbroken : s.head.rest ≡ none) where
+  module _ (unbroken : s.head.rest ≡ None) where
     no_place : (r : Run) → legal s r ≡ true → r.place ≡ 0
     unfolding placed
     no_place r h =
@@ -44,14 +44,14 @@ module _ (s : Sheet) where
     unbroken-arcs p q calls = go (arc_by p s calls) (arc_by q s calls) refl refl
       where
         go : (x y : Option Arc) → arc_by p s calls ≡ x → arc_by q s calls ≡ y → x ≡ y
-        go none none e f = refl
-        go none (some b) e f = clash (sym e ∙ (has-arc s p (record { calls = calls; place = b.place }) ((pricing s q).sound calls b f).0).1)
-        go (some a) none e f = clash (sym f ∙ (has-arc s q (record { calls = calls; place = a.place }) ((pricing s p).sound calls a e).0).1)
-        go (some a) (some b) e f =
+        go None None e f = refl
+        go None (Some b) e f = clash (sym e ∙ (has-arc s p (record { calls = calls; place = b.place }) ((pricing s q).sound calls b f).0).1)
+        go (Some a) None e f = clash (sym f ∙ (has-arc s q (record { calls = calls; place = a.place }) ((pricing s p).sound calls a e).0).1)
+        go (Some a) (Some b) e f =
             let (l, c) = (pricing s p).sound calls a e in
             let (m, d) = (pricing s q).sound calls b f in
             let z : a.place ≡ b.place = no_place (record { calls = calls; place = a.place }) l ∙ sym (no_place (record { calls = calls; place = b.place }) m) in
-            ap₂ (λ (n k : ℕ). some (record { place = n; cost = k })) z (sym c ∙ ap (λ (n : ℕ). run_cost s (record { calls = calls; place = n })) z ∙ d)
+            ap₂ (λ (n k : ℕ). Some (record { place = n; cost = k })) z (sym c ∙ ap (λ (n : ℕ). run_cost s (record { calls = calls; place = n })) z ∙ d)
 
   module _ (tour : List ℕ) where
     -- the drops are those of the clock's cutting, and so are the calls that are served

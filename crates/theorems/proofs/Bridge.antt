@@ -6,7 +6,7 @@ use native.Mathlib.Numerals.{add-one}
 use mathlib.Core.Path.{◌≡◌, refl, sym, ap, ◌∙◌}
 use mathlib.Core.Bool.{cond, and-false}
 use mathlib.Core.List.{List, [], ◌∷◌, ◌++◌, map, append-nil, append_assoc}
-use mathlib.Core.Option.{Option, none, some}
+use Rattle.std.specs.Prelude.{Option, None, Some}
 use lib.ListN.{length, take, drop, get_or, length-append}
 use lib.Seq.{take-suc, take-take, take-length, take-append_seam, drop-append_seam, length-take-le}
 use Rattle.basics.specs.Options.{present}
@@ -21,8 +21,8 @@ use Rattle.theorems.proofs.Recurrence.{best_none, best-snoc, tails, points-are}
 
 -- b, and then a run of the calls since, where that has an arc
 abbrev pub and_run : Best → List ℕ → Option Arc → Best
-and_run b since none = b
-and_run b since (some a) = record { cost = b.cost + a.cost; runs = b.runs ++ (record { calls = since; place = a.place } ∷ []) }
+and_run b since None = b
+and_run b since (Some a) = record { cost = b.cost + a.cost; runs = b.runs ++ (record { calls = since; place = a.place } ∷ []) }
 
 module _ (arc : List ℕ → Option Arc) (held : List ℕ) where
   -- a run from i to j is the calls between
@@ -38,17 +38,17 @@ module _ (arc : List ℕ → Option Arc) (held : List ℕ) where
   -- ---- its steps are those of the cut points
 
   step_is : (b : Option Best) (i j : ℕ) → rule.step b i j ≡ close arc (record { best = b; since = stretch i j })
-  step_is none i j = rw (and-false (present (arc (stretch i j)))) refl
-  step_is (some b) i j = go (arc (stretch i j)) refl
+  step_is None i j = rw (and-false (present (arc (stretch i j)))) refl
+  step_is (Some b) i j = go (arc (stretch i j)) refl
     where
-      go : (o : Option Arc) → arc (stretch i j) ≡ o → rule.step (some b) i j ≡ close arc (record { best = some b; since = stretch i j })
-      go none e = rw e refl
-      go (some a) e = rw e refl
+      go : (o : Option Arc) → arc (stretch i j) ≡ o → rule.step (Some b) i j ≡ close arc (record { best = Some b; since = stretch i j })
+      go None e = rw e refl
+      go (Some a) e = rw e refl
 
   better-is : (a b : Option Best) → cond (rule.lower a b) a b ≡ better a b
-  better-is none b = refl
-  better-is (some a) none = refl
-  better-is (some a) (some b) = refl
+  better-is None b = refl
+  better-is (Some a) None = refl
+  better-is (Some a) (Some b) = refl
 
   cand-is : (j : ℕ) (before since : List ℕ) → before ++ since ≡ take j held → C.best rule (length before) ≡ cheapest arc before
       → C.cand rule (length before) j ≡ close arc (record { best = cheapest arc before; since = since })
@@ -95,7 +95,7 @@ module _ (arc : List ℕ → Option Arc) (held : List ℕ) where
   upto (suc n) (suc j) h b =
       B.best-scan rule j
       ∙ sym (scan-tails j b (λ pre rest e. before pre rest e (λ k p q. upto n k p q)) [] (take j held) refl)
-      ∙ ap (λ (ps : List Point). least arc none (map (longer (get_or held j 0)) ps)) (sym (points-are arc (take j held)))
+      ∙ ap (λ (ps : List Point). least arc None (map (longer (get_or held j 0)) ps)) (sym (points-are arc (take j held)))
       ∙ sym (best-snoc arc (take j held) (get_or held j 0))
       ∙ ap (λ (l : List ℕ). cheapest arc l) (sym (take-suc held j 0 b))
     where

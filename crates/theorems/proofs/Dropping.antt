@@ -5,7 +5,7 @@ use native.Mathlib.Nat.{le_refl, not-suc-le-zero}
 use mathlib.Core.Path.{◌≡◌, refl, sym, ap, subst, ◌∙◌}
 use mathlib.Core.Logic.{◌⊎◌, inl, inr, ⊎_elim}
 use mathlib.Core.List.{List, [], ◌∷◌, ◌++◌, map, append-nil, append_assoc}
-use mathlib.Core.Option.{Option, none}
+use Rattle.std.specs.Prelude.{Option, None}
 use lib.ListN.{length, take, drop, get_or, length-append, length-map}
 use lib.Dec.{ltb}
 use borrow.Author.Tests.{ltb-true, ltb-false}
@@ -21,7 +21,7 @@ use Rattle.theorems.proofs.Shortest.{Cuttable, Stuck, never, at_call, stuck-is}
 -- ---- the process, step by step
 
 module _ (arc : List ℕ → Option Arc) (tour : List ℕ) where
-  module _ (empty : arc [] ≡ none) where
+  module _ (empty : arc [] ≡ None) where
     settles-in : (turns : ℕ) (h : Held) → length h.held ≤ turns → Settles (Cuttable arc) tour h (drop_from arc tour turns h)
     unfolding drop_from
     settles-in zero h l = stop (λ i b. (0, nothing_left i))
@@ -129,7 +129,7 @@ module _ (arc : List ℕ → Option Arc) (tour : List ℕ) where
       (onward all h k F (take j F.post) (get_or F.post j 0) (drop (suc j) F.post) (lib.Seq.split_at F.post j 0 lj) (length-append F.pre (take j F.post) ∙ lk) a)
 
   -- the positions of the tour, each served or dropped
-  pub drops-parts : arc [] ≡ none → Parts (count 1 (length tour)) (drops arc tour).held (drops arc tour).dropped
+  pub drops-parts : arc [] ≡ None → Parts (count 1 (length tour)) (drops arc tour).held (drops arc tour).dropped
   drops-parts empty =
       settles-parts (count 1 (length tour)) (settles arc tour empty)
       (record { pre = []; post = count 1 (length tour); seen = []; held-is = refl; all-is = refl; parts = ended; fine = λ i b. (0, Rattle.theorems.proofs.Least.start (none_of i b) refl) })

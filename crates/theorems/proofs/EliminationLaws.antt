@@ -4,8 +4,7 @@ use native.Mathlib.Omega.{arith}
 use mathlib.Core.Path.{◌≡◌, refl, ap, subst, ◌∙◌}
 use mathlib.Core.Bool.{true}
 use mathlib.Core.List.{List, [], ◌∷◌, map}
-use mathlib.Core.Option
-use mathlib.Core.Option.{Option, none, some}
+use Rattle.std.specs.Prelude.{Option, None, Some, option_map}
 use lib.ListN.{length}
 use lib.Dec.{ltb}
 use borrow.Author.Tests.{ltb-true, le-ltb}
@@ -35,8 +34,8 @@ calls-some [] c = absurd c
 calls-some (x ∷ xs) c = omega arith
 
 holds-imp : {A : Type 0} (P Q : A → Type 0) → ((x : A) → P x → Q x) → (o : Option A) → Holds P o → Holds Q o
-holds-imp P Q h none a = tt
-holds-imp P Q h (some x) a = h x a
+holds-imp P Q h None a = tt
+holds-imp P Q h (Some x) a = h x a
 
 -- ---- a customer put into a run
 
@@ -125,7 +124,7 @@ module _ (G : Given) where
       (λ n. rw n (first-well bound c old ps a.1))
 
   -- in rising order nothing is found from the first on that reaches the bound
-  pub first_stops : (bound : ℕ) (ps : List Put) → All (λ (p : Put). bound ≤ total G p.runs) ps → first_below G bound ps ≡ none
+  pub first_stops : (bound : ℕ) (ps : List Put) → All (λ (p : Put). bound ≤ total G p.runs) ps → first_below G bound ps ≡ None
   unfolding first_below
   first_stops bound [] a = refl
   first_stops bound (p ∷ ps) a = rw (le-ltb (total G p.runs) bound a.0) (first_stops bound ps a.1)
@@ -159,8 +158,8 @@ module _ (G : Given) where
       go : ((mid : List (List ℕ)) → Holds (λ (new : List (List ℕ)). Takes cs mid new × (total G mid < bound → total G new < bound)) (placed_all G bound cs mid))
           → (o : Option (List (List ℕ))) → Holds (λ (new : List (List ℕ)). Takes (c ∷ []) old new × (total G new < bound)) o
           → Holds (λ (new : List (List ℕ)). Takes (c ∷ cs) old new × (total G old < bound → total G new < bound)) (o >>= placed_all G bound cs)
-      go ih none a = tt
-      go ih (some mid) a =
+      go ih None a = tt
+      go ih (Some mid) a =
           holds-imp (λ (new : List (List ℕ)). Takes cs mid new × (total G mid < bound → total G new < bound))
           (λ (new : List (List ℕ)). Takes (c ∷ cs) old new × (total G old < bound → total G new < bound))
           (λ new b. (takes-more a.0 b.0, λ h. b.1 a.1))
@@ -176,8 +175,8 @@ module _ (G : Given) where
     where
       go : (o : Option (List (List ℕ))) → Holds (λ (new : List (List ℕ)). Takes (c ∷ []) old new × (total G new < bound)) o
           → Holds (λ (new : List (List ℕ)). total G new < bound) (o >>= placed_all G bound cs)
-      go none a = tt
-      go (some mid) a =
+      go None a = tt
+      go (Some mid) a =
           holds-imp (λ (new : List (List ℕ)). Takes cs mid new × (total G mid < bound → total G new < bound)) (λ (new : List (List ℕ)). total G new < bound)
           (λ new b. b.1 a.1) (placed_all G bound cs mid) (all-well bound cs mid)
 
@@ -229,8 +228,8 @@ module _ (G : Given) where
 
       go : (o : Option (List (List ℕ))) → Holds (λ (new : List (List ℕ)). Takes moving p.rest new × (total G p.rest < bound → total G new < bound)) o
           → (0 < length moving → Holds (λ (new : List (List ℕ)). total G new < bound) o) → Holds (Fewer all) o
-      go none a b = tt
-      go (some new) a b =
+      go None a b = tt
+      go (Some new) a b =
           record {
             calls = λ f. omega (arith, a.0.calls f, sort-same (falling (λ (c : ℕ). (G.demand c).seats)) p.run f, h.sums (sum f));
             fewer = omega (arith, a.0.many, h.sums (λ (r : List ℕ). 1), length-is-sum p.rest, length-is-sum all);
@@ -245,8 +244,8 @@ module _ (G : Given) where
   first-fewer all (p ∷ ps) a = go (emptied G p) (emptied-fewer all p a.0) (first_emptied G ps) (first-fewer all ps a.1)
     where
       go : (o : Option (List (List ℕ))) → Holds (Fewer all) o → (later : Option (List (List ℕ))) → Holds (Fewer all) later → Holds (Fewer all) (or_else o later)
-      go none x later y = y
-      go (some new) x later y = x
+      go None x later y = y
+      go (Some new) x later y = x
 
   -- a search that succeeds leaves one run less, with the same calls, legal if all were
   pub search-fewer : (runs : List (List ℕ)) → Holds (Fewer runs) (search G runs)
@@ -316,9 +315,9 @@ module _ (G : Given) where
   searches-eliminate (suc bound) runs = go (λ new. searches-eliminate bound new) (search G (non_empty runs)) (search-fewer (non_empty runs))
     where
       go : ((new : List (List ℕ)) → Eliminates new (searches G bound new)) → (o : Option (List (List ℕ))) → Holds (Fewer (non_empty runs)) o
-          → Eliminates runs (value_or (non_empty runs) (Option.map (searches G bound) o))
-      go ih none a = dropped runs
-      go ih (some new) a = goes_on a (ih new)
+          → Eliminates runs (value_or (non_empty runs) (option_map (searches G bound) o))
+      go ih None a = dropped runs
+      go ih (Some new) a = goes_on a (ih new)
 
   -- the same calls, never more runs, no empty one, and legal runs if those given are
   pub eliminated-eliminates : (runs : List (List ℕ)) → Eliminates runs (eliminated G runs)
@@ -327,7 +326,7 @@ module _ (G : Given) where
 
   -- ---- it ends
 
-  search-none : search G [] ≡ none
+  search-none : search G [] ≡ None
   unfolding search sort first_emptied
   search-none = refl
 
@@ -338,25 +337,25 @@ module _ (G : Given) where
       too_long : suc (length rs) ≤ 0 → ⊥
       too_long h = omega arith
 
-  searches-end : (bound : ℕ) (runs : List (List ℕ)) → length runs ≤ bound → search G (searches G bound runs) ≡ none
+  searches-end : (bound : ℕ) (runs : List (List ℕ)) → length runs ≤ bound → search G (searches G bound runs) ≡ None
   unfolding searches
   searches-end zero runs h = ap (λ (l : List (List ℕ)). search G l) (empty-is (non_empty runs) (omega (arith, non-empty-length runs))) ∙ search-none
   searches-end (suc bound) runs h = go (λ new. searches-end bound new) (search G (non_empty runs)) refl (search-fewer (non_empty runs))
     where
-      go : ((new : List (List ℕ)) → length new ≤ bound → search G (searches G bound new) ≡ none) → (o : Option (List (List ℕ))) → search G (non_empty runs) ≡ o
-          → Holds (Fewer (non_empty runs)) o → search G (value_or (non_empty runs) (Option.map (searches G bound) o)) ≡ none
-      go ih none e a = e
-      go ih (some new) e a = ih new (omega (arith, a.fewer, non-empty-length runs))
+      go : ((new : List (List ℕ)) → length new ≤ bound → search G (searches G bound new) ≡ None) → (o : Option (List (List ℕ))) → search G (non_empty runs) ≡ o
+          → Holds (Fewer (non_empty runs)) o → search G (value_or (non_empty runs) (option_map (searches G bound) o)) ≡ None
+      go ih None e a = e
+      go ih (Some new) e a = ih new (omega (arith, a.fewer, non-empty-length runs))
 
   -- of the runs of the result none can go
-  pub eliminated-ends : (runs : List (List ℕ)) → search G (eliminated G runs) ≡ none
+  pub eliminated-ends : (runs : List (List ℕ)) → search G (eliminated G runs) ≡ None
   unfolding eliminated
   eliminated-ends runs = searches-end (length runs) runs (omega arith)
 
   -- ---- the loop of searches, one at a time
 
   -- without runs there is nothing to search
-  none_found : (runs : List (List ℕ)) → length runs ≤ 0 → search G (non_empty runs) ≡ none
+  none_found : (runs : List (List ℕ)) → length runs ≤ 0 → search G (non_empty runs) ≡ None
   none_found runs h = ap (λ (l : List (List ℕ)). search G l) (empty-is (non_empty runs) (omega (arith, non-empty-length runs))) ∙ search-none
 
   -- more searches than enough change nothing
@@ -368,21 +367,21 @@ module _ (G : Given) where
   searches-enough (suc m) (suc n) runs h k = go (λ new. searches-enough m n new) (search G (non_empty runs)) (search-fewer (non_empty runs))
     where
       go : ((new : List (List ℕ)) → length new ≤ m → length new ≤ n → searches G m new ≡ searches G n new) → (o : Option (List (List ℕ)))
-          → Holds (Fewer (non_empty runs)) o → value_or (non_empty runs) (Option.map (searches G m) o) ≡ value_or (non_empty runs) (Option.map (searches G n) o)
-      go ih none a = refl
-      go ih (some new) a = ih new (omega (arith, a.fewer, non-empty-length runs)) (omega (arith, a.fewer, non-empty-length runs))
+          → Holds (Fewer (non_empty runs)) o → value_or (non_empty runs) (option_map (searches G m) o) ≡ value_or (non_empty runs) (option_map (searches G n) o)
+      go ih None a = refl
+      go ih (Some new) a = ih new (omega (arith, a.fewer, non-empty-length runs)) (omega (arith, a.fewer, non-empty-length runs))
 
-  unfolded : (runs : List (List ℕ)) → eliminated G runs ≡ value_or (non_empty runs) (Option.map (searches G (length runs)) (search G (non_empty runs)))
+  unfolded : (runs : List (List ℕ)) → eliminated G runs ≡ value_or (non_empty runs) (option_map (searches G (length runs)) (search G (non_empty runs)))
   unfolding eliminated searches
   unfolded runs = searches-enough (length runs) (suc (length runs)) runs (omega arith) (omega arith)
 
   -- after a success the search begins again
-  pub eliminated-again : (runs new : List (List ℕ)) → search G (non_empty runs) ≡ some new → eliminated G runs ≡ eliminated G new
+  pub eliminated-again : (runs new : List (List ℕ)) → search G (non_empty runs) ≡ Some new → eliminated G runs ≡ eliminated G new
   unfolding eliminated
   eliminated-again runs new e =
       let F : Fewer (non_empty runs) new = subst (λ (o : Option (List (List ℕ))). Holds (Fewer (non_empty runs)) o) e (search-fewer (non_empty runs)) in
       unfolded runs ∙ rw e (searches-enough (length runs) (length new) new (omega (arith, F.fewer, non-empty-length runs)) (omega arith))
 
   -- without one it is over
-  pub eliminated-over : (runs : List (List ℕ)) → search G (non_empty runs) ≡ none → eliminated G runs ≡ non_empty runs
+  pub eliminated-over : (runs : List (List ℕ)) → search G (non_empty runs) ≡ None → eliminated G runs ≡ non_empty runs
   eliminated-over runs e = unfolded runs ∙ rw e refl

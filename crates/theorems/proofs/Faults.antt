@@ -4,7 +4,7 @@ use native.Mathlib.Omega.{arith}
 use mathlib.Core.Path.{◌≡◌, refl, sym, ap, subst, ◌∙◌}
 use mathlib.Core.Bool.{Bool, true, false, cond, not, true≢false}
 use mathlib.Core.List.{List, [], ◌∷◌, tail}
-use mathlib.Core.Option.{Option, none, some, map}
+use Rattle.std.specs.Prelude.{Option, None, Some, option_map}
 use lib.ListN.{length, get_or, take}
 use lib.Dec.{ltb, leb, eqb}
 use borrow.Author.Tests.{ltb-true, leb-false, eqb-true, eqb-false, le-leb, eq-eqb}
@@ -33,18 +33,18 @@ record Stops (s : Sheet) (n place k a : ℕ) (l : Label) (calls : List ℕ) (v :
   number_is : k + before ≡ number
   inside : before < length calls
   label : Label
-  served : serve_all s place k a (some l) (take before calls) ≡ some label
-  fails : serve s (break_at s place number) number (last_of a (take before calls)) (get_or calls before 0) label ≡ none
+  served : serve_all s place k a (Some l) (take before calls) ≡ Some label
+  fails : serve s (break_at s place number) number (last_of a (take before calls)) (get_or calls before 0) label ≡ None
   says : call_fault s n (break_at s place number) number (last_of a (take before calls)) (get_or calls before 0) label ≡ v
 
-walk-stops : (s : Sheet) (n place k a : ℕ) (l : Label) (calls : List ℕ) (v : Verdict) → walk_fault s n place k a l calls ≡ some v → Stops s n place k a l calls v
+walk-stops : (s : Sheet) (n place k a : ℕ) (l : Label) (calls : List ℕ) (v : Verdict) → walk_fault s n place k a l calls ≡ Some v → Stops s n place k a l calls v
 unfolding walk_fault serve_all
 walk-stops s n place k a l [] v h = clash h
 walk-stops s n place k a l (c ∷ cs) v h = go (serve s (break_at s place k) k a c l) refl (λ m q. walk-stops s n place (suc k) c m cs v q)
   where
-    go : (o : Option Label) → serve s (break_at s place k) k a c l ≡ o → ((m : Label) → walk_fault s n place (suc k) c m cs ≡ some v → Stops s n place (suc k) c m cs v)
+    go : (o : Option Label) → serve s (break_at s place k) k a c l ≡ o → ((m : Label) → walk_fault s n place (suc k) c m cs ≡ Some v → Stops s n place (suc k) c m cs v)
         → Stops s n place k a l (c ∷ cs) v
-    go none e ih =
+    go None e ih =
         record {
           before = 0;
           number = k;
@@ -55,7 +55,7 @@ walk-stops s n place k a l (c ∷ cs) v h = go (serve s (break_at s place k) k a
           fails = e;
           says = same (rw (e, walk_fault) at h);
         }
-    go (some m) e ih =
+    go (Some m) e ih =
         let x = ih m (rw (e, walk_fault) at h) in
         record {
           before = suc x.before;
@@ -68,26 +68,26 @@ walk-stops s n place k a l (c ∷ cs) v h = go (serve s (break_at s place k) k a
           says = x.says;
         }
 
-break-there : (here : Option Break) (arrival : ℕ) → ready here arrival ≡ none
-    → (here ≡ some (break_or here)) × ((break_or here).latest < break_start (break_or here) arrival)
+break-there : (here : Option Break) (arrival : ℕ) → ready here arrival ≡ None
+    → (here ≡ Some (break_or here)) × ((break_or here).latest < break_start (break_or here) arrival)
 unfolding ready
-break-there none arrival h = clash (sym h)
-break-there (some b) arrival h =
+break-there None arrival h = clash (sym h)
+break-there (Some b) arrival h =
     by-test (too_late b arrival) (λ t. (refl, ltb-true b.latest (break_start b arrival) t)) (λ f. clash (sym (rw f at h)))
 
-at_its_place : (s : Sheet) (place k : ℕ) (b : Break) → break_at s place k ≡ some b → (place ≡ k) × (s.head.rest ≡ some b)
+at_its_place : (s : Sheet) (place k : ℕ) (b : Break) → break_at s place k ≡ Some b → (place ≡ k) × (s.head.rest ≡ Some b)
 at_its_place s place k b h = by-test (eqb place k) (λ t. (eqb-true place k t, rw t at h)) (λ f. clash (rw f at h))
 
-shut-there : (window : Option Window) (penalty : Option ℕ) (readiness : ℕ) → enter window penalty readiness ≡ none
-    → (w : Window) × (window ≡ some w) × (penalty ≡ none) × (w.due ≡ due_of window) × (due_of window < readiness)
+shut-there : (window : Option Window) (penalty : Option ℕ) (readiness : ℕ) → enter window penalty readiness ≡ None
+    → (w : Window) × (window ≡ Some w) × (penalty ≡ None) × (w.due ≡ due_of window) × (due_of window < readiness)
 unfolding enter
-shut-there none p r h = clash (sym h)
-shut-there (some w) (some p) r h = clash (sym h)
-shut-there (some w) none r h = by-test (ltb w.due r) (λ t. (w, refl, refl, refl, ltb-true w.due r t)) (λ f. clash (sym (rw f at h)))
+shut-there None p r h = clash (sym h)
+shut-there (Some w) (Some p) r h = clash (sym h)
+shut-there (Some w) None r h = by-test (ltb w.due r) (λ t. (w, refl, refl, refl, ltb-true w.due r t)) (λ f. clash (sym (rw f at h)))
 
 module _ (s : Sheet) (n : ℕ) (r : Run) where
   -- the leg to the call that stops it
-  leg-to : {v : Verdict} → Open s r.calls → (x : Stops s n r.place 1 0 start r.calls v) → (l : Leg) × (leg_of s r.calls x.before ≡ some l)
+  leg-to : {v : Verdict} → Open s r.calls → (x : Stops s n r.place 1 0 start r.calls v) → (l : Leg) × (leg_of s r.calls x.before ≡ Some l)
   leg-to roads x = open-leg s 1 0 r.calls roads x.before (omega (arith, x.inside))
 
   reached-at : {v : Verdict} → Open s r.calls → fits s r.calls ≡ true → (x : Stops s n r.place 1 0 start r.calls v)
@@ -117,31 +117,31 @@ module _ (s : Sheet) (n : ℕ) (r : Run) where
       says = rw ((leg-to roads x).1, call_fault) at x.says
 
       go : (o : Option ℕ) → ready here (arrival (reached-at roads room x)) ≡ o → Fails s n r v
-      go none e =
+      go None e =
           let t = break-there here (arrival (reached-at roads room x)) e in
           let p = at_its_place s r.place x.number _ t.0 in
           subst (λ (w : Verdict). Fails s n r w) (rw (e, arrival_fault) at says)
           (by-break (record { reached = reached-at roads room x; break = _; rested = p.1; here = p.0; value-is = refl; limit_is = refl; over = t.1 }))
-      go (some readiness) e =
+      go (Some readiness) e =
           let q = shut-there _ _ readiness (nothing-mapped _ _ (rw ((leg-to roads x).1, e, serve_at) at x.fails)) in
           subst (λ (w : Verdict). Fails s n r w) (rw (e, arrival_fault) at says)
           (by-window (record { reached = reached-at roads room x; value-is = e; window = q.0; shuts = q.1; hard = q.2; limit_is = q.3; over = q.4 }))
 
 -- ---- the totals
 
-above : (limit : Option ℕ) (n : ℕ) → within limit n ≡ false → (limit ≡ some (value_or 0 limit)) × (value_or 0 limit < n)
-above none n h = absurd (true≢false h)
-above (some m) n h = (refl, leb-false n m h)
+above : (limit : Option ℕ) (n : ℕ) → within limit n ≡ false → (limit ≡ Some (value_or 0 limit)) × (value_or 0 limit < n)
+above None n h = absurd (true≢false h)
+above (Some m) n h = (refl, leb-false n m h)
 
 unplaced : (rest : Option Break) (place n duration : ℕ) → place ≤ cond (present rest) n 0 → placed rest place n duration ≡ false
-    → (rest ≡ some (break_or rest)) × (place ≡ 0) × (excused (break_or rest) duration ≡ false)
+    → (rest ≡ Some (break_or rest)) × (place ≡ 0) × (excused (break_or rest) duration ≡ false)
 unfolding placed
-unplaced none place n duration p h = not-both (eqb place 0) (eq-eqb place 0 (omega arith)) h
-unplaced (some b) zero n duration p h = (refl, refl, h)
-unplaced (some b) (suc k) n duration p h = not-both (leb (suc k) n) (le-leb (suc k) n p) h
+unplaced None place n duration p h = not-both (eqb place 0) (eq-eqb place 0 (omega arith)) h
+unplaced (Some b) zero n duration p h = (refl, refl, h)
+unplaced (Some b) (suc k) n duration p h = not-both (leb (suc k) n) (le-leb (suc k) n p) h
 
 -- of two faults: the first, whose test fails, or the other, and the first one's test holds
-first_of : {R : Type 0} (t : Bool) (a : Verdict) (o : Option Verdict) (v : Verdict) → or_else (given (not t) a) o ≡ some v → (t ≡ false → a ≡ v → R) → (t ≡ true → o ≡ some v → R) → R
+first_of : {R : Type 0} (t : Bool) (a : Verdict) (o : Option Verdict) (v : Verdict) → or_else (given (not t) a) o ≡ Some v → (t ≡ false → a ≡ v → R) → (t ≡ true → o ≡ Some v → R) → R
 first_of true a o v h f g = g refl h
 first_of false a o v h f g = f refl (same h)
 
@@ -167,11 +167,11 @@ module _ (s : Sheet) (n : ℕ) (r : Run) (proper : Placeable s r) where
   becomes : (v : Verdict) {w : Verdict} → Fails s n r w → w ≡ v → Fails s n r v
   becomes v f e = subst (λ (x : Verdict). Fails s n r x) e f
 
-  total-fails : (v : Verdict) (t : Totals) → Home s r t → total_fault s n r t ≡ some v → Fails s n r v
+  total-fails : (v : Verdict) (t : Totals) → Home s r t → total_fault s n r t ≡ Some v → Fails s n r v
   total-fails v t home h =
       first_of (placed s.head.rest r.place (length r.calls) t.duration) _ _ v h (λ p e. becomes v (missing-fails t home p) e)
       (λ p h. first_of (within s.head.max_distance t.distance) _ _ v h (λ d e. becomes v (far-fails t home p d) e)
-      (λ d h. first_of (within s.head.max_duration t.duration) _ none v (rw h refl) (λ l e. becomes v (long-fails t home p d l) e) (λ l h. clash h)))
+      (λ d h. first_of (within s.head.max_duration t.duration) _ None v (rw h refl) (λ l e. becomes v (long-fails t home p d l) e) (λ l h. clash h)))
 
   -- the load does not fit: it is over in seats, or within these and over in wheelchair places
   overloaded : Open s r.calls → fits s r.calls ≡ false → Fails s n r (overload_of n (load s r.calls) s.head.capacity)
@@ -183,34 +183,34 @@ module _ (s : Sheet) (n : ℕ) (r : Run) (proper : Placeable s r) where
       (λ o. rw o (by-load (record { roads = roads; value-is = refl; limit_is = refl; over = leb-false l.seats k.seats o })))
 
   -- a fault names a test that fails, and every test before it holds
-  pub fault-fails : (v : Verdict) → run_fault s n r ≡ some v → Fails s n r v
+  pub fault-fails : (v : Verdict) → run_fault s n r ≡ Some v → Fails s n r v
   unfolding run_fault
   fault-fails v h = road (first_closed s r.calls) refl h
     where
       walked : Open s r.calls → fits s r.calls ≡ true → (o : Option Verdict) → walk_fault s n r.place 1 0 start r.calls ≡ o
-          → or_else o (ride s r >>= total_fault s n r) ≡ some v → Fails s n r v
-      walked roads room (some w) e h = becomes v (call-fails s n r roads room (walk-stops s n r.place 1 0 start r.calls w e)) (same h)
-      walked roads room none e h = let y = bound (ride s r) _ v h in total-fails v y.0 (record { roads = roads; room = room; rode = y.1 }) y.2
+          → or_else o (ride s r >>= total_fault s n r) ≡ Some v → Fails s n r v
+      walked roads room (Some w) e h = becomes v (call-fails s n r roads room (walk-stops s n r.place 1 0 start r.calls w e)) (same h)
+      walked roads room None e h = let y = bound (ride s r) _ v h in total-fails v y.0 (record { roads = roads; room = room; rode = y.1 }) y.2
 
       rest : Option Verdict
       rest =
           or_else (given (not (fits s r.calls)) (overload_of n (load s r.calls) s.head.capacity))
           (or_else (walk_fault s n r.place 1 0 start r.calls) (ride s r >>= total_fault s n r))
 
-      road : (o : Option ℕ) → first_closed s r.calls ≡ o → or_else (map (road_closed n) o) rest ≡ some v → Fails s n r v
-      road (some leg) e h = becomes v (by-road (closed_is s r.calls leg e)) (same h)
-      road none e h =
+      road : (o : Option ℕ) → first_closed s r.calls ≡ o → or_else (option_map (road_closed n) o) rest ≡ Some v → Fails s n r v
+      road (Some leg) e h = becomes v (by-road (closed_is s r.calls leg e)) (same h)
+      road None e h =
           first_of (fits s r.calls) _ _ v h (λ f q. becomes v (overloaded e f) q) (λ room q. walked e room (walk_fault s n r.place 1 0 start r.calls) refl q)
 
 -- ---- several runs
 
-pub first-fails : (s : Sheet) (n : ℕ) (rs : List Run) → All (Proper s) rs → (v : Verdict) → first_fault s n rs ≡ some v → FirstFails s n rs v
+pub first-fails : (s : Sheet) (n : ℕ) (rs : List Run) → All (Proper s) rs → (v : Verdict) → first_fault s n rs ≡ Some v → FirstFails s n rs v
 first-fails s n [] p v h = clash h
 first-fails s n (r ∷ rs) p v h = go (run_fault s n r) refl h (λ q. first-fails s (suc n) rs p.1 v q)
   where
-    go : (o : Option Verdict) → run_fault s n r ≡ o → or_else o (first_fault s (suc n) rs) ≡ some v → (first_fault s (suc n) rs ≡ some v → FirstFails s (suc n) rs v)
+    go : (o : Option Verdict) → run_fault s n r ≡ o → or_else o (first_fault s (suc n) rs) ≡ Some v → (first_fault s (suc n) rs ≡ Some v → FirstFails s (suc n) rs v)
         → FirstFails s n (r ∷ rs) v
-    go (some w) e h ih =
+    go (Some w) e h ih =
         record {
           earlier = [];
           faulty = r;
@@ -221,7 +221,7 @@ first-fails s n (r ∷ rs) p v h = go (run_fault s n r) refl h (λ q. first-fail
           number_is = omega arith;
           fails = fault-fails s n r p.0.placeable v (e ∙ h);
         }
-    go none e h ih =
+    go None e h ih =
         let x = ih h in
         record {
           earlier = r ∷ x.earlier;
@@ -236,10 +236,10 @@ first-fails s n (r ∷ rs) p v h = go (run_fault s n r) refl h (λ q. first-fail
 
 -- ---- the mark
 
-apart-here : (k : ℕ) (xs ys : List ℕ) (p : ℕ) → some k ≡ some p → (take 1 xs ≡ take 1 ys → ⊥) → Differs k xs ys p
+apart-here : (k : ℕ) (xs ys : List ℕ) (p : ℕ) → Some k ≡ Some p → (take 1 xs ≡ take 1 ys → ⊥) → Differs k xs ys p
 apart-here k xs ys p h d = let e = same h in record { before = 0; position = omega arith; same-before = refl; differ-there = d }
 
-pub differ-differs : (k : ℕ) (xs ys : List ℕ) (p : ℕ) → differ k xs ys ≡ some p → Differs k xs ys p
+pub differ-differs : (k : ℕ) (xs ys : List ℕ) (p : ℕ) → differ k xs ys ≡ Some p → Differs k xs ys p
 differ-differs k [] [] p h = clash h
 differ-differs k [] (y ∷ ys) p h = apart-here k [] (y ∷ ys) p h (λ e. true≢false (ap is_empty e))
 differ-differs k (x ∷ xs) [] p h = apart-here k (x ∷ xs) [] p h (λ e. true≢false (sym (ap is_empty e)))
@@ -267,9 +267,9 @@ mark-says s plan rs proper = go (differ 1 (joined rs) plan.served) refl
     is v e x = subst (λ (w : Verdict). Says s plan rs w) (sym e) x
 
     at : joined rs ≡ plan.served → (o : Option Verdict) → first_fault s 1 rs ≡ o → Says s plan rs (value_or (against plan.cost (cutting_cost s rs)) o)
-    at e (some v) f = fault e (first-fails s 1 rs proper v f)
-    at e none f = priced (e, unmarked-runs s 1 rs (shaped s rs proper) f) (compared plan.cost (cutting_cost s rs))
+    at e (Some v) f = fault e (first-fails s 1 rs proper v f)
+    at e None f = priced (e, unmarked-runs s 1 rs (shaped s rs proper) f) (compared plan.cost (cutting_cost s rs))
 
     go : (o : Option ℕ) → differ 1 (joined rs) plan.served ≡ o → Says s plan rs (mark_against s plan rs)
-    go (some p) e = is (other_calls p) (mark-other s plan rs p e) (other (differ-differs 1 (joined rs) plan.served p e))
-    go none e = is _ (mark-same s plan rs e) (at (differ_same 1 (joined rs) plan.served e) (first_fault s 1 rs) refl)
+    go (Some p) e = is (other_calls p) (mark-other s plan rs p e) (other (differ-differs 1 (joined rs) plan.served p e))
+    go None e = is _ (mark-same s plan rs e) (at (differ_same 1 (joined rs) plan.served e) (first_fault s 1 rs) refl)

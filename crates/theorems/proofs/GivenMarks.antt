@@ -5,7 +5,7 @@ use mathlib.Core.Logic.{◌↔◌}
 use mathlib.Core.Path.{◌≡◌, refl, sym, ap, ap₂, subst, ◌∙◌}
 use mathlib.Core.Bool.{Bool, true, false, not, false≢true}
 use mathlib.Core.List.{List, [], ◌∷◌, ◌++◌, map}
-use mathlib.Core.Option.{Option, none, some}
+use Rattle.std.specs.Prelude.{Option, None, Some}
 use lib.ListN.{length}
 use Rattle.basics.specs.Options.{present}
 use Rattle.basics.specs.Lists.{is_empty, all, All}
@@ -31,15 +31,15 @@ both_ways : {A B C : Type 0} → A ↔ B → B ↔ C → A ↔ C
 both_ways f g = (λ a. g.0 (f.0 a), λ c. f.1 (g.1 c))
 
 -- what an answer gives: the call was accepted, and its result is that
-given_by : {A : Type 0} (o : Option ℕ) (x y : A) → unless_refused o x ≡ gives y → (o ≡ none) × (x ≡ y)
-given_by none x y e = (refl, cc)
-given_by {A} (some n) x y e = absurd (false≢true (ap is_given e))
+given_by : {A : Type 0} (o : Option ℕ) (x y : A) → unless_refused o x ≡ gives y → (o ≡ None) × (x ≡ y)
+given_by None x y e = (refl, cc)
+given_by {A} (Some n) x y e = absurd (false≢true (ap is_given e))
   where
     is_given : Answer A → Bool
     is_given (refused n) = false
     is_given (gives x) = true
 
-given-of : {A : Type 0} (o : Option ℕ) (x y : A) → o ≡ none → (unless_refused o x ≡ gives y) ↔ (x ≡ y)
+given-of : {A : Type 0} (o : Option ℕ) (x y : A) → o ≡ None → (unless_refused o x ≡ gives y) ↔ (x ≡ y)
 given-of o x y e = (λ h. (given_by o x y h).1, λ h. ap (λ (q : Option ℕ). unless_refused q x) e ∙ ap gives h)
 
 -- runs and their own break places, whatever stands behind these
@@ -56,7 +56,7 @@ module _ {F : Type 0} (value : F → Option ℕ) (l : Lent F) where
   runs_given = with_places (runs_of l.calls l.ends) l.breaks
 
   -- an accepted call is given proper runs
-  pub accepted-proper : refusal_of value marking l ≡ none → All (Proper s) runs_given
+  pub accepted-proper : refusal_of value marking l ≡ None → All (Proper s) runs_given
   unfolding whole_sheet
   accepted-proper h =
       let A = accepted-within value marking l h in
@@ -72,7 +72,7 @@ module _ {F : Type 0} (value : F → Option ℕ) (l : Lent F) where
         let g = given_by (refusal_of value marking l) (mark_by p s l.tour runs_given) v h in
         subst (λ (w : Verdict). Says s (split_by p s l.tour) runs_given w) g.1 (mark-says s (split_by p s l.tour) runs_given (accepted-proper g.0))
 
-    module _ (accepted : refusal_of value marking l ≡ none) where
+    module _ (accepted : refusal_of value marking l ≡ None) where
       filled : all (λ r. not (is_empty r.calls)) runs_given ≡ true
       filled = shaped s runs_given (accepted-proper accepted)
 

@@ -3,7 +3,7 @@ use Prim.Native.Nat.{ℕ}
 use mathlib.Core.Path.{◌≡◌, refl, sym}
 use mathlib.Core.Bool.{Bool, true, false, not, ◌&&◌}
 use mathlib.Core.List.{List}
-use mathlib.Core.Option.{Option, none, some}
+use Rattle.std.specs.Prelude.{Option, None, Some}
 use Rattle.basics.proofs.TestLaws.{by-test}
 use Rattle.basics.specs.Options.{◌>>=◌, present, given}
 use Rattle.basics.specs.Lists.{is_empty}
@@ -17,7 +17,7 @@ use Rattle.theorems.proofs.Roads.{run-open}
 use Rattle.theorems.proofs.Plain.{plain_of, plain-clock}
 use Rattle.definitions.specs.Run as Run
 
-module _ (s : Sheet) (W : Within s) (O : any_closed some s.legs ≡ false) where
+module _ (s : Sheet) (W : Within s) (O : any_closed Some s.legs ≡ false) where
   -- without window, limit and break every run is feasible
   pub not-asked : checks_needed s ≡ false → (run : List ℕ) → route_feasible s run ≡ true
   unfolding route_feasible route_eval
@@ -44,5 +44,5 @@ module _ (s : Sheet) where
 
       go : (o : Option Totals) → present (o >>= λ t. given {A = Arc} (not (is_empty run) && fits s run && Run.allowed s t) (record { place = t.place; cost = price s t.distance t.pay }))
           ≡ not (is_empty run) && fits s run && present (o >>= λ t. given {A = Evaluation} (Run.allowed s t) (record { totals = t; start = start_of s (record { calls = run; place = t.place }) }))
-      go none = never (not (is_empty run) && fits s run)
-      go (some t) = one (not (is_empty run) && fits s run) (Run.allowed s t) _ _
+      go None = never (not (is_empty run) && fits s run)
+      go (Some t) = one (not (is_empty run) && fits s run) (Run.allowed s t) _ _

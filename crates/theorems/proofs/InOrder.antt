@@ -3,7 +3,7 @@ use Prim.Native.Nat.{ℕ}
 use mathlib.Core.Path.{◌≡◌, refl, sym, ap, ◌∙◌}
 use mathlib.Core.Bool.{Bool, true, false, cond, true≢false}
 use mathlib.Core.List.{List, [], ◌∷◌}
-use mathlib.Core.Option.{Option, none, some}
+use Rattle.std.specs.Prelude.{Option, None, Some}
 use lib.Dec.{eqb, ltb}
 use Rattle.basics.proofs.TestLaws.{by-test, both}
 use Rattle.basics.proofs.OptionLaws.{clash}
@@ -19,7 +19,7 @@ test_of n [] = false
 test_of n (r ∷ rs) = cond (eqb n r.number) r.fits (test_of n rs)
 
 -- where no number is given the test of each fails
-pub none-fits : (rs : List Refusal) → first_fit rs ≡ none → (n : ℕ) → test_of n rs ≡ false
+pub none-fits : (rs : List Refusal) → first_fit rs ≡ None → (n : ℕ) → test_of n rs ≡ false
 none-fits [] h n = refl
 none-fits (r ∷ rs) h n =
     by-test r.fits
@@ -27,7 +27,7 @@ none-fits (r ∷ rs) h n =
     (λ f. by-test (eqb n r.number) (λ e. rw (e, f)) (λ e. rw e (none-fits rs (rw f at h) n)))
 
 -- and where all fail none is given
-pub fits-none : (rs : List Refusal) → All (λ (r : Refusal). r.fits ≡ false) rs → first_fit rs ≡ none
+pub fits-none : (rs : List Refusal) → All (λ (r : Refusal). r.fits ≡ false) rs → first_fit rs ≡ None
 fits-none [] a = refl
 fits-none (r ∷ rs) a = rw a.0 (fits-none rs a.1)
 
@@ -37,7 +37,7 @@ fits-none (r ∷ rs) a = rw a.0 (fits-none rs a.1)
 abbrev pub numbered : List Refusal → Bool
 numbered rs = all (λ (r : Refusal). ltb 0 r.number) rs
 
-pub zero-none : (rs : List Refusal) → numbered rs ≡ true → value_or 0 (first_fit rs) ≡ 0 → first_fit rs ≡ none
+pub zero-none : (rs : List Refusal) → numbered rs ≡ true → value_or 0 (first_fit rs) ≡ 0 → first_fit rs ≡ None
 zero-none [] a h = refl
 zero-none (r ∷ rs) a h =
     let b = both (ltb 0 r.number) (numbered rs) a in
@@ -45,12 +45,12 @@ zero-none (r ∷ rs) a h =
     (λ y. let e : r.number ≡ 0 = (rw y at h) in absurd (true≢false (sym b.0 ∙ ap (ltb 0) e)))
     (λ n. rw n (zero-none rs b.1 (rw n at h)))
 
-pub number-given : (rs : List Refusal) (n : ℕ) → n ≡ value_or 0 (first_fit rs) → (n ≡ 0 → ⊥) → first_fit rs ≡ some n
+pub number-given : (rs : List Refusal) (n : ℕ) → n ≡ value_or 0 (first_fit rs) → (n ≡ 0 → ⊥) → first_fit rs ≡ Some n
 number-given rs n told z = go (first_fit rs) told
   where
-    go : (o : Option ℕ) → n ≡ value_or 0 o → o ≡ some n
-    go none e = absurd (z e)
-    go (some m) e = ap some (sym e)
+    go : (o : Option ℕ) → n ≡ value_or 0 o → o ≡ Some n
+    go None e = absurd (z e)
+    go (Some m) e = ap Some (sym e)
 
 -- ---- two lists
 
@@ -72,7 +72,7 @@ agree-from before (r ∷ rs) [] a m = absurd a
 agree-from before (r ∷ rs) (s ∷ ss) a m =
     let same = a.0.1 m in
     by-test r.fits
-    (λ t. rw (t, sym same ∙ t) (ap some a.0.0))
+    (λ t. rw (t, sym same ∙ t) (ap Some a.0.0))
     (λ f. rw (f, sym same ∙ f) (agree-from (r ∷ before) rs ss a.1 (λ n. by-test (eqb n r.number) (λ e. rw (e, f)) (λ e. rw e (m n)))))
 
 pub agree : (rs ss : List Refusal) → Agree [] rs ss → first_fit rs ≡ first_fit ss

@@ -6,7 +6,7 @@ use native.Mathlib.Numerals.{add-one}
 use mathlib.Core.Path.{◌≡◌, refl, sym, ap, ap₂, subst, ◌∙◌}
 use mathlib.Core.Bool.{true, ◌&&◌}
 use mathlib.Core.List.{List, [], ◌∷◌, ◌++◌, map, map-map}
-use mathlib.Core.Option.{Option, none, some}
+use Rattle.std.specs.Prelude.{Option, None, Some}
 use lib.ListN.{length, length-append}
 use borrow.Author.Tests.{eq-eqb, ne_eqb}
 use Rattle.basics.proofs.TestLaws.{by-test}
@@ -41,18 +41,18 @@ map-alike : {A : Type 0} (f g : ℕ → A) (a n : ℕ) → ((p : ℕ) → a ≤ 
 map-alike f g a zero h = refl
 map-alike {A} f g a (suc n) h = ap₂ (λ (y : A) (l : List A). y ∷ l) (h a (le_refl a) (omega arith)) (map-alike f g (suc a) n (λ p i j. h p (omega arith) (omega arith)))
 
-module _ (s : Sheet) (b : Break) (rest : s.head.rest ≡ some b) where
+module _ (s : Sheet) (b : Break) (rest : s.head.rest ≡ Some b) where
   -- the labels with the break at each call in turn
   abbrev pub broken : List ℕ → List (Option Label)
   broken calls = map (label_of s calls) (count 1 (length calls))
 
   -- the label without a break, carried on
-  pub unbroken-grows : (calls : List ℕ) (c : ℕ) → label_of s (calls ++ (c ∷ [])) 0 ≡ (label_of s calls 0 >>= serve s none (1 + length calls) (last_of 0 calls) c)
+  pub unbroken-grows : (calls : List ℕ) (c : ℕ) → label_of s (calls ++ (c ∷ [])) 0 ≡ (label_of s calls 0 >>= serve s None (1 + length calls) (last_of 0 calls) c)
   unbroken-grows calls c =
-      serve-more s 0 1 0 (some start) calls c
+      serve-more s 0 1 0 (Some start) calls c
       ∙ ap (λ (o : Option Break). label_of s calls 0 >>= serve s o (1 + length calls) (last_of 0 calls) c) (other 0 (1 + length calls) (λ e. off e))
     where
-      other : (p k : ℕ) → (p ≡ k → ⊥) → break_at s p k ≡ none
+      other : (p k : ℕ) → (p ≡ k → ⊥) → break_at s p k ≡ None
       other p k h = rw (ne_eqb p k h) refl
 
       off : 0 ≡ 1 + length calls → ⊥
@@ -60,27 +60,27 @@ module _ (s : Sheet) (b : Break) (rest : s.head.rest ≡ some b) where
 
   -- the broken ones carried on, and the unbroken one broken here
   pub broken-grows : (calls : List ℕ) (c : ℕ) → broken (calls ++ (c ∷ []))
-      ≡ map (λ m. m >>= serve s none (1 + length calls) (last_of 0 calls) c) (broken calls) ++ ((label_of s calls 0 >>= serve s (some b) (1 + length calls) (last_of 0 calls) c) ∷ [])
+      ≡ map (λ m. m >>= serve s None (1 + length calls) (last_of 0 calls) c) (broken calls) ++ ((label_of s calls 0 >>= serve s (Some b) (1 + length calls) (last_of 0 calls) c) ∷ [])
   broken-grows calls c =
       ap (λ (n : ℕ). map (label_of s (calls ++ (c ∷ []))) (count 1 n)) (length-append calls (c ∷ []) ∙ add-one (length calls))
-      ∙ map_more (label_of s (calls ++ (c ∷ []))) (λ p. on none (label_of s calls p)) (on (some b) (label_of s calls 0)) 1 (length calls) carried here
-      ∙ ap (λ (l : List (Option Label)). l ++ (on (some b) (label_of s calls 0) ∷ [])) (sym (map-map (on none) (label_of s calls) (count 1 (length calls))))
+      ∙ map_more (label_of s (calls ++ (c ∷ []))) (λ p. on None (label_of s calls p)) (on (Some b) (label_of s calls 0)) 1 (length calls) carried here
+      ∙ ap (λ (l : List (Option Label)). l ++ (on (Some b) (label_of s calls 0) ∷ [])) (sym (map-map (on None) (label_of s calls) (count 1 (length calls))))
     where
       on : Option Break → Option Label → Option Label
       on o m = m >>= serve s o (1 + length calls) (last_of 0 calls) c
 
-      carried : (p : ℕ) → 1 ≤ p → p < 1 + length calls → label_of s (calls ++ (c ∷ [])) p ≡ on none (label_of s calls p)
-      carried p h i = serve-more s p 1 0 (some start) calls c ∙ ap (λ (o : Option Break). on o (label_of s calls p)) (rw (ne_eqb p (1 + length calls) (λ e. off p i e)) refl)
+      carried : (p : ℕ) → 1 ≤ p → p < 1 + length calls → label_of s (calls ++ (c ∷ [])) p ≡ on None (label_of s calls p)
+      carried p h i = serve-more s p 1 0 (Some start) calls c ∙ ap (λ (o : Option Break). on o (label_of s calls p)) (rw (ne_eqb p (1 + length calls) (λ e. off p i e)) refl)
         where
           off : (p : ℕ) → p < 1 + length calls → p ≡ 1 + length calls → ⊥
           off p i e = omega arith
 
-      here : label_of s (calls ++ (c ∷ [])) (1 + length calls) ≡ on (some b) (label_of s calls 0)
+      here : label_of s (calls ++ (c ∷ [])) (1 + length calls) ≡ on (Some b) (label_of s calls 0)
       here =
           let k = 1 + length calls in
-          serve-more s k 1 0 (some start) calls c
+          serve-more s k 1 0 (Some start) calls c
           ∙ ap (λ (o : Option Break). on o (label_of s calls k)) (rw (eq-eqb k k refl, rest) refl)
-          ∙ ap (on (some b)) ((kept s b rest calls).later k (le_refl k))
+          ∙ ap (on (Some b)) ((kept s b rest calls).later k (le_refl k))
 
   -- ---- the ends of the run
 
@@ -111,5 +111,5 @@ module _ (s : Sheet) (b : Break) (rest : s.head.rest ≡ some b) where
               down h i = omega arith
 
           limits : (o : Option Totals) → (o >>= λ t. given (allowed s t && placed s.head.rest p (length calls) t.duration) t) ≡ (o >>= λ t. given (allowed s t) t)
-          limits none = refl
-          limits (some t) = by-test (allowed s t) (λ e. rw (e, there t.duration) refl) (λ e. rw e refl)
+          limits None = refl
+          limits (Some t) = by-test (allowed s t) (λ e. rw (e, there t.duration) refl) (λ e. rw e refl)

@@ -6,7 +6,7 @@ use native.Mathlib.Numerals.{add-one}
 use mathlib.Core.Path.{◌≡◌, refl, sym, ap, subst, ◌∙◌}
 use mathlib.Core.Bool.{true, false, true≢false}
 use mathlib.Core.List.{List, [], ◌∷◌, ◌++◌, append-nil, append_assoc}
-use mathlib.Core.Option.{Option, none, some}
+use Rattle.std.specs.Prelude.{Option, None, Some}
 use lib.ListN.{length, take, drop, length-append, take-append-drop}
 use lib.Seq.{take-take, take-length, length-take-le}
 use borrow.Author.Tests.{ltb-true, ltb-false, le-ltb}
@@ -30,24 +30,24 @@ joined-append [] ts = refl
 joined-append (r ∷ rs) ts = ap (λ (l : List ℕ). r.calls ++ l) (joined-append rs ts) ∙ sym (append_assoc r.calls (joined rs) (joined ts))
 
 abbrev pub cost_in : Option Arc → ℕ
-cost_in none = 0
-cost_in (some a) = a.cost
+cost_in None = 0
+cost_in (Some a) = a.cost
 
 module _ (arc : List ℕ → Option Arc) where
   -- the calls have a cutting of this cost: none, or one of the calls before a last run, and that run
   pub data Reach : List ℕ → ℕ → Type 0 where
     start : {calls : List ℕ} {n : ℕ} → calls ≡ [] → n ≡ 0 → Reach calls n
-    more : {calls : List ℕ} {n : ℕ} (before since : List ℕ) (m : ℕ) (a : Arc) → Reach before m → arc since ≡ some a → before ++ since ≡ calls → m + a.cost ≡ n → Reach calls n
+    more : {calls : List ℕ} {n : ℕ} (before since : List ℕ) (m : ℕ) (a : Arc) → Reach before m → arc since ≡ Some a → before ++ since ≡ calls → m + a.cost ≡ n → Reach calls n
 
   -- each run has the place of its arc
   abbrev pub Made : List Run → Type 0
   Made [] = Unit {0}
-  Made (r ∷ rs) = ((a : Arc) × (arc r.calls ≡ some a) × (a.place ≡ r.place)) × Made rs
+  Made (r ∷ rs) = ((a : Arc) × (arc r.calls ≡ Some a) × (a.place ≡ r.place)) × Made rs
 
   -- each run has an arc
   abbrev pub Arced : List Run → Type 0
   Arced [] = Unit {0}
-  Arced (r ∷ rs) = ((a : Arc) × (arc r.calls ≡ some a)) × Arced rs
+  Arced (r ∷ rs) = ((a : Arc) × (arc r.calls ≡ Some a)) × Arced rs
 
   pub made-arced : (rs : List Run) → Made rs → Arced rs
   made-arced [] m = tt
@@ -66,8 +66,8 @@ module _ (arc : List ℕ → Option Arc) where
 
   -- what a point's best is, for the calls before it
   pub record BestOf (calls : List ℕ) (b : Option Best) : Type 0 where
-    pub cuts : (m : Best) → b ≡ some m → Cuts calls m
-    pub below : (n : ℕ) → Reach calls n → (m : Best) × (b ≡ some m) × (m.cost ≤ n)
+    pub cuts : (m : Best) → b ≡ Some m → Cuts calls m
+    pub below : (n : ℕ) → Reach calls n → (m : Best) × (b ≡ Some m) × (m.cost ≤ n)
 
   -- runs one after the other reach what they join up to
   pub reach-runs : (before : List ℕ) (m : ℕ) → Reach before m → (rs : List Run) → Arced rs → Reach (before ++ joined rs) (m + worth rs)
@@ -89,7 +89,7 @@ module _ (arc : List ℕ → Option Arc) where
       more (u ++ before) since (m + k) a (reach-append R Q) q (append_assoc u before since ∙ ap (λ (l : List ℕ). u ++ l) e)
       (add_assoc m k a.cost ∙ ap (λ (j : ℕ). m + j) z)
 
-  pub best-reach : (calls : List ℕ) (b : Option Best) → BestOf calls b → (m : Best) → b ≡ some m → Reach calls m.cost
+  pub best-reach : (calls : List ℕ) (b : Option Best) → BestOf calls b → (m : Best) → b ≡ Some m → Reach calls m.cost
   best-reach calls b B m e =
       let c = B.cuts m e in
       subst (λ (l : List ℕ). Reach l m.cost) c.0
@@ -109,16 +109,16 @@ module _ (arc : List ℕ → Option Arc) where
   pub record Earliest (u : List ℕ) (c n : ℕ) (m : Best) : Type 0 where
     pub start : ℕ
     pub below : start < n
-    pub made : candidate u c start ≡ some m
-    pub before : (k : ℕ) (x : Best) → k < start → candidate u c k ≡ some x → m.cost < x.cost
-    pub after : (k : ℕ) (x : Best) → k < n → candidate u c k ≡ some x → m.cost ≤ x.cost
+    pub made : candidate u c start ≡ Some m
+    pub before : (k : ℕ) (x : Best) → k < start → candidate u c k ≡ Some x → m.cost < x.cost
+    pub after : (k : ℕ) (x : Best) → k < n → candidate u c k ≡ Some x → m.cost ≤ x.cost
 
   -- ---- the laws that the theory of the cut asks
 
   abbrev last_run : List ℕ → Arc → List Run
   last_run since a = record { calls = since; place = a.place } ∷ []
 
-  cuts-more : (u since : List ℕ) (b : Best) (a : Arc) → (joined b.runs ≡ u) × Made b.runs × (worth b.runs ≡ b.cost) → arc since ≡ some a
+  cuts-more : (u since : List ℕ) (b : Best) (a : Arc) → (joined b.runs ≡ u) × Made b.runs × (worth b.runs ≡ b.cost) → arc since ≡ Some a
       → (joined (b.runs ++ last_run since a) ≡ u ++ since) × Made (b.runs ++ last_run since a) × (worth (b.runs ++ last_run since a) ≡ b.cost + a.cost)
   cuts-more u since b a C e = (
     joined-append b.runs (last_run since a) ∙ ap (λ (l : List ℕ). joined b.runs ++ l) (append-nil since) ∙ ap (λ (l : List ℕ). l ++ since) C.0,
@@ -135,13 +135,13 @@ module _ (arc : List ℕ → Option Arc) where
     run-cuts b i j o l g =
         let a = held (arc (stretch arc calls i j)) _ l in
         rw a.1
-        (subst (λ (u : List ℕ). Cuts u (and_run b (stretch arc calls i j) (some a.0)))
+        (subst (λ (u : List ℕ). Cuts u (and_run b (stretch arc calls i j) (Some a.0)))
         (ap (λ (u : List ℕ). u ++ stretch arc calls i j) (sym (take-take i j calls (le_of_lt o))) ∙ take-append-drop i (take j calls))
         (cuts-more (take i calls) (stretch arc calls i j) b a.0 g a.1))
 
     run-keeps : (a b : Best) (since : List ℕ) (o : Option Arc) → lower b a ≡ false → lower (and_run b since o) (and_run a since o) ≡ false
-    run-keeps a b since none h = h
-    run-keeps a b since (some r) h = le-ltb (b.cost + r.cost) (a.cost + r.cost) (omega (arith, ltb-false b.cost a.cost h))
+    run-keeps a b since None h = h
+    run-keeps a b since (Some r) h = le-ltb (b.cost + r.cost) (a.cost + r.cost) (omega (arith, ltb-false b.cost a.cost h))
 
     plain-laws : PlainLaws (plain arc calls) (λ j b. Cuts (take j calls) b)
     plain-laws =
@@ -161,26 +161,26 @@ module _ (arc : List ℕ → Option Arc) where
     laws = rule-laws (plain arc calls) (λ j b. Cuts (take j calls) b) plain-laws
 
     -- what that theory says of the best, and of a last run
-    good : (m : Best) → cheapest arc calls ≡ some m → Cuts calls m
+    good : (m : Best) → cheapest arc calls ≡ Some m → Cuts calls m
     good m e = rw (best-at arc calls, e, take-length calls) at (B.cost-good (rule arc calls) Good laws (length calls) (length calls))
 
-    at_most : (before since : List ℕ) (x : Best) → before ++ since ≡ calls → length before < length calls → close arc (record { best = cheapest arc before; since = since }) ≡ some x
-        → lower_opt (plain arc calls) (some x) (cheapest arc calls) ≡ false
+    at_most : (before since : List ℕ) (x : Best) → before ++ since ≡ calls → length before < length calls → close arc (record { best = cheapest arc before; since = since }) ≡ Some x
+        → lower_opt (plain arc calls) (Some x) (cheapest arc calls) ≡ false
     at_most before since x e l q =
         rw (cand-at arc calls before since e, q, best-at arc calls) at (B.best-le-cand (rule arc calls) Good laws (length before) (length calls) l)
 
-    at-most-some : (x : Best) (o : Option Best) → lower_opt (plain arc calls) (some x) o ≡ false → (m : Best) × (o ≡ some m) × (m.cost ≤ x.cost)
-    at-most-some x none h = absurd (true≢false h)
-    at-most-some x (some m) h = (m, refl, ltb-false x.cost m.cost h)
+    at-most-some : (x : Best) (o : Option Best) → lower_opt (plain arc calls) (Some x) o ≡ false → (m : Best) × (o ≡ Some m) × (m.cost ≤ x.cost)
+    at-most-some x None h = absurd (true≢false h)
+    at-most-some x (Some m) h = (m, refl, ltb-false x.cost m.cost h)
 
   -- ---- the cutting of calls is of the least cost
 
-  module _ (empty : arc [] ≡ none) where
-    least-below : (calls : List ℕ) (n : ℕ) → Reach calls n → (m : Best) × (cheapest arc calls ≡ some m) × (m.cost ≤ n)
+  module _ (empty : arc [] ≡ None) where
+    least-below : (calls : List ℕ) (n : ℕ) → Reach calls n → (m : Best) × (cheapest arc calls ≡ Some m) × (m.cost ≤ n)
     least-below calls n (start e z) = (nothing, ap (λ (l : List ℕ). cheapest arc l) e ∙ best_none arc, omega arith)
     least-below calls n (more before since k a R q e z) =
         let b = least-below before k R in
-        let x : Best = and_run b.0 since (some a) in
+        let x : Best = and_run b.0 since (Some a) in
         let m =
         at-most-some calls x (cheapest arc calls) (at_most calls before since x e (shorter since (λ s. clash (sym empty ∙ ap arc (sym s) ∙ q)) (ap length (sym e) ∙ length-append before since))
         (rw (b.1, q) refl)) in
@@ -190,11 +190,11 @@ module _ (arc : List ℕ → Option Arc) where
         shorter [] h s = absurd (h refl)
         shorter (c ∷ l) h s = omega arith
 
-  pub best_of : arc [] ≡ none → (calls : List ℕ) → BestOf calls (cheapest arc calls)
+  pub best_of : arc [] ≡ None → (calls : List ℕ) → BestOf calls (cheapest arc calls)
   best_of empty calls = record { cuts = good calls; below = least-below empty calls }
 
   -- the points of calls are a table of them
-  pub table : arc [] ≡ none → (calls : List ℕ) → Table [] calls (points arc calls)
+  pub table : arc [] ≡ None → (calls : List ℕ) → Table [] calls (points arc calls)
   table empty calls = subst (λ (ps : List Point). Table [] calls ps) (sym (points-are arc calls)) (go [] calls)
     where
       go : (pre rest : List ℕ) → Table pre rest (tails arc pre rest)
@@ -202,8 +202,8 @@ module _ (arc : List ℕ → Option Arc) where
       go pre (c ∷ rest) = (best_of empty pre, refl, go (pre ++ (c ∷ [])) rest)
 
   -- of two lists joined the least cost is at most the sum of the two
-  pub best-joined : arc [] ≡ none → (u v : List ℕ) (x y : Best) → cheapest arc u ≡ some x → cheapest arc v ≡ some y
-      → (m : Best) × (cheapest arc (u ++ v) ≡ some m) × (m.cost ≤ x.cost + y.cost)
+  pub best-joined : arc [] ≡ None → (u v : List ℕ) (x y : Best) → cheapest arc u ≡ Some x → cheapest arc v ≡ Some y
+      → (m : Best) × (cheapest arc (u ++ v) ≡ Some m) × (m.cost ≤ x.cost + y.cost)
   best-joined empty u v x y p q =
       (best_of empty (u ++ v)).below (x.cost + y.cost)
       (reach-append (best-reach u (cheapest arc u) (best_of empty u) x p) (best-reach v (cheapest arc v) (best_of empty v) y q))
@@ -223,11 +223,11 @@ module _ (arc : List ℕ → Option Arc) where
         ∙ ap (λ (n : ℕ). C.cand S (length (take k u)) n) (sym long)
         ∙ cand-at arc (u ++ (c ∷ [])) (take k u) (drop k u ++ (c ∷ [])) (sym (append_assoc (take k u) (drop k u) (c ∷ [])) ∙ ap (λ (l : List ℕ). l ++ (c ∷ [])) (take-append-drop k u))
 
-    pub best-earliest : (m : Best) → cheapest arc (u ++ (c ∷ [])) ≡ some m → Earliest u c (suc (length u)) m
+    pub best-earliest : (m : Best) → cheapest arc (u ++ (c ∷ [])) ≡ Some m → Earliest u c (suc (length u)) m
     best-earliest m e =
         let n = suc (length u) in
         let L = laws (u ++ (c ∷ [])) in
-        let is : C.best S n ≡ some m = ap (λ (k : ℕ). C.best S k) (sym long) ∙ best-at arc (u ++ (c ∷ [])) ∙ e in
+        let is : C.best S n ≡ Some m = ap (λ (k : ℕ). C.best S k) (sym long) ∙ best-at arc (u ++ (c ∷ [])) ∙ e in
         let r = B.last-run S _ L (length u) (rw is refl) in
         record {
           start = C.pred S n;

@@ -6,7 +6,7 @@ use mathlib.Core.Path.{◌≡◌, refl, ap, subst, ◌∙◌}
 use mathlib.Core.Logic.{◌⊎◌, inl, inr}
 use mathlib.Core.Bool.{Bool, true, false, cond}
 use mathlib.Core.List.{List, [], ◌∷◌, ◌++◌}
-use mathlib.Core.Option.{Option, none, some}
+use Rattle.std.specs.Prelude.{Option, None, Some}
 use lib.ListN.{length, get_or}
 use lib.Dec.{eqb}
 use borrow.Author.Tests.{eqb-true}
@@ -37,8 +37,8 @@ at-or-behind s i (w ∷ ws) left n j e = go (λ f. at-or-behind (next s w) (suc 
   where
     go : (walk (next s w) (suc i) ws left ≡ refused n j → suc i ≤ j) → (o : Option ℕ)
         → unless o i (cond (eqb w.kind 0xF) (behind (suc i) ws left) (walk (next s w) (suc i) ws left)) ≡ refused n j → i ≤ j
-    go ih (some m) f = omega (arith, index f)
-    go ih none f =
+    go ih (Some m) f = omega (arith, index f)
+    go ih None f =
         by-test (eqb w.kind 0xF)
         (λ t. omega (arith, behind-index (suc i) ws left n j (rw t at f)))
         (λ t. omega (arith, ih (rw t at f)))
@@ -65,8 +65,8 @@ leftmost s i (w ∷ xs) ys zs left left' n j e h =
 
     go : (walk (next s w) (suc i) (xs ++ ys) left ≡ refused n j → walk (next s w) (suc i) (xs ++ zs) left' ≡ refused n j) → (o : Option ℕ)
         → unless o i (on ys left) ≡ refused n j → unless o i (on zs left') ≡ refused n j
-    go ih (some m) f = f
-    go ih none f =
+    go ih (Some m) f = f
+    go ih None f =
         by-test (eqb w.kind 0xF)
         (λ t. rw t (after xs h (rw t at f)))
         (λ t. rw t (ih (rw t at f)))
@@ -89,14 +89,14 @@ module _ (s : State) (i : ℕ) (ws : List Word) where
 
   -- why refusal n is given at word number k: its own fault; 3 behind F, where a word stands or bytes are left over; 12 where the words have ended
   pub data Why (left : Bool) : (n k : ℕ) → Type 0 where
-    its-fault : {n k : ℕ} → k < length ws → fault_of k ≡ some n → Why left n k
+    its-fault : {n k : ℕ} → k < length ws → fault_of k ≡ Some n → Why left n k
     behind-f : {k : ℕ} → (word_at ws k).kind ≡ 0xF → (suc k < length ws) ⊎ (left ≡ true) → Why left 3 (suc k)
     missing : Why left 12 (length ws)
 
   pub record LeftmostBad (left : Bool) (n j : ℕ) : Type 0 where
     pub number : ℕ
     pub index : i + number ≡ j
-    pub clear : (k : ℕ) → k < number → fault_of k ≡ none
+    pub clear : (k : ℕ) → k < number → fault_of k ≡ None
     pub why : Why left n number
 
 -- the same, a word later
@@ -110,10 +110,10 @@ module _ (s : State) (i : ℕ) (w : Word) (ws : List Word) (left : Bool) where
   later-why (behind-f {k} f (inr l)) = behind-f {k = suc k} f (inr l)
   later-why missing = missing
 
-  later : {n j : ℕ} → fault_at s i w ≡ none → LeftmostBad (next s w) (suc i) ws left n j → LeftmostBad s i (w ∷ ws) left n j
+  later : {n j : ℕ} → fault_at s i w ≡ None → LeftmostBad (next s w) (suc i) ws left n j → LeftmostBad s i (w ∷ ws) left n j
   later {n} {j} e b = record { number = suc b.number; index = omega (arith, b.index); clear = clear; why = later-why b.why }
     where
-      clear : (k : ℕ) → k < suc b.number → fault_of s i (w ∷ ws) k ≡ none
+      clear : (k : ℕ) → k < suc b.number → fault_of s i (w ∷ ws) k ≡ None
       clear zero h = ap (λ (m : ℕ). fault_at s m w) (omega arith) ∙ e
       clear (suc k) h = later-fault k ∙ b.clear k (omega arith)
 
@@ -135,21 +135,21 @@ walk-leftmost s i (w ∷ ws) left n j e = go (λ f. walk-leftmost (next s w) (su
 
     go : (walk (next s w) (suc i) ws left ≡ refused n j → LeftmostBad (next s w) (suc i) ws left n j) → (o : Option ℕ) → fault_at s i w ≡ o
         → unless o i (cond (eqb w.kind 0xF) (behind (suc i) ws left) (walk (next s w) (suc i) ws left)) ≡ refused n j → LeftmostBad s i (w ∷ ws) left n j
-    go ih (some m) h f =
+    go ih (Some m) h f =
         record {
           number = 0;
           index = omega (arith, index f);
           clear = λ k l. absurd (not-suc-le-zero l);
-          why = its-fault {k = 0} (omega arith) (ap (λ (q : ℕ). fault_at s q w) (omega arith) ∙ h ∙ ap some (number_of f));
+          why = its-fault {k = 0} (omega arith) (ap (λ (q : ℕ). fault_at s q w) (omega arith) ∙ h ∙ ap Some (number_of f));
         }
-    go ih none h f =
+    go ih None h f =
         by-test (eqb w.kind 0xF)
         (λ t. let a = after ws left (rw t at f) in
         subst (λ (m : ℕ). LeftmostBad s i (w ∷ ws) left m j) a.0
         (record { number = 1; index = omega (arith, a.1); clear = first-clear h; why = behind-f {k = 0} (eqb-true w.kind 0xF t) a.2 }))
         (λ t. later s i w ws left h (ih (rw t at f)))
       where
-        first-clear : fault_at s i w ≡ none → (k : ℕ) → k < 1 → fault_of s i (w ∷ ws) k ≡ none
+        first-clear : fault_at s i w ≡ None → (k : ℕ) → k < 1 → fault_of s i (w ∷ ws) k ≡ None
         first-clear h zero l = ap (λ (m : ℕ). fault_at s m w) (omega arith) ∙ h
         first-clear h (suc k) l = absurd (omega arith)
 

@@ -5,7 +5,7 @@ use native.Mathlib.Nat.{le_refl, not-suc-le-zero}
 use mathlib.Core.Path.{◌≡◌, refl, sym, ap, subst, ◌∙◌}
 use mathlib.Core.Bool.{Bool, true, false, not, ◌&&◌, true≢false}
 use mathlib.Core.List.{List, [], ◌∷◌}
-use mathlib.Core.Option.{Option, none, some}
+use Rattle.std.specs.Prelude.{Option, None, Some}
 use lib.ListN.{length, get_or}
 use lib.Dec.{ltb}
 use borrow.Author.Tests.{eqb-true, eq-eqb, ne_eqb, leb-true, le-leb}
@@ -34,15 +34,15 @@ before-from s k a h x (c ∷ cs) =
     up : 0 < k → 0 < suc k
     up h = omega arith
 
-    at_other : 0 < k → break_at s 0 k ≡ none
+    at_other : 0 < k → break_at s 0 k ≡ None
     at_other h = rw (ne_eqb 0 k (λ e. off e)) refl
       where
         off : 0 ≡ k → ⊥
         off e = omega arith
 
 -- behind the call that has the break the place stays
-pub place-stays : (s : Sheet) (p k a : ℕ) → p < k → (m : Option Label) (calls : List ℕ) → ((l : Label) → m ≡ some l → l.place ≡ p)
-    → (l : Label) → serve_all s p k a m calls ≡ some l → l.place ≡ p
+pub place-stays : (s : Sheet) (p k a : ℕ) → p < k → (m : Option Label) (calls : List ℕ) → ((l : Label) → m ≡ Some l → l.place ≡ p)
+    → (l : Label) → serve_all s p k a m calls ≡ Some l → l.place ≡ p
 unfolding serve_all
 place-stays s p k a h m [] z l q = z l q
 place-stays s p k a h m (c ∷ cs) z l q =
@@ -54,15 +54,15 @@ place-stays s p k a h m (c ∷ cs) z l q =
     off : p ≡ k → ⊥
     off e = omega arith
 
-    step : (n : Label) → (m >>= serve s (break_at s p k) k a c) ≡ some n → n.place ≡ p
+    step : (n : Label) → (m >>= serve s (break_at s p k) k a c) ≡ Some n → n.place ≡ p
     step n e =
         let y = bound m _ n e in
-        let d : break_at s p k ≡ none = rw (ne_eqb p k (λ e. off e)) refl in
-        sym (serve-place s none k a c y.0 n (subst (λ (o : Option Break). serve s o k a c y.0 ≡ some n) d y.2)) ∙ z y.0 y.1
+        let d : break_at s p k ≡ None = rw (ne_eqb p k (λ e. off e)) refl in
+        sym (serve-place s None k a c y.0 n (subst (λ (o : Option Break). serve s o k a c y.0 ≡ Some n) d y.2)) ∙ z y.0 y.1
 
 -- ---- break places
 
-pub placed-call : (b : Break) (p n d : ℕ) → 0 < p → p ≤ n → placed (some b) p n d ≡ true
+pub placed-call : (b : Break) (p n d : ℕ) → 0 < p → p ≤ n → placed (Some b) p n d ≡ true
 unfolding placed
 placed-call b zero n d h i = absurd (not-suc-le-zero h)
 placed-call b (suc p) n d h i = le-leb (suc p) n i
@@ -72,33 +72,33 @@ module _ (s : Sheet) (calls : List ℕ) where
   with p = record { calls = calls; place = p }
 
   abbrev pub end : Clock
-  end = clock_from s 1 0 (record { before = some start; after = none }) calls
+  end = clock_from s 1 0 (record { before = Some start; after = None }) calls
 
   abbrev pub label_of : ℕ → Option Label
-  label_of p = serve_all s p 1 0 (some start) calls
+  label_of p = serve_all s p 1 0 (Some start) calls
 
   pub plain : end.before ≡ label_of 0
-  plain = before-from s 1 0 (le_refl 1) (record { before = some start; after = none }) calls
+  plain = before-from s 1 0 (le_refl 1) (record { before = Some start; after = None }) calls
 
-  pub unbroken : (l : Label) → label_of 0 ≡ some l → l.place ≡ 0
-  unbroken = place-stays s 0 1 0 (le_refl 1) (some start) calls (λ l q. sym (ap (λ (m : Label). m.place) (same q)))
+  pub unbroken : (l : Label) → label_of 0 ≡ Some l → l.place ≡ 0
+  unbroken = place-stays s 0 1 0 (le_refl 1) (Some start) calls (λ l q. sym (ap (λ (m : Label). m.place) (same q)))
 
   -- the run's totals by its label
-  pub rides : (p : ℕ) (l : Label) → label_of p ≡ some l → ride s (with p) ≡ home s calls l
+  pub rides : (p : ℕ) (l : Label) → label_of p ≡ Some l → ride s (with p) ≡ home s calls l
   unfolding ride
   rides p l e = ap (λ (o : Option Label). o >>= home s calls) e
 
-  pub ridden : (p : ℕ) (t : Totals) → ride s (with p) ≡ some t → (l : Label) × (label_of p ≡ some l) × (home s calls l ≡ some t)
+  pub ridden : (p : ℕ) (t : Totals) → ride s (with p) ≡ Some t → (l : Label) × (label_of p ≡ Some l) × (home s calls l ≡ Some t)
   unfolding ride
   ridden p t q = bound (label_of p) _ t q
 
   -- and by the clock, where there is a way back
-  pub clocked : (b : Leg) → drive s (last_of 0 calls) 0 ≡ some b → (l : Label) → counts s.head.rest b.travel end ≡ some l → clock s calls ≡ home s calls l
+  pub clocked : (b : Leg) → drive s (last_of 0 calls) 0 ≡ Some b → (l : Label) → counts s.head.rest b.travel end ≡ Some l → clock s calls ≡ home s calls l
   unfolding clock
   clocked b w l e = rw (w, e) refl
 
-  pub ticked : (t : Totals) → clock s calls ≡ some t
-      → (b : Leg) × (drive s (last_of 0 calls) 0 ≡ some b) × (l : Label) × (counts s.head.rest b.travel end ≡ some l) × (home s calls l ≡ some t)
+  pub ticked : (t : Totals) → clock s calls ≡ Some t
+      → (b : Leg) × (drive s (last_of 0 calls) 0 ≡ Some b) × (l : Label) × (counts s.head.rest b.travel end ≡ Some l) × (home s calls l ≡ Some t)
   unfolding clock
   ticked t q =
       let x = bound (drive s (last_of 0 calls) 0) _ t q in
@@ -106,13 +106,13 @@ module _ (s : Sheet) (calls : List ℕ) where
       (x.0, x.1, y.0, y.1, y.2)
 
   -- a run with a closed leg is none to the clock
-  pub clock-closed : distance_from s 0 calls ≡ none → clock s calls ≡ none
+  pub clock-closed : distance_from s 0 calls ≡ None → clock s calls ≡ None
   unfolding clock
   clock-closed e = unbound (drive s (last_of 0 calls) 0) _ (λ b. unbound (counts s.head.rest b.travel end) _ (home-closed s calls e))
 
   -- with that way back it comes to this
-  pub home_by_lem : (b : Leg) → drive s (last_of 0 calls) 0 ≡ some b → (l : Label) (t : Totals) → home s calls l ≡ some t
-      → (d : ℕ) × (distance_from s 0 calls ≡ some d) × (home_by s calls d b.travel l ≡ t)
+  pub home_by_lem : (b : Leg) → drive s (last_of 0 calls) 0 ≡ Some b → (l : Label) (t : Totals) → home s calls l ≡ Some t
+      → (d : ℕ) × (distance_from s 0 calls ≡ Some d) × (home_by s calls d b.travel l ≡ t)
   home_by_lem b w l t q =
       let x = home-has s calls l t q in
       (x.0, x.1, ap (λ (c : Leg). home_by s calls x.0 c.travel l) (same (sym w ∙ x.3)) ∙ x.4)
@@ -121,49 +121,49 @@ module _ (s : Sheet) (calls : List ℕ) where
 
   -- t is what the run comes to with the place that t has
   abbrev pub Own : Totals → Type 0
-  Own t = (ride s (with t.place) ≡ some t) × (placed s.head.rest t.place (length calls) t.duration ≡ true)
+  Own t = (ride s (with t.place) ≡ Some t) × (placed s.head.rest t.place (length calls) t.duration ≡ true)
 
   -- by a label, with so much time on the way back
   abbrev OwnLabel : ℕ → Label → Type 0
-  OwnLabel back l = (label_of l.place ≡ some l) × (placed s.head.rest l.place (length calls) (l.time + back) ≡ true)
+  OwnLabel back l = (label_of l.place ≡ Some l) × (placed s.head.rest l.place (length calls) (l.time + back) ≡ true)
 
-  own-label : (back : ℕ) (l : Label) → counts s.head.rest back end ≡ some l → OwnLabel back l
+  own-label : (back : ℕ) (l : Label) → counts s.head.rest back end ≡ Some l → OwnLabel back l
   unfolding placed
   own-label back l q = go s.head.rest refl
     where
-      unplaced : l.place ≡ 0 → label_of 0 ≡ some l → label_of l.place ≡ some l
+      unplaced : l.place ≡ 0 → label_of 0 ≡ Some l → label_of l.place ≡ Some l
       unplaced z e = ap label_of z ∙ e
 
       go : (o : Option Break) → s.head.rest ≡ o → OwnLabel back l
-      go none e =
-          let f : end.before ≡ some l = subst (λ (o : Option Break). counts o back end ≡ some l) e q in
+      go None e =
+          let f : end.before ≡ Some l = subst (λ (o : Option Break). counts o back end ≡ Some l) e q in
           let z = unbroken l (sym plain ∙ f) in
           (unplaced z (sym plain ∙ f), subst (λ (o : Option Break). placed o l.place (length calls) (l.time + back) ≡ true) (sym e) (eq-eqb l.place 0 z))
-      go (some b) e = by-test (holds end.before (λ m. excused b (m.time + back))) free (λ t. taken t)
+      go (Some b) e = by-test (holds end.before (λ m. excused b (m.time + back))) free (λ t. taken t)
         where
-          f : counts (some b) back end ≡ some l
-          f = subst (λ (o : Option Break). counts o back end ≡ some l) e q
+          f : counts (Some b) back end ≡ Some l
+          f = subst (λ (o : Option Break). counts o back end ≡ Some l) e q
 
-          back_to : placed (some b) l.place (length calls) (l.time + back) ≡ true → placed s.head.rest l.place (length calls) (l.time + back) ≡ true
+          back_to : placed (Some b) l.place (length calls) (l.time + back) ≡ true → placed s.head.rest l.place (length calls) (l.time + back) ≡ true
           back_to h = subst (λ (o : Option Break). placed o l.place (length calls) (l.time + back) ≡ true) (sym e) h
 
           free : holds end.before (λ m. excused b (m.time + back)) ≡ true → OwnLabel back l
           free t =
-              let g : end.before ≡ some l = rw t at f in
+              let g : end.before ≡ Some l = rw t at f in
               let z = unbroken l (sym plain ∙ g) in
               let h : excused b (l.time + back) ≡ true = subst (λ (o : Option Label). holds o (λ m. excused b (m.time + back)) ≡ true) g t in
-              (unplaced z (sym plain ∙ g), back_to (subst (λ (p : ℕ). placed (some b) p (length calls) (l.time + back) ≡ true) (sym z) h))
+              (unplaced z (sym plain ∙ g), back_to (subst (λ (p : ℕ). placed (Some b) p (length calls) (l.time + back) ≡ true) (sym z) h))
 
           taken : holds end.before (λ m. excused b (m.time + back)) ≡ false → OwnLabel back l
           taken t =
-              let g : end.after ≡ some l = rw t at f in
+              let g : end.after ≡ Some l = rw t at f in
               let o = (kept s b e calls).own l g in
               (o.0, back_to (placed-call b l.place (length calls) (l.time + back) o.1 (down l.place (length calls) o.2)))
             where
               down : (p n : ℕ) → p < 1 + n → p ≤ n
               down p n h = omega arith
 
-  pub clock-own : (t : Totals) → clock s calls ≡ some t → Own t
+  pub clock-own : (t : Totals) → clock s calls ≡ Some t → Own t
   clock-own t q =
       let (b, w, l, c, h) = ticked t q in
       let (d, e, f) = home_by_lem b w l t h in
@@ -173,24 +173,24 @@ module _ (s : Sheet) (calls : List ℕ) where
   -- ---- no place that the break may have is home earlier
 
   abbrev NoneEarlier : ℕ → Label → Type 0
-  NoneEarlier back l = (u : Label) × (counts s.head.rest back end ≡ some u) × (u.time ≤ l.time)
+  NoneEarlier back l = (u : Label) × (counts s.head.rest back end ≡ Some u) × (u.time ≤ l.time)
 
-  least-label : (back p : ℕ) (l : Label) → label_of p ≡ some l → placed s.head.rest p (length calls) (l.time + back) ≡ true → NoneEarlier back l
+  least-label : (back p : ℕ) (l : Label) → label_of p ≡ Some l → placed s.head.rest p (length calls) (l.time + back) ≡ true → NoneEarlier back l
   unfolding placed
   least-label back p l q h = go s.head.rest refl
     where
       go : (o : Option Break) → s.head.rest ≡ o → NoneEarlier back l
-      go none e =
+      go None e =
           let z = eqb-true p 0 (subst (λ (o : Option Break). placed o p (length calls) (l.time + back) ≡ true) e h) in
           (l, ap (λ (o : Option Break). counts o back end) e ∙ plain ∙ ap label_of (sym z) ∙ q, le_refl l.time)
-      go (some b) e = at p q (subst (λ (o : Option Break). placed o p (length calls) (l.time + back) ≡ true) e h)
+      go (Some b) e = at p q (subst (λ (o : Option Break). placed o p (length calls) (l.time + back) ≡ true) e h)
         where
-          chosen : counts s.head.rest back end ≡ counts (some b) back end
+          chosen : counts s.head.rest back end ≡ counts (Some b) back end
           chosen = ap (λ (o : Option Break). counts o back end) e
 
-          at : (p : ℕ) → label_of p ≡ some l → placed (some b) p (length calls) (l.time + back) ≡ true → NoneEarlier back l
+          at : (p : ℕ) → label_of p ≡ Some l → placed (Some b) p (length calls) (l.time + back) ≡ true → NoneEarlier back l
           at zero q h =
-              let g : end.before ≡ some l = plain ∙ q in
+              let g : end.before ≡ Some l = plain ∙ q in
               (l, chosen ∙ rw g (rw h refl), le_refl l.time)
           at (suc p) q h =
               by-test (holds end.before (λ m. excused b (m.time + back)))
@@ -203,8 +203,8 @@ module _ (s : Sheet) (calls : List ℕ) where
               up : (p n : ℕ) → suc p ≤ n → suc p < 1 + n
               up p n h = omega arith
 
-  pub clock-least : (p : ℕ) (t : Totals) → ride s (with p) ≡ some t → placed s.head.rest p (length calls) t.duration ≡ true
-      → (u : Totals) × (clock s calls ≡ some u) × (u.duration ≤ t.duration) × (u.distance ≡ t.distance)
+  pub clock-least : (p : ℕ) (t : Totals) → ride s (with p) ≡ Some t → placed s.head.rest p (length calls) t.duration ≡ true
+      → (u : Totals) × (clock s calls ≡ Some u) × (u.duration ≤ t.duration) × (u.distance ≡ t.distance)
   clock-least p t q h =
       let (l, e, f) = ridden p t q in
       let (d, r, b, w, g) = home-has s calls l t f in
@@ -218,8 +218,8 @@ module _ (s : Sheet) (calls : List ℕ) where
 -- ---- legal runs
 
 within-le : (limit : Option ℕ) (m n : ℕ) → m ≤ n → within limit n ≡ true → within limit m ≡ true
-within-le none m n h w = refl
-within-le (some limit) m n h w = let i = leb-true n limit w in le-leb m limit (omega arith)
+within-le None m n h w = refl
+within-le (Some limit) m n h w = let i = leb-true n limit w in le-leb m limit (omega arith)
 
 allowed-le : (s : Sheet) (u t : Totals) → u.duration ≤ t.duration → u.distance ≡ t.distance → allowed s t ≡ true → allowed s u ≡ true
 allowed-le s u t h e a =
@@ -230,7 +230,7 @@ allowed-le s u t h e a =
 pub record LegalFacts (s : Sheet) (r : Run) (t : Totals) : Type 0 where
   pub some-calls : not (is_empty r.calls) ≡ true
   pub room : fits s r.calls ≡ true
-  pub rode : ride s r ≡ some t
+  pub rode : ride s r ≡ Some t
   pub kept-limits : allowed s t ≡ true
   pub break-placed : placed s.head.rest r.place (length r.calls) t.duration ≡ true
 
@@ -248,7 +248,7 @@ unfolding legal
 has-legal s r t L = rw (L.some-calls, L.room, L.rode, L.kept-limits, L.break-placed) refl
 
 -- legal with some place, so legal by the clock
-pub legal-arc : (s : Sheet) (r : Run) → legal s r ≡ true → (a : Arc) × (arc s r.calls ≡ some a)
+pub legal-arc : (s : Sheet) (r : Run) → legal s r ≡ true → (a : Arc) × (arc s r.calls ≡ Some a)
 unfolding arc
 legal-arc s r h =
     let (t, L) = legal-has s r h in
@@ -257,8 +257,8 @@ legal-arc s r h =
     (record { place = y.0.place; cost = price s y.0.distance y.0.pay }, rw (y.1, L.some-calls, L.room, a) refl)
 
 -- what an arc has that prices one of the run's own totals
-pub arc-of : (s : Sheet) (calls : List ℕ) (o : Option Totals) → ((t : Totals) → o ≡ some t → Own s calls t) → (a : Arc) → (o >>= arc_of s calls) ≡ some a
-    → (t : Totals) × (o ≡ some t) × LegalFacts s (record { calls = calls; place = t.place }) t × (record { place = t.place; cost = price s t.distance t.pay } ≡ a)
+pub arc-of : (s : Sheet) (calls : List ℕ) (o : Option Totals) → ((t : Totals) → o ≡ Some t → Own s calls t) → (a : Arc) → (o >>= arc_of s calls) ≡ Some a
+    → (t : Totals) × (o ≡ Some t) × LegalFacts s (record { calls = calls; place = t.place }) t × (record { place = t.place; cost = price s t.distance t.pay } ≡ a)
 arc-of s calls o own a q =
     let y = bound o _ a q in
     let t = y.0 in
@@ -269,19 +269,19 @@ arc-of s calls o own a q =
     (t, y.1, record { some-calls = c.0; room = c.1; rode = o.0; kept-limits = b.1; break-placed = o.1 }, g.1)
 
 -- by the clock
-pub arc-clock : (s : Sheet) (calls : List ℕ) (a : Arc) → arc s calls ≡ some a
-    → (t : Totals) × (clock s calls ≡ some t) × LegalFacts s (record { calls = calls; place = t.place }) t × (record { place = t.place; cost = price s t.distance t.pay } ≡ a)
+pub arc-clock : (s : Sheet) (calls : List ℕ) (a : Arc) → arc s calls ≡ Some a
+    → (t : Totals) × (clock s calls ≡ Some t) × LegalFacts s (record { calls = calls; place = t.place }) t × (record { place = t.place; cost = price s t.distance t.pay } ≡ a)
 unfolding arc
 arc-clock s calls a q = arc-of s calls (clock s calls) (clock-own s calls) a q
 
 -- a run that is ridden has no closed leg, and its distance is that of its legs
-pub distance-of : (s : Sheet) (r : Run) (t : Totals) → ride s r ≡ some t → distance_from s 0 r.calls ≡ some t.distance
+pub distance-of : (s : Sheet) (r : Run) (t : Totals) → ride s r ≡ Some t → distance_from s 0 r.calls ≡ Some t.distance
 distance-of s r t q =
     let y = ridden s r.calls r.place t q in
     let x = home-has s r.calls y.0 t y.2 in
-    x.1 ∙ ap (λ (u : Totals). some u.distance) x.4
+    x.1 ∙ ap (λ (u : Totals). Some u.distance) x.4
 
-pub cost-of : (s : Sheet) (r : Run) (t : Totals) → ride s r ≡ some t → run_cost s r ≡ price s t.distance t.pay
+pub cost-of : (s : Sheet) (r : Run) (t : Totals) → ride s r ≡ Some t → run_cost s r ≡ price s t.distance t.pay
 unfolding run_cost
 cost-of s r t q = rw (q, distance-of s r t q) refl
 
@@ -293,7 +293,7 @@ facts-arc s calls a t L e =
     subst (λ (x : Arc). (legal s (record { calls = calls; place = x.place }) ≡ true) × (run_cost s (record { calls = calls; place = x.place }) ≡ x.cost)) e
     (has-legal s _ t L, cost-of s _ t L.rode)
 
-pub arc-legal : (s : Sheet) (calls : List ℕ) (a : Arc) → arc s calls ≡ some a
+pub arc-legal : (s : Sheet) (calls : List ℕ) (a : Arc) → arc s calls ≡ Some a
     → (legal s (record { calls = calls; place = a.place }) ≡ true) × (run_cost s (record { calls = calls; place = a.place }) ≡ a.cost)
 arc-legal s calls a q = let y = arc-clock s calls a q in facts-arc s calls a y.0 y.2 y.3
 
@@ -308,15 +308,15 @@ soft-no : (s : Sheet) → lateness_pay s ≡ false → (c : ℕ) → soft (custo
 unfolding any_soft
 soft-no s h c = any_false soft depot refl s.customers h c
 
-enter-free : (w : Option Window) (p : Option ℕ) → present w && present p ≡ false → (r : ℕ) (e : Entry) → enter w p r ≡ some e → e.pay ≡ 0
+enter-free : (w : Option Window) (p : Option ℕ) → present w && present p ≡ false → (r : ℕ) (e : Entry) → enter w p r ≡ Some e → e.pay ≡ 0
 unfolding enter
-enter-free none p h r e q = sym (ap (λ (x : Entry). x.pay) (same q))
-enter-free (some w) none h r e q =
+enter-free None p h r e q = sym (ap (λ (x : Entry). x.pay) (same q))
+enter-free (Some w) None h r e q =
     by-test (ltb w.due r) (λ t. clash (rw t at q)) (λ f. sym (ap (λ (x : Entry). x.pay) (same (rw f at q))))
-enter-free (some w) (some p) h r e q = absurd (true≢false h)
+enter-free (Some w) (Some p) h r e q = absurd (true≢false h)
 
 module _ (s : Sheet) (nopay : lateness_pay s ≡ false) where
-  serve-free : (here : Option Break) (k a c : ℕ) (l m : Label) → l.pay ≡ 0 → serve s here k a c l ≡ some m → m.pay ≡ 0
+  serve-free : (here : Option Break) (k a c : ℕ) (l m : Label) → l.pay ≡ 0 → serve s here k a c l ≡ Some m → m.pay ≡ 0
   serve-free here k a c l m z q =
       let x = serve-leg s here k a c l m q in
       let (r, t, e, i, f) = served-at (customer s c) here k x.0.travel l m x.2 in
@@ -325,16 +325,16 @@ module _ (s : Sheet) (nopay : lateness_pay s ≡ false) where
       sum0 : (a b c : ℕ) → a ≡ 0 → b ≡ 0 → a + b ≡ c → c ≡ 0
       sum0 a b c p q r = omega arith
 
-  served-free : (p k a : ℕ) (m : Option Label) (calls : List ℕ) → ((l : Label) → m ≡ some l → l.pay ≡ 0) → (l : Label) → serve_all s p k a m calls ≡ some l → l.pay ≡ 0
+  served-free : (p k a : ℕ) (m : Option Label) (calls : List ℕ) → ((l : Label) → m ≡ Some l → l.pay ≡ 0) → (l : Label) → serve_all s p k a m calls ≡ Some l → l.pay ≡ 0
   unfolding serve_all
   served-free p k a m [] z l q = z l q
   served-free p k a m (c ∷ cs) z l q =
       served-free p (suc k) c (m >>= serve s (break_at s p k) k a c) cs
       (λ n e. let y = bound m _ n e in serve-free (break_at s p k) k a c y.0 n (z y.0 y.1) y.2) l q
 
-  pub ride-free : (r : Run) (t : Totals) → ride s r ≡ some t → t.pay ≡ 0
+  pub ride-free : (r : Run) (t : Totals) → ride s r ≡ Some t → t.pay ≡ 0
   ride-free r t q =
       let y = ridden s r.calls r.place t q in
       let x = home-has s r.calls y.0 t y.2 in
       sym (ap (λ (u : Totals). u.pay) x.4)
-      ∙ served-free r.place 1 0 (some start) r.calls (λ l e. sym (ap (λ (x : Label). x.pay) (same e))) y.0 y.1
+      ∙ served-free r.place 1 0 (Some start) r.calls (λ l e. sym (ap (λ (x : Label). x.pay) (same e))) y.0 y.1

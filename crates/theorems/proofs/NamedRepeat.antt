@@ -5,7 +5,7 @@ use mathlib.Core.Path.{◌≡◌, refl, sym, ◌∙◌}
 use mathlib.Core.Bool.{true, false, false≢true}
 use mathlib.Core.List.{List, [], ◌∷◌}
 use mathlib.Core.Logic.{◌⊎◌, inl, inr}
-use mathlib.Core.Option.{some}
+use Rattle.std.specs.Prelude.{Some}
 use lib.Dec.{eqb}
 use borrow.Author.Tests.{eqb-true, eq-eqb}
 use Rattle.basics.proofs.TestLaws.{by-test, both}
@@ -21,14 +21,14 @@ data Given (n : ℕ) : List Refusal → Type 0 where
   here : {r : Refusal} {rs : List Refusal} → r.number ≡ n → r.fits ≡ true → Given n (r ∷ rs)
   later : {r : Refusal} {rs : List Refusal} → Given n rs → Given n (r ∷ rs)
 
-given : (rs : List Refusal) (n : ℕ) → first_fit rs ≡ some n → Given n rs
+given : (rs : List Refusal) (n : ℕ) → first_fit rs ≡ Some n → Given n rs
 given [] n e = clash e
 given (r ∷ rs) n e = by-test r.fits (λ t. here (same (rw t at e)) t) (λ f. later (given rs n (rw f at e)))
 
 other : {A : Type 0} (m n : ℕ) → eqb m n ≡ false → m ≡ n → A
 other m n f e = absurd (false≢true (sym f ∙ eq-eqb m n e))
 
-repeat-fits : (s : State) (i : ℕ) (w : Word) → fault_at s i w ≡ some 21 → repeated s w ≡ true
+repeat-fits : (s : State) (i : ℕ) (w : Word) → fault_at s i w ≡ Some 21 → repeated s w ≡ true
 unfolding fault_at
 repeat-fits s i w e = go (given (faults s i w) 21 e)
   where
@@ -70,7 +70,7 @@ pub record RepeatsAt (ws : List Word) (k : ℕ) : Type 0 where
   pub kind : (word_at ws k).kind ≡ 0xE
   pub called : CalledBefore ws k (word_at ws k).value
 
-pub named-repeat : (ws : List Word) (k : ℕ) → fault_of start 0 ws k ≡ some 21 → RepeatsAt ws k
+pub named-repeat : (ws : List Word) (k : ℕ) → fault_of start 0 ws k ≡ Some 21 → RepeatsAt ws k
 named-repeat ws k e =
     let w = word_at ws k in
     let s = state_at start ws k in

@@ -6,7 +6,7 @@ use native.Mathlib.Nat.{not-suc-le-zero}
 use mathlib.Core.Path.{◌≡◌, refl, sym, ap, subst, ◌∙◌}
 use mathlib.Core.Bool.{Bool, true, false, not, ◌&&◌}
 use mathlib.Core.List.{List, [], ◌∷◌, ◌++◌, map, append-nil, append_assoc}
-use mathlib.Core.Option.{Option, none, some}
+use Rattle.std.specs.Prelude.{Option, None, Some}
 use lib.ListN.{length, take, get_or, length-append, length-map}
 use Rattle.basics.proofs.TestLaws.{by-test, not-both, both, and-true}
 use Rattle.basics.specs.Options.{◌>>=◌, given}
@@ -58,7 +58,7 @@ module _ (s : Sheet) where
 
   -- every call alone can be driven to and back
   abbrev EachOpen : Type 0
-  EachOpen = (c : ℕ) → (d : ℕ) × (distance_from s 0 (c ∷ []) ≡ some d)
+  EachOpen = (c : ℕ) → (d : ℕ) × (distance_from s 0 (c ∷ []) ≡ Some d)
 
   light-reach : EachOpen → (before : List ℕ) (m : ℕ) → Reach (plain_arc s) before m → (calls : List ℕ) → Light calls → Cuttable (plain_arc s) (before ++ calls)
   unfolding plain_arc
@@ -69,7 +69,7 @@ module _ (s : Sheet) where
       let x = light-reach O (before ++ (c ∷ [])) (m + cost) (more before (c ∷ []) m (record { place = 0; cost = cost }) R (alone c b.0) refl refl) cs b.1 in
       (x.0, subst (λ (l : List ℕ). Reach (plain_arc s) l x.0) (append_assoc before (c ∷ []) cs) x.1)
     where
-      alone : (c : ℕ) → light_call c ≡ true → plain_arc s (c ∷ []) ≡ some (record { place = 0; cost = price s (O c).0 0 })
+      alone : (c : ℕ) → light_call c ≡ true → plain_arc s (c ∷ []) ≡ Some (record { place = 0; cost = price s (O c).0 0 })
       alone c t = ap (λ (o : Option ℕ). o >>= λ d. given {A = Arc} (fits s (c ∷ [])) (record { place = 0; cost = price s d 0 })) (O c).1 ∙ rw t refl
 
   light-cuttable : EachOpen → (calls : List ℕ) → Light calls → Cuttable (plain_arc s) calls
@@ -177,11 +177,11 @@ module _ (s : Sheet) (O : EachOpen s) (tour : List ℕ) where
           (subst (λ (y : ℕ). Settles Has tour (at (pre ++ post) (dropped ++ (y ∷ []))) (at (pre ++ only light post) (dropped ++ (x ∷ []) ++ only heavy post)))
           (sym (lib.Seq.get_or-append_seam pre x post 0)) r))))
 
-plain-empty : (s : Sheet) → plain_arc s [] ≡ none
+plain-empty : (s : Sheet) → plain_arc s [] ≡ None
 unfolding plain_arc
 plain-empty s = unbound (distance_from s 0 []) _ (λ d. refl)
 
-module _ (s : Sheet) (W : Within s) (O : any_closed some s.legs ≡ false) (tour : List ℕ) where
+module _ (s : Sheet) (W : Within s) (O : any_closed Some s.legs ≡ false) (tour : List ℕ) where
   each-open : EachOpen s
   each-open c = (_, run-open s W O 0 (c ∷ []))
 

@@ -5,7 +5,7 @@ use native.Mathlib.Nat.{zero-add}
 use mathlib.Core.Path.{◌≡◌, refl, sym, ap, subst, ◌∙◌}
 use mathlib.Core.Bool.{Bool, true, false, cond, not, true≢false}
 use mathlib.Core.List.{List, [], ◌∷◌, map, append-nil}
-use mathlib.Core.Option.{Option, none, some}
+use Rattle.std.specs.Prelude.{Option, None, Some}
 use lib.ListN.{length, get_or, length-append, length-map}
 use lib.Dec.{ltb, leb, eqb}
 use borrow.Author.Tests.{ltb-false, le-ltb, leb-true, eqb-true, eq-eqb, ne_eqb}
@@ -77,9 +77,9 @@ filled (x ∷ l) h = omega arith
 
 placed-in : (rest : Option Break) (place n duration : ℕ) → placed rest place n duration ≡ true → place ≤ cond (present rest) n 0
 unfolding placed
-placed-in none place n duration h = omega (arith, eqb-true place 0 h)
-placed-in (some b) zero n duration h = omega arith
-placed-in (some b) (suc k) n duration h = leb-true (suc k) n h
+placed-in None place n duration h = omega (arith, eqb-true place 0 h)
+placed-in (Some b) zero n duration h = omega arith
+placed-in (Some b) (suc k) n duration h = leb-true (suc k) n h
 
 -- each break place of legal runs is at most the number of their calls
 at_most : (b : Bool) (p n : ℕ) → p ≤ cond b n 0 → p ≤ n
@@ -137,7 +137,7 @@ module _ (p : Placement) {F : Type 0} (value : F → Option ℕ) (l : Lent F) wh
   abbrev pub own_lent : Lent F
   own_lent = record { sheet = l.sheet; tour = l.tour; calls = plan.served; ends = plan.ends; breaks = plan.places; rooms = [] }
 
-  module _ (accepted : refusal_of value cutting l ≡ none) where
+  module _ (accepted : refusal_of value cutting l ≡ None) where
     A : Accepted value cutting l
     A = accepted-within value cutting l accepted
 
@@ -175,7 +175,7 @@ module _ (p : Placement) {F : Type 0} (value : F → Option ℕ) (l : Lent F) wh
         }
 
     -- the marker accepts it where the cutting accepts the sheet and its tour
-    pub own-accepted : refusal_of value marking own_lent ≡ none
+    pub own-accepted : refusal_of value marking own_lent ≡ None
     unfolding whole_sheet
     own-accepted =
         accepted-none value marking own_lent

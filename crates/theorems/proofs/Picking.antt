@@ -6,7 +6,7 @@ use mathlib.Core.Path.{◌≡◌, refl, sym, ap, ◌∙◌}
 use mathlib.Core.Logic.{◌⊎◌, inl, inr, ⊎_elim}
 use mathlib.Core.Bool.{true, false}
 use mathlib.Core.List.{map}
-use mathlib.Core.Option.{Option, none, some}
+use Rattle.std.specs.Prelude.{Option, None, Some}
 use lib.Dec.{ltb, eqb}
 use borrow.Author.Tests.{ltb-true, ltb-false, eqb-true, eqb-false, eq-eqb}
 use Rattle.basics.proofs.TestLaws.{by-test, not-both}
@@ -83,18 +83,18 @@ module _ (new old : Totals) where
 
 -- ---- the better of two
 
-pick-old : (x : Totals) (n : Option Totals) → (v : Totals) × (pick (some x) n ≡ some v) × AtMost v x
-pick-old x none = (x, refl, at-most-same x)
-pick-old x (some y) = by-test (preferred y x) (λ t. (y, rw t refl, preferred-at-most y x t)) (λ f. (x, rw f refl, at-most-same x))
+pick-old : (x : Totals) (n : Option Totals) → (v : Totals) × (pick (Some x) n ≡ Some v) × AtMost v x
+pick-old x None = (x, refl, at-most-same x)
+pick-old x (Some y) = by-test (preferred y x) (λ t. (y, rw t refl, preferred-at-most y x t)) (λ f. (x, rw f refl, at-most-same x))
 
-pick-new : (o : Option Totals) (t : Totals) → ((x : Totals) → o ≡ some x → x.place ≤ t.place) → (v : Totals) × (pick o (some t) ≡ some v) × AtMost v t
-pick-new none t h = (t, refl, at-most-same t)
-pick-new (some x) t h = by-test (preferred t x) (λ p. (t, rw p refl, at-most-same t)) (λ f. (x, rw f refl, kept-at-most t x f (h x refl)))
+pick-new : (o : Option Totals) (t : Totals) → ((x : Totals) → o ≡ Some x → x.place ≤ t.place) → (v : Totals) × (pick o (Some t) ≡ Some v) × AtMost v t
+pick-new None t h = (t, refl, at-most-same t)
+pick-new (Some x) t h = by-test (preferred t x) (λ p. (t, rw p refl, at-most-same t)) (λ f. (x, rw f refl, kept-at-most t x f (h x refl)))
 
-pick-one : (o n : Option Totals) (v : Totals) → pick o n ≡ some v → (o ≡ some v) ⊎ (n ≡ some v)
-pick-one none n v q = inr q
-pick-one (some x) none v q = inl q
-pick-one (some x) (some y) v q = by-test (preferred y x) (λ t. inr (rw t at q)) (λ f. inl (rw f at q))
+pick-one : (o n : Option Totals) (v : Totals) → pick o n ≡ Some v → (o ≡ Some v) ⊎ (n ≡ Some v)
+pick-one None n v q = inr q
+pick-one (Some x) None v q = inl q
+pick-one (Some x) (Some y) v q = by-test (preferred y x) (λ t. inr (rw t at q)) (λ f. inl (rw f at q))
 
 -- ---- the best of the places from a on, n of them, and of what there was before
 
@@ -103,23 +103,23 @@ module _ (f : ℕ → Option Totals) where
   picked old a n = pick_all old (map f (count a n))
 
   -- it is one of them
-  pub picked-one : (P : Totals → Type 0) → ((p : ℕ) (t : Totals) → f p ≡ some t → P t) → (old : Option Totals) → ((x : Totals) → old ≡ some x → P x)
-      → (a n : ℕ) (u : Totals) → picked old a n ≡ some u → P u
+  pub picked-one : (P : Totals → Type 0) → ((p : ℕ) (t : Totals) → f p ≡ Some t → P t) → (old : Option Totals) → ((x : Totals) → old ≡ Some x → P x)
+      → (a n : ℕ) (u : Totals) → picked old a n ≡ Some u → P u
   picked-one P each old h a zero u e = h u e
   picked-one P each old h a (suc n) u e = picked-one P each (pick old (f a)) (λ x q. ⊎_elim (h x) (each a x) (pick-one old (f a) x q)) (suc a) n u e
 
   -- the best so far is no worse than what was kept
-  pub picked-old : (a n : ℕ) (old : Option Totals) (t : Totals) → old ≡ some t → (u : Totals) × (picked old a n ≡ some u) × AtMost u t
+  pub picked-old : (a n : ℕ) (old : Option Totals) (t : Totals) → old ≡ Some t → (u : Totals) × (picked old a n ≡ Some u) × AtMost u t
   picked-old a zero old t e = (t, e, at-most-same t)
   picked-old a (suc n) old t e =
       let y = pick-old t (f a) in
       let z = picked-old (suc a) n (pick old (f a)) y.0 (ap (λ (o : Option Totals). pick o (f a)) e ∙ y.1) in
       (z.0, z.1, at-most-trans z.0 y.0 t z.2 y.2)
 
-  module _ (own : (p : ℕ) (t : Totals) → f p ≡ some t → t.place ≡ p) where
+  module _ (own : (p : ℕ) (t : Totals) → f p ≡ Some t → t.place ≡ p) where
     -- nor than any of the places
-    pub picked-new : (a n : ℕ) (old : Option Totals) → ((x : Totals) → old ≡ some x → x.place < a) → (p : ℕ) (t : Totals) → a ≤ p → p < a + n → f p ≡ some t
-        → (u : Totals) × (picked old a n ≡ some u) × AtMost u t
+    pub picked-new : (a n : ℕ) (old : Option Totals) → ((x : Totals) → old ≡ Some x → x.place < a) → (p : ℕ) (t : Totals) → a ≤ p → p < a + n → f p ≡ Some t
+        → (u : Totals) × (picked old a n ≡ Some u) × AtMost u t
     picked-new a zero old B p t h i e = absurd (off h i)
       where
         off : a ≤ p → p < a + 0 → ⊥
@@ -127,9 +127,9 @@ module _ (f : ℕ → Option Totals) where
     picked-new a (suc n) old B p t h i e =
         by-test (eqb p a) (λ q. here (eqb-true p a q)) (λ q. picked-new (suc a) n (pick old (f a)) next p t (above (eqb-false p a q) h) (inside i) e)
       where
-        here : p ≡ a → (u : Totals) × (picked old a (suc n) ≡ some u) × AtMost u t
+        here : p ≡ a → (u : Totals) × (picked old a (suc n) ≡ Some u) × AtMost u t
         here q =
-            let e' : f a ≡ some t = ap f (sym q) ∙ e in
+            let e' : f a ≡ Some t = ap f (sym q) ∙ e in
             let y = pick-new old t (λ x g. behind q (own p t e) (B x g)) in
             let z = picked-old (suc a) n (pick old (f a)) y.0 (ap (pick old) e' ∙ y.1) in
             (z.0, z.1, at-most-trans z.0 y.0 t z.2 y.2)
@@ -137,7 +137,7 @@ module _ (f : ℕ → Option Totals) where
             behind : {k : ℕ} → p ≡ a → t.place ≡ p → k < a → k ≤ t.place
             behind q r l = omega arith
 
-        next : (x : Totals) → pick old (f a) ≡ some x → x.place < suc a
+        next : (x : Totals) → pick old (f a) ≡ Some x → x.place < suc a
         next x g = ⊎_elim (λ l. up (B x l)) (λ r. at (own a x r)) (pick-one old (f a) x g)
           where
             up : x.place < a → x.place < suc a

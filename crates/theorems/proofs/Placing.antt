@@ -6,7 +6,7 @@ use native.Mathlib.Nat.{le_refl}
 use mathlib.Core.Path.{◌≡◌, refl, sym, ap, ap₂, subst, ◌∙◌}
 use mathlib.Core.Bool.{Bool, true, false}
 use mathlib.Core.List.{List, [], ◌∷◌, map, head-eq_of_cons-eq, tail-eq_of_cons-eq}
-use mathlib.Core.Option.{Option, some}
+use Rattle.std.specs.Prelude.{Option, Some}
 use lib.Dec.{eqb}
 use borrow.Author.Tests.{eqb-true, eq-eqb}
 use Rattle.basics.proofs.TestLaws.{both, and-true}
@@ -32,7 +32,7 @@ module _ (s : Sheet) where
   -- ---- least pay
 
   -- where some place is legal there is an arc, and it costs no more
-  pub pays-least : (r : Run) → legal s r ≡ true → (a : Arc) × (least_arc s r.calls ≡ some a) × (a.cost ≤ run_cost s r)
+  pub pays-least : (r : Run) → legal s r ≡ true → (a : Arc) × (least_arc s r.calls ≡ Some a) × (a.cost ≤ run_cost s r)
   unfolding least_arc
   pays-least r h =
       let (t, L) = legal-has s r h in
@@ -50,10 +50,10 @@ module _ (s : Sheet) where
 
   module _ (p : Placement) where
     -- the answer for a run is that of its own place
-    pub totals-own : (calls : List ℕ) (t : Totals) → totals_by p s calls ≡ some t → Own s calls t
+    pub totals-own : (calls : List ℕ) (t : Totals) → totals_by p s calls ≡ Some t → Own s calls t
     totals-own calls t q = go p q
       where
-        go : (p : Placement) → totals_by p s calls ≡ some t → Own s calls t
+        go : (p : Placement) → totals_by p s calls ≡ Some t → Own s calls t
         go by_clock q = clock-own s calls t q
         go by_pay q = least-own s calls t q
 
@@ -66,15 +66,15 @@ module _ (s : Sheet) where
         go by_pay = refl
 
     -- what an arc has
-    pub arc-has : (calls : List ℕ) (a : Arc) → arc_by p s calls ≡ some a
-        → (t : Totals) × (totals_by p s calls ≡ some t) × LegalFacts s (with s calls t.place) t × (record { place = t.place; cost = price s t.distance t.pay } ≡ a)
+    pub arc-has : (calls : List ℕ) (a : Arc) → arc_by p s calls ≡ Some a
+        → (t : Totals) × (totals_by p s calls ≡ Some t) × LegalFacts s (with s calls t.place) t × (record { place = t.place; cost = price s t.distance t.pay } ≡ a)
     arc-has calls a q = arc-of s calls (totals_by p s calls) (totals-own calls) a (sym (arc-is calls) ∙ q)
 
     -- a run that is legal with some place has one by the placement
-    pub has-arc : (r : Run) → legal s r ≡ true → (a : Arc) × (arc_by p s r.calls ≡ some a)
+    pub has-arc : (r : Run) → legal s r ≡ true → (a : Arc) × (arc_by p s r.calls ≡ Some a)
     has-arc r h = go p
       where
-        go : (p : Placement) → (a : Arc) × (arc_by p s r.calls ≡ some a)
+        go : (p : Placement) → (a : Arc) × (arc_by p s r.calls ≡ Some a)
         go by_clock = legal-arc s r h
         go by_pay = let y = pays-least r h in (y.0, y.1)
 
@@ -92,7 +92,7 @@ module _ (s : Sheet) where
         (ap (λ (n : ℕ). record { calls = r.calls; place = n }) (ap place_or t.1 ∙ eqb-true t.0.place r.place t.2))
         (placed-runs rs b.1)
 
-    named : (calls : List ℕ) (t : Totals) (n : ℕ) → totals_by p s calls ≡ some t → t.place ≡ n → holds (totals_by p s calls) (λ t. eqb t.place n) ≡ true
+    named : (calls : List ℕ) (t : Totals) (n : ℕ) → totals_by p s calls ≡ Some t → t.place ≡ n → holds (totals_by p s calls) (λ t. eqb t.place n) ≡ true
     named calls t n e q = ap (λ (o : Option Totals). holds o (λ t. eqb t.place n)) e ∙ eq-eqb t.place n q
 
     -- the other way round, where they are legal
@@ -125,7 +125,7 @@ module _ (s : Sheet) where
         (placed-worth rs b.1 c.1)
 
     -- without lateness pay a legal run costs what its arc says, whatever its place
-    pub free-cost : lateness_pay s ≡ false → (r : Run) → legal s r ≡ true → (a : Arc) → arc_by p s r.calls ≡ some a → run_cost s r ≡ a.cost
+    pub free-cost : lateness_pay s ≡ false → (r : Run) → legal s r ≡ true → (a : Arc) → arc_by p s r.calls ≡ Some a → run_cost s r ≡ a.cost
     free-cost z r h a q =
         let (t, L) = legal-has s r h in
         let (u, _, M, e) = arc-has r.calls a q in

@@ -5,7 +5,7 @@ use native.Mathlib.Nat.{le_refl, zero-add}
 use mathlib.Core.Path.{◌≡◌, refl, sym, ap, subst, ◌∙◌}
 use mathlib.Core.Bool.{true, false, false≢true}
 use mathlib.Core.List.{List, [], ◌∷◌}
-use mathlib.Core.Option.{Option, none, some}
+use Rattle.std.specs.Prelude.{Option, None, Some}
 use lib.ListN.{length, take, length-map}
 use lib.Seq.{take-length}
 use Rattle.basics.proofs.TestLaws.{both, and-true}
@@ -31,19 +31,19 @@ settles-same P Q tour f b (goes k l x a r) = goes k l (λ q. x (b _ q)) (λ i c.
 
 -- an arc is a legal run at its cost, and where some place is legal there is an arc
 pub record Pricing (s : Sheet) (price : List ℕ → Option Arc) : Type 0 where
-  pub sound : (calls : List ℕ) (a : Arc) → price calls ≡ some a
+  pub sound : (calls : List ℕ) (a : Arc) → price calls ≡ Some a
       → (legal s (record { calls = calls; place = a.place }) ≡ true) × (run_cost s (record { calls = calls; place = a.place }) ≡ a.cost)
-  pub complete : (r : Run) → legal s r ≡ true → (a : Arc) × (price r.calls ≡ some a)
+  pub complete : (r : Run) → legal s r ≡ true → (a : Arc) × (price r.calls ≡ Some a)
 
 module _ (s : Sheet) (price : List ℕ → Option Arc) (P : Pricing s price) where
   -- a cutting has no empty run
-  pub no-empty : price [] ≡ none
+  pub no-empty : price [] ≡ None
   unfolding legal
   no-empty = go (price []) refl
     where
-      go : (o : Option Arc) → price [] ≡ o → price [] ≡ none
-      go none e = e
-      go (some a) e = absurd (false≢true (P.sound [] a e).0)
+      go : (o : Option Arc) → price [] ≡ o → price [] ≡ None
+      go None e = e
+      go (Some a) e = absurd (false≢true (P.sound [] a e).0)
 
   pub made-legal : (rs : List Run) → Made price rs → (legal_cutting s rs ≡ true) × (cutting_cost s rs ≡ worth price rs)
   made-legal [] M = (refl, refl)
@@ -81,7 +81,7 @@ module _ (s : Sheet) (price : List ℕ → Option Arc) (P : Pricing s price) whe
     calls = calls_at tour final.held
 
     -- the served calls have a cutting
-    pub cut : (m : Best) × (cheapest price calls ≡ some m)
+    pub cut : (m : Best) × (cheapest price calls ≡ Some m)
     cut =
         let c = settled (Cuttable price) tour (settles price tour no-empty) (length final.held) (le_refl (length final.held)) in
         let e : take (length final.held) calls ≡ calls = ap (λ (n : ℕ). take n calls) (sym (length-map final.held (call_at tour))) ∙ take-length calls in

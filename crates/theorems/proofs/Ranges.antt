@@ -3,7 +3,7 @@ use Prim.Native.Nat.{ℕ, zero, suc, ◌*◌}
 use mathlib.Core.Path.{◌≡◌, refl}
 use mathlib.Core.Bool.{Bool, false, ◌&&◌, ◌||◌, not}
 use mathlib.Core.List.{List, [], ◌∷◌}
-use mathlib.Core.Option.{Option, none, some}
+use Rattle.std.specs.Prelude.{Option, None, Some}
 use lib.ListN.{length, get_or}
 use lib.Dec.{ltb, eqb}
 use Rattle.basics.proofs.TestLaws.{or_left, or_right}
@@ -81,25 +81,25 @@ module _ {F : Type 0} (value : F → Option ℕ) where
     pub latest : unfit value is_number b.latest ≡ false
     pub duration : unfit value is_number b.duration ≡ false
 
-  pub break-in-range : (b : BreakOf F) → bad_break value (some b) ≡ false → BreakInRange b
+  pub break-in-range : (b : BreakOf F) → bad_break value (Some b) ≡ false → BreakInRange b
   break-in-range b h =
       let f = each (unfit value is_number b.earliest ∷ unfit value is_number b.latest ∷ unfit value is_number b.duration ∷ []) h in
       record { earliest = f 0; latest = f 1; duration = f 2 }
 
-  pub range-break : (b : BreakOf F) → BreakInRange b → bad_break value (some b) ≡ false
+  pub range-break : (b : BreakOf F) → BreakInRange b → bad_break value (Some b) ≡ false
   range-break b R = rw (R.earliest, R.latest, R.duration)
 
   pub record WindowInRange (w : WindowOf F) : Type 0 where
     pub ready : unfit value is_number w.ready ≡ false
     pub due : unfit value is_number w.due ≡ false
 
-  pub window-in-range : (w : WindowOf F) → bad_window value (some w) ≡ false → WindowInRange w
+  pub window-in-range : (w : WindowOf F) → bad_window value (Some w) ≡ false → WindowInRange w
   window-in-range w h =
       let r = unfit value is_number w.ready in
       let d = unfit value is_number w.due in
       record { ready = or_left r d h; due = or_right r d h }
 
-  pub range-window : (w : WindowOf F) → WindowInRange w → bad_window value (some w) ≡ false
+  pub range-window : (w : WindowOf F) → WindowInRange w → bad_window value (Some w) ≡ false
   range-window w R = rw (R.ready, R.due)
 
   pub record CustomerInRange (c : CustomerOf F) : Type 0 where
@@ -236,7 +236,7 @@ module _ {F : Type 0} (value : F → Option ℕ) where
   fits_by n k l = test_of n (refusals value k l)
 
   -- where the call is accepted it fails, as `not-refused k l h 13 : too_short k l ≡ false`
-  pub not-refused : (k : Call) (l : Lent F) → refusal_of value k l ≡ none → (n : ℕ) → fits_by n k l ≡ false
+  pub not-refused : (k : Call) (l : Lent F) → refusal_of value k l ≡ None → (n : ℕ) → fits_by n k l ≡ false
   unfolding refusal_of refusals
   not-refused k l h n = none-fits (refusals value k l) h n
 

@@ -2,7 +2,7 @@
 use Prim.Native.Nat.{ℕ}
 use mathlib.Core.Path.{◌≡◌, refl, sym, ap, subst, ◌∙◌}
 use mathlib.Core.List.{List, [], ◌∷◌, ◌++◌, map, append-nil, append_assoc}
-use mathlib.Core.Option.{Option, none, some}
+use Rattle.std.specs.Prelude.{Option, None, Some}
 use Rattle.definitions.specs.Clock.{Arc}
 use Rattle.definitions.specs.Cutting.{Best, Point, longer, nothing, least, grow, points_from, points, last_best, cheapest}
 
@@ -21,11 +21,11 @@ module _ (arc : List ℕ → Option Arc) where
   points-snoc u c = points-more _ u (c ∷ [])
 
   -- one more call: the scan of all cut points before it
-  pub best-snoc : (u : List ℕ) (c : ℕ) → cheapest arc (u ++ (c ∷ [])) ≡ least arc none (map (longer c) (points arc u))
+  pub best-snoc : (u : List ℕ) (c : ℕ) → cheapest arc (u ++ (c ∷ [])) ≡ least arc None (map (longer c) (points arc u))
   unfolding cheapest
-  best-snoc u c = ap (λ (ps : List Point). last_best none ps) (points-snoc u c) ∙ last_snoc none (map (longer c) (points arc u)) _
+  best-snoc u c = ap (λ (ps : List Point). last_best None ps) (points-snoc u c) ∙ last_snoc None (map (longer c) (points arc u)) _
 
-  pub best_none : cheapest arc [] ≡ some nothing
+  pub best_none : cheapest arc [] ≡ Some nothing
   unfolding cheapest points_from
   best_none = refl
 

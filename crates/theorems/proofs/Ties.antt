@@ -6,7 +6,7 @@ use native.Mathlib.Nat.{le_refl, not-suc-le-zero, le_of_suc-le-suc}
 use mathlib.Core.Path.{◌≡◌, refl, sym, ap, subst, ◌∙◌}
 use mathlib.Core.Bool.{true}
 use mathlib.Core.List.{List, [], ◌∷◌, ◌++◌, append-nil, nil≢cons, head-eq_of_cons-eq, tail-eq_of_cons-eq}
-use mathlib.Core.Option.{Option, none, some}
+use Rattle.std.specs.Prelude.{Option, None, Some}
 use lib.ListN.{length, take, drop, length-append}
 use lib.Seq.{length-take-le, take-append_seam, drop-append_seam}
 use lib.Dec.{ltb}
@@ -46,7 +46,7 @@ module _ (s : Sheet) (price : List ℕ → Option Arc) (P : Pricing s price) (Ri
     (legal-rival : (rs : List Run) → Rival rs → legal_cutting s rs ≡ true) (dear-rival : (rs : List Run) → Rival rs → worth price rs ≤ cutting_cost s rs) where
   -- a rival's last run starts at a cut point, whose candidate costs no more than the rival
   rival-candidate : (u : List ℕ) (c : ℕ) (ts : List Run) (t : Run) → joined (ts ++ (t ∷ [])) ≡ u ++ (c ∷ []) → Rival (ts ++ (t ∷ []))
-      → (x : Best) × (candidate price u c (length (joined ts)) ≡ some x) × (x.cost ≤ cutting_cost s (ts ++ (t ∷ [])))
+      → (x : Best) × (candidate price u c (length (joined ts)) ≡ Some x) × (x.cost ≤ cutting_cost s (ts ++ (t ∷ [])))
   rival-candidate u c ts t e R =
       let L = all-parts (legal s) ts (t ∷ []) (legal-rival _ R) in
       let a = P.complete t (both (legal s t) _ L.1).0 in
@@ -66,8 +66,8 @@ module _ (s : Sheet) (price : List ℕ → Option Arc) (P : Pricing s price) (Ri
       sums b w a x y z h e f g = omega arith
 
   -- the last run of the best starts no later than a rival's of equal cost
-  early : (u : List ℕ) (c : ℕ) (m : Best) (e : cheapest price (u ++ (c ∷ [])) ≡ some m) (E : Earliest price u c (suc (length u)) m)
-      (b : Best) → cheapest price (take E.start u) ≡ some b → (r : Run) → b.runs ++ (r ∷ []) ≡ m.runs
+  early : (u : List ℕ) (c : ℕ) (m : Best) (e : cheapest price (u ++ (c ∷ [])) ≡ Some m) (E : Earliest price u c (suc (length u)) m)
+      (b : Best) → cheapest price (take E.start u) ≡ Some b → (r : Run) → b.runs ++ (r ∷ []) ≡ m.runs
       → (ts : List Run) (t : Run) → joined (ts ++ (t ∷ [])) ≡ joined (b.runs ++ (r ∷ [])) → Rival (ts ++ (t ∷ [])) → cutting_cost s (ts ++ (t ∷ [])) ≡ cutting_cost s (b.runs ++ (r ∷ []))
       → length (joined b.runs) ≤ length (joined ts)
   early u c m e E b p r runs ts t j R f =
@@ -84,12 +84,12 @@ module _ (s : Sheet) (price : List ℕ → Option Arc) (P : Pricing s price) (Ri
       dearer m x z h i e = omega arith
 
   -- ties go early for calls whose shorter beginnings have it so
-  ties-step : (n : ℕ) (calls : List ℕ) → length calls ≤ suc n → ((l : List ℕ) → length l ≤ n → (m : Best) → cheapest price l ≡ some m → Ties s Rival m.runs)
-      → (m : Best) → cheapest price calls ≡ some m → Ties s Rival m.runs
+  ties-step : (n : ℕ) (calls : List ℕ) → length calls ≤ suc n → ((l : List ℕ) → length l ≤ n → (m : Best) → cheapest price l ≡ Some m → Ties s Rival m.runs)
+      → (m : Best) → cheapest price calls ≡ Some m → Ties s Rival m.runs
   ties-step n [] h ih m e = subst (λ (b : Best). Ties s Rival b.runs) (same (sym (best_none price) ∙ e)) no_run
   ties-step n (x ∷ l) h ih m e =
       let (u, c, is) = last_of x l in
-      let e' : cheapest price (u ++ (c ∷ [])) ≡ some m = ap (cheapest price) (sym is) ∙ e in
+      let e' : cheapest price (u ++ (c ∷ [])) ≡ Some m = ap (cheapest price) (sym is) ∙ e in
       let E = best-earliest price u c m e' in
       let y = bound (cheapest price (take E.start u)) _ m E.made in
       let z = bound (price (drop E.start u ++ (c ∷ []))) _ m y.2 in
@@ -103,14 +103,14 @@ module _ (s : Sheet) (price : List ℕ → Option Arc) (P : Pricing s price) (Ri
       shorter : (a b k : ℕ) → a ≡ b → b < suc k → length (x ∷ l) ≡ suc k → a ≤ n
       shorter a b k e f g = omega arith
 
-  ties-in : (n : ℕ) (calls : List ℕ) → length calls ≤ n → (m : Best) → cheapest price calls ≡ some m → Ties s Rival m.runs
+  ties-in : (n : ℕ) (calls : List ℕ) → length calls ≤ n → (m : Best) → cheapest price calls ≡ Some m → Ties s Rival m.runs
   ties-in zero calls h m e =
-      ties-step zero calls (omega arith) (λ l i b f. subst (λ (q : Best). Ties s Rival q.runs) (same (sym (best_none price) ∙ ap (cheapest price) (sym (none l i)) ∙ f)) no_run) m e
+      ties-step zero calls (omega arith) (λ l i b f. subst (λ (q : Best). Ties s Rival q.runs) (same (sym (best_none price) ∙ ap (cheapest price) (sym (None l i)) ∙ f)) no_run) m e
     where
-      none : (l : List ℕ) → length l ≤ 0 → l ≡ []
-      none [] i = refl
-      none (x ∷ l) i = absurd (not-suc-le-zero i)
+      None : (l : List ℕ) → length l ≤ 0 → l ≡ []
+      None [] i = refl
+      None (x ∷ l) i = absurd (not-suc-le-zero i)
   ties-in (suc n) calls h m e = ties-step n calls h (λ l i b f. ties-in n l i b f) m e
 
-  pub ties-early : (calls : List ℕ) (m : Best) → cheapest price calls ≡ some m → Ties s Rival m.runs
+  pub ties-early : (calls : List ℕ) (m : Best) → cheapest price calls ≡ Some m → Ties s Rival m.runs
   ties-early calls m e = ties-in (length calls) calls (le_refl (length calls)) m e

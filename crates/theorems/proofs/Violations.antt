@@ -5,7 +5,7 @@ use native.Mathlib.Nat.{le_refl}
 use mathlib.Core.Path.{◌≡◌, refl, sym, ap, subst, ◌∙◌}
 use mathlib.Core.Bool.{Bool, true, false, not, ◌&&◌, ◌||◌, and-true, and-false, and_assoc, or-false, not-not}
 use mathlib.Core.List.{List, [], ◌∷◌, ◌++◌, append_assoc}
-use mathlib.Core.Option.{Option, none, some}
+use Rattle.std.specs.Prelude.{Option, None, Some}
 use lib.ListN.{length, length-append}
 use lib.Dec.{leb, eqb}
 use borrow.Author.Tests.{le-leb}
@@ -79,31 +79,31 @@ module _ (s : Sheet) (place : ℕ) where
       by-test (present (entered s c (ready_for s (break_at s place k) a c l))) (λ t. rw t (omega arith)) (λ f. rw f (omega arith))
 
   -- a call that fails though its leg is open and the break is not there is reached after due
-  shut : (k a c : ℕ) (leg : Leg) → drive s a c ≡ some leg → (l : Label) → s.head.rest ≡ none → serve s (break_at s place k) k a c l ≡ none
+  shut : (k a c : ℕ) (leg : Leg) → drive s a c ≡ Some leg → (l : Label) → s.head.rest ≡ None → serve s (break_at s place k) k a c l ≡ None
       → present (entered s c (ready_for s (break_at s place k) a c l)) ≡ false
   unfolding serve_at ready
   shut k a c leg w l e q =
-      subst (λ (o : Option Break). serve s o k a c l ≡ none → present (entered s c (ready_for s o a c l)) ≡ false) (sym nowhere)
+      subst (λ (o : Option Break). serve s o k a c l ≡ None → present (entered s c (ready_for s o a c l)) ≡ false) (sym nowhere)
       (λ r. ap (λ (t : ℕ). present (entered s c t)) (arrives-by s l a c leg w)
       ∙ ap (λ (o : Option Entry). present o) (nothing-mapped (entered s c (l.time + leg.travel)) _ (rw (w, serve_at) at r))) q
     where
-      nowhere : break_at s place k ≡ none
+      nowhere : break_at s place k ≡ None
       nowhere = rw e (by-test (eqb place k) (λ t. rw t refl) (λ f. rw f refl))
 
   -- without a break on the sheet only a window can fail, and then it is among the violations
-  missed : s.head.rest ≡ none → (k a : ℕ) (l : Label) (calls : List ℕ) (d : ℕ) → distance_from s a calls ≡ some d
-      → serve_all s place k a (some l) calls ≡ none → is_empty (windows_from s place k a l calls) ≡ false
+  missed : s.head.rest ≡ None → (k a : ℕ) (l : Label) (calls : List ℕ) (d : ℕ) → distance_from s a calls ≡ Some d
+      → serve_all s place k a (Some l) calls ≡ None → is_empty (windows_from s place k a l calls) ≡ false
   unfolding serve_all windows_from
   missed e k a l [] d h q = clash (sym q)
   missed e k a l (c ∷ cs) d h q = go (serve s (break_at s place k) k a c l) refl (λ m r. missed e (suc k) c m cs on.2 on.3 r)
     where
-      on : (l : Leg) × (drive s a c ≡ some l) × (e : ℕ) × (distance_from s c cs ≡ some e) × (l.length + e ≡ d)
+      on : (l : Leg) × (drive s a c ≡ Some l) × (e : ℕ) × (distance_from s c cs ≡ Some e) × (l.length + e ≡ d)
       on = distance-on s a c cs d h
 
-      go : (o : Option Label) → serve s (break_at s place k) k a c l ≡ o → ((m : Label) → serve_all s place (suc k) c (some m) cs ≡ none → is_empty (windows_from s place (suc k) c m cs) ≡ false)
+      go : (o : Option Label) → serve s (break_at s place k) k a c l ≡ o → ((m : Label) → serve_all s place (suc k) c (Some m) cs ≡ None → is_empty (windows_from s place (suc k) c m cs) ≡ false)
           → is_empty (windows_from s place k a l (c ∷ cs)) ≡ false
-      go none f ih = rw (shut k a c on.0 on.1 l e f) refl
-      go (some m) f ih =
+      go None f ih = rw (shut k a c on.0 on.1 l e f) refl
+      go (Some m) f ih =
           let v = visited-served s (break_at s place k) k a c l m f in
           rw v.1 (ap (λ (x : Label). is_empty (windows_from s place (suc k) c x cs)) v.0 ∙ ih m (ap (λ (o : Option Label). serve_all s place (suc k) c o cs) (sym f) ∙ q))
 
@@ -177,19 +177,19 @@ module _ (s : Sheet) (calls : List ℕ) where
   violations_by o = ordered (missed_by o) (reported_by o) (totals_by o)
 
   -- a closed leg is the only violation of its run
-  pub closed-alone : (leg : ℕ) → first_closed s calls ≡ some leg → (build_route s calls).violations ≡ closed_leg leg ∷ []
+  pub closed-alone : (leg : ℕ) → first_closed s calls ≡ Some leg → (build_route s calls).violations ≡ closed_leg leg ∷ []
   closed-alone leg e = ap (λ (r : Route). r.violations) (route-closed s calls leg e)
 
-  totals-are : first_closed s calls ≡ none → totals_by (clock s calls) ≡ (build_route s calls).totals
+  totals-are : first_closed s calls ≡ None → totals_by (clock s calls) ≡ (build_route s calls).totals
   unfolding open_route
   totals-are o = sym (ap (λ (r : Route). r.totals) (route-open s calls o))
 
-  violations-are : first_closed s calls ≡ none → (build_route s calls).violations ≡ violations_by (clock s calls)
+  violations-are : first_closed s calls ≡ None → (build_route s calls).violations ≡ violations_by (clock s calls)
   unfolding open_route
   violations-are o = ap (λ (r : Route). r.violations) (route-open s calls o)
 
   -- of a run without a closed leg the break is reported exactly when the sheet has one, the clock has no answer, and no window violation is reported
-  pub break-reported : first_closed s calls ≡ none
+  pub break-reported : first_closed s calls ≡ None
       → any is_break (build_route s calls).violations ≡ (present s.head.rest && not (present (clock s calls)) && not (any is_window (build_route s calls).violations))
   break-reported roads = rw (violations-are roads) (go (clock s calls))
     where
@@ -206,39 +206,39 @@ module _ (s : Sheet) (calls : List ℕ) where
   unfolding route_feasible route_eval
   no-violation = by (first_closed s calls) refl
     where
-      answered : (t : Totals) → clock s calls ≡ some t → route_feasible s calls ≡ allowed s t
+      answered : (t : Totals) → clock s calls ≡ Some t → route_feasible s calls ≡ allowed s t
       answered t e = rw e (by-test (allowed s t) (λ t. rw t refl) (λ f. rw f refl))
 
       -- without a break on the sheet a window is missed, and with one the break is reported
-      nowhere : (d : ℕ) → distance_from s 0 calls ≡ some d → clock s calls ≡ none → (r : Option Break) → s.head.rest ≡ r → is_empty (missed_by none) ≡ true → is_empty (violations_by none) ≡ false
-      nowhere d h e (some b) r w = empty-ordered (missed_by none) (reported_by none) (totals_by none) ∙ rw (w, ap (λ (o : Option Break). present o) r) refl
-      nowhere d h e none r w = not-both (is_empty (missed_by none)) w (missed s 0 r 1 0 start calls d h (none_left (label_of s calls 0) refl))
+      nowhere : (d : ℕ) → distance_from s 0 calls ≡ Some d → clock s calls ≡ None → (r : Option Break) → s.head.rest ≡ r → is_empty (missed_by None) ≡ true → is_empty (violations_by None) ≡ false
+      nowhere d h e (Some b) r w = empty-ordered (missed_by None) (reported_by None) (totals_by None) ∙ rw (w, ap (λ (o : Option Break). present o) r) refl
+      nowhere d h e None r w = not-both (is_empty (missed_by None)) w (missed s 0 r 1 0 start calls d h (none_left (label_of s calls 0) refl))
         where
-          back : (b : Leg) × (drive s (last_of 0 calls) 0 ≡ some b)
+          back : (b : Leg) × (drive s (last_of 0 calls) 0 ≡ Some b)
           back = distance-home s 0 calls d h
 
-          none_left : (o : Option Label) → label_of s calls 0 ≡ o → o ≡ none
-          none_left none q = refl
-          none_left (some l) q =
+          none_left : (o : Option Label) → label_of s calls 0 ≡ o → o ≡ None
+          none_left None q = refl
+          none_left (Some l) q =
               clash (sym e
               ∙ clocked s calls back.0 back.1 l (ap (λ (o : Option Break). counts o back.0.travel (end s calls)) r ∙ plain s calls ∙ q) ∙ home-is s calls d back.0 h back.1 l)
 
-      go : first_closed s calls ≡ none → (o : Option Totals) → clock s calls ≡ o → is_empty (violations_by o) ≡ (fits s calls && route_feasible s calls)
-      go roads none e =
+      go : first_closed s calls ≡ None → (o : Option Totals) → clock s calls ≡ o → is_empty (violations_by o) ≡ (fits s calls && route_feasible s calls)
+      go roads None e =
           let d = open-distance s 1 0 calls roads in
-          by-test (is_empty (missed_by none)) (λ w. nowhere d.0 d.1 e s.head.rest refl w)
-          (λ w. empty-ordered (missed_by none) (reported_by none) (totals_by none) ∙ rw w refl)
+          by-test (is_empty (missed_by None)) (λ w. nowhere d.0 d.1 e s.head.rest refl w)
+          (λ w. empty-ordered (missed_by None) (reported_by None) (totals_by None) ∙ rw w refl)
           ∙ rw e (sym (and-false (fits s calls)))
-      go roads (some t) e =
+      go roads (Some t) e =
           let v = visits-clock s calls t e in
-          ap (λ (w : List Violation). is_empty (ordered w (present s.head.rest && false && is_empty w) (totals_by (some t)))) v.1
+          ap (λ (w : List Violation). is_empty (ordered w (present s.head.rest && false && is_empty w) (totals_by (Some t)))) v.1
           ∙ ap (λ (u : Totals). is_empty (ordered [] (present s.head.rest && false && true) u)) (sym (ap totals_by e) ∙ totals-are roads ∙ v.0)
           ∙ empty-ordered [] (present s.head.rest && false && true) t
           ∙ rw (and-false (present s.head.rest)) (and_assoc (fits s calls) _ _ ∙ ap (λ (b : Bool). fits s calls && b) (sym (answered t e)))
 
       by : (o : Option ℕ) → first_closed s calls ≡ o → is_empty (build_route s calls).violations ≡ (fits s calls && route_feasible s calls)
-      by (some leg) e = rw (closed-alone leg e, clock-closed s calls (closed-distance s 1 0 calls leg e)) (sym (and-false (fits s calls)))
-      by none e = rw (violations-are e) (go e (clock s calls) refl)
+      by (Some leg) e = rw (closed-alone leg e, clock-closed s calls (closed-distance s 1 0 calls leg e)) (sym (and-false (fits s calls)))
+      by None e = rw (violations-are e) (go e (clock s calls) refl)
 
   -- how many there are at most: the windows missed, the break or none, the load or none, two limits
   room-ordered : (w : List Violation) (q : Bool) (t : Totals)
@@ -249,7 +249,7 @@ module _ (s : Sheet) (calls : List ℕ) where
       simp length-append (omega arith)
 
   -- where the windows missed are n and one more at most, so are they with the break
-  room_within : first_closed s calls ≡ none → (n k : ℕ) → length (missed_by (clock s calls)) ≤ suc n → length (overloads (load s calls) s.head.capacity) ≤ k
+  room_within : first_closed s calls ≡ None → (n k : ℕ) → length (missed_by (clock s calls)) ≤ suc n → length (overloads (load s calls) s.head.capacity) ≤ k
       → length (build_route s calls).violations ≤ suc n + k + 2
   room_within roads n k w f =
       let o = clock s calls in
@@ -257,7 +257,7 @@ module _ (s : Sheet) (calls : List ℕ) where
       let b = break-room (missed_by o) (present s.head.rest && not (present o)) n w in
       rw (violations-are roads) (omega arith)
 
-open-room : (s : Sheet) (calls : List ℕ) → first_closed s calls ≡ none → length (build_route s calls).violations ≤ violation_room (length calls)
+open-room : (s : Sheet) (calls : List ℕ) → first_closed s calls ≡ None → length (build_route s calls).violations ≤ violation_room (length calls)
 unfolding windows_from
 open-room s [] o = let r = room_within s [] o 0 0 (omega arith) (none-overloads s.head.capacity) in omega arith
 open-room s (c ∷ cs) o =
@@ -270,5 +270,5 @@ pub violations-room : (s : Sheet) (calls : List ℕ) → length (build_route s c
 violations-room s calls = go (first_closed s calls) refl
   where
     go : (o : Option ℕ) → first_closed s calls ≡ o → length (build_route s calls).violations ≤ violation_room (length calls)
-    go none e = open-room s calls e
-    go (some leg) e = rw (closed-alone s calls leg e) (omega arith)
+    go None e = open-room s calls e
+    go (Some leg) e = rw (closed-alone s calls leg e) (omega arith)

@@ -4,7 +4,7 @@ use Prim.Native.Nat.{ℕ, suc, ◌+◌}
 use mathlib.Core.Path.{◌≡◌, refl, sym, ap, ◌∙◌}
 use mathlib.Core.Bool.{true, cond}
 use mathlib.Core.List.{List, [], ◌∷◌}
-use mathlib.Core.Option.{Option, none, some}
+use Rattle.std.specs.Prelude.{Option, None, Some}
 use lib.Dec.{eqb-zero-suc}
 use borrow.Author.Tests.{eqb-true}
 use Rattle.basics.specs.Options.{◌>>=◌, present, value_or}
@@ -23,11 +23,11 @@ use Rattle.theorems.proofs.Marking.{served-none}
 -- ---- with a closed leg, and without one
 
 module _ (s : Sheet) (calls : List ℕ) where
-  pub route-closed : (leg : ℕ) → first_closed s calls ≡ some leg → build_route s calls ≡ closed_route leg
+  pub route-closed : (leg : ℕ) → first_closed s calls ≡ Some leg → build_route s calls ≡ closed_route leg
   unfolding build_route
   route-closed leg e = rw (e, build_route) refl
 
-  pub route-open : first_closed s calls ≡ none → build_route s calls ≡ open_route s calls
+  pub route-open : first_closed s calls ≡ None → build_route s calls ≡ open_route s calls
   unfolding build_route
   route-open e = rw (e, build_route) refl
 
@@ -35,18 +35,18 @@ module _ (s : Sheet) (calls : List ℕ) where
 
 module _ (s : Sheet) where
   -- along a leg that can be driven
-  pub arrives-by : (l : Label) (a c : ℕ) (leg : Leg) → drive s a c ≡ some leg → arrives_at s a c l ≡ l.time + leg.travel
+  pub arrives-by : (l : Label) (a c : ℕ) (leg : Leg) → drive s a c ≡ Some leg → arrives_at s a c l ≡ l.time + leg.travel
   arrives-by l a c leg e = ap (λ (o : Option ℕ). l.time + value_or 0 o) (drive-has s a c leg e).1
 
   -- a call that is served is visited so
-  pub visited-served : (here : Option Break) (k a c : ℕ) (l m : Label) → serve s here k a c l ≡ some m
+  pub visited-served : (here : Option Break) (k a c : ℕ) (l m : Label) → serve s here k a c l ≡ Some m
       → (visited s here k a c l ≡ m) × (present (entered s c (ready_for s here a c l)) ≡ true)
   unfolding visited
   visited-served here k a c l m q =
       let g = serve-leg s here k a c l m q in
       let (n, x, e, y, z) = served-at (customer s c) here k g.0.travel l m g.2 in
       let r : ready_for s here a c l ≡ n = ap (λ (t : ℕ). value_or t (ready here t)) (arrives-by l a c g.0 g.1) ∙ ap (λ (o : Option ℕ). value_or (l.time + g.0.travel) o) x in
-      let f : entered s c (ready_for s here a c l) ≡ some e = ap (λ (n : ℕ). entered s c n) r ∙ y in
+      let f : entered s c (ready_for s here a c l) ≡ Some e = ap (λ (n : ℕ). entered s c n) r ∙ y in
       (ap (λ (o : Option Entry). by o) f ∙ z, ap (λ (o : Option Entry). present o) f)
     where
       by : Option Entry → Label
@@ -55,17 +55,17 @@ module _ (s : Sheet) where
           record { time = n.start + (customer s c).service; lateness = l.lateness + n.lateness; pay = l.pay + n.pay; place = place_after here k l.place }
 
   module _ (place : ℕ) where
-    pub last-served : (k a : ℕ) (l : Label) (calls : List ℕ) (m : Label) → serve_all s place k a (some l) calls ≡ some m
+    pub last-served : (k a : ℕ) (l : Label) (calls : List ℕ) (m : Label) → serve_all s place k a (Some l) calls ≡ Some m
         → (last_label s place k a l calls ≡ m) × (windows_from s place k a l calls ≡ [])
     unfolding serve_all last_label windows_from
     last-served k a l [] m q = (same q, refl)
     last-served k a l (c ∷ cs) m q = go (serve s (break_at s place k) k a c l) refl (λ n r. last-served (suc k) c n cs m r)
       where
         go : (o : Option Label) → serve s (break_at s place k) k a c l ≡ o
-            → ((n : Label) → serve_all s place (suc k) c (some n) cs ≡ some m → (last_label s place (suc k) c n cs ≡ m) × (windows_from s place (suc k) c n cs ≡ []))
+            → ((n : Label) → serve_all s place (suc k) c (Some n) cs ≡ Some m → (last_label s place (suc k) c n cs ≡ m) × (windows_from s place (suc k) c n cs ≡ []))
             → (last_label s place k a l (c ∷ cs) ≡ m) × (windows_from s place k a l (c ∷ cs) ≡ [])
-        go none e ih = clash (sym (served-none s 0 place (suc k) c cs) ∙ ap (λ (o : Option Label). serve_all s place (suc k) c o cs) (sym e) ∙ q)
-        go (some n) e ih =
+        go None e ih = clash (sym (served-none s 0 place (suc k) c cs) ∙ ap (λ (o : Option Label). serve_all s place (suc k) c o cs) (sym e) ∙ q)
+        go (Some n) e ih =
             let r = ih n (ap (λ (o : Option Label). serve_all s place (suc k) c o cs) (sym e) ∙ q) in
             let v = visited-served (break_at s place k) k a c l n e in (
               ap (λ (x : Label). last_label s place (suc k) c x cs) v.0 ∙ r.0,
@@ -73,11 +73,11 @@ module _ (s : Sheet) where
             )
 
   -- a run that the clock has an answer for has no closed leg
-  pub clock-open : (calls : List ℕ) (t : Totals) → clock s calls ≡ some t → first_closed s calls ≡ none
+  pub clock-open : (calls : List ℕ) (t : Totals) → clock s calls ≡ Some t → first_closed s calls ≡ None
   clock-open calls t e = distance-open s 1 0 calls t.distance (distance-of s (record { calls = calls; place = t.place }) t (clock-own s calls t e).0)
 
   -- the totals are the clock's, and no window is missed
-  pub visits-clock : (calls : List ℕ) (t : Totals) → clock s calls ≡ some t → ((build_route s calls).totals ≡ t) × (windows_from s t.place 1 0 start calls ≡ [])
+  pub visits-clock : (calls : List ℕ) (t : Totals) → clock s calls ≡ Some t → ((build_route s calls).totals ≡ t) × (windows_from s t.place 1 0 start calls ≡ [])
   unfolding open_route
   visits-clock calls t e =
       let o = clock-own s calls t e in
@@ -97,7 +97,7 @@ module _ (s : Sheet) where
 abbrev pub unrested : Sheet → Sheet
 unrested s =
     record {
-      head = record { places = s.head.places; capacity = s.head.capacity; fixed = s.head.fixed; max_distance = s.head.max_distance; max_duration = s.head.max_duration; rest = none };
+      head = record { places = s.head.places; capacity = s.head.capacity; fixed = s.head.fixed; max_distance = s.head.max_distance; max_duration = s.head.max_duration; rest = None };
       customers = s.customers;
       legs = record { distances = s.legs.distances; times = s.legs.times };
     }
@@ -106,42 +106,42 @@ module _ (s : Sheet) where
   unrested-visits : (k a : ℕ) (l : Label) (n : Load) (calls : List ℕ) → visits_from s 0 (suc k) a l n calls ≡ visits_from (unrested s) 0 (suc k) a l n calls
   unfolding visits_from visited
   unrested-visits k a l n [] = refl
-  unrested-visits k a l n (c ∷ cs) = rw (eqb-zero-suc k, unrested-visits (suc k) c (visited s none (suc k) a c l) (plus n (customer s c).demand) cs) refl
+  unrested-visits k a l n (c ∷ cs) = rw (eqb-zero-suc k, unrested-visits (suc k) c (visited s None (suc k) a c l) (plus n (customer s c).demand) cs) refl
 
   unrested-last : (k a : ℕ) (l : Label) (calls : List ℕ) → last_label s 0 (suc k) a l calls ≡ last_label (unrested s) 0 (suc k) a l calls
   unfolding last_label visited
   unrested-last k a l [] = refl
-  unrested-last k a l (c ∷ cs) = rw (eqb-zero-suc k) (unrested-last (suc k) c (visited s none (suc k) a c l) cs)
+  unrested-last k a l (c ∷ cs) = rw (eqb-zero-suc k) (unrested-last (suc k) c (visited s None (suc k) a c l) cs)
 
   unrested-distance : (a : ℕ) (calls : List ℕ) → distance_from s a calls ≡ distance_from (unrested s) a calls
   unfolding drive
   unrested-distance a [] = refl
-  unrested-distance a (c ∷ cs) = ap (λ (o : Option ℕ). drive s a c >>= λ l. o >>= λ d. some (l.length + d)) (unrested-distance c cs)
+  unrested-distance a (c ∷ cs) = ap (λ (o : Option ℕ). drive s a c >>= λ l. o >>= λ d. Some (l.length + d)) (unrested-distance c cs)
 
   unrested-home : (calls : List ℕ) (l : Label) → home s calls l ≡ home (unrested s) calls l
   unfolding drive home
   unrested-home calls l =
-      ap (λ (o : Option ℕ). o >>= λ d. drive s (last_of 0 calls) 0 >>= λ b. some (record { distance = d; duration = l.time + b.travel; lateness = l.lateness; pay = l.pay; place = l.place }))
+      ap (λ (o : Option ℕ). o >>= λ d. drive s (last_of 0 calls) 0 >>= λ b. Some (record { distance = d; duration = l.time + b.travel; lateness = l.lateness; pay = l.pay; place = l.place }))
       (unrested-distance 0 calls)
 
   unrested-closed : (k a : ℕ) (calls : List ℕ) → closed_from s k a calls ≡ closed_from (unrested s) k a calls
   unfolding drive closed_from
   unrested-closed k a [] = refl
-  unrested-closed k a (c ∷ cs) = ap (λ (o : Option ℕ). cond (present (drive s a c)) o (some k)) (unrested-closed (suc k) c cs)
+  unrested-closed k a (c ∷ cs) = ap (λ (o : Option ℕ). cond (present (drive s a c)) o (Some k)) (unrested-closed (suc k) c cs)
 
   unrested-place : (calls : List ℕ) → place_or (clock (unrested s) calls) ≡ 0
   unfolding placed
   unrested-place calls = go (clock (unrested s) calls) refl
     where
       go : (o : Option Totals) → clock (unrested s) calls ≡ o → place_or o ≡ 0
-      go none e = refl
-      go (some t) e = eqb-true t.place 0 (clock-own (unrested s) calls t e).1
+      go None e = refl
+      go (Some t) e = eqb-true t.place 0 (clock-own (unrested s) calls t e).1
 
   -- an unplaceable break is left out: the visits are those of the run with place 0
-  pub left_out : (calls : List ℕ) → first_closed s calls ≡ none → clock s calls ≡ none
+  pub left_out : (calls : List ℕ) → first_closed s calls ≡ None → clock s calls ≡ None
       → ((build_route s calls).visits ≡ visits_from s 0 1 0 start no_load calls)
       × ((build_route s calls).totals ≡ value_or no_totals (home s calls (last_label s 0 1 0 start calls)))
-      × ((build_route s calls).start ≡ none)
+      × ((build_route s calls).start ≡ None)
   unfolding open_route start_of
   left_out calls o e = rw (route-open s calls o) (rw e (refl, refl, refl))
 
@@ -149,13 +149,13 @@ module _ (s : Sheet) where
   abbrev Alike : Route → Route → Type 0
   Alike x y = (x.visits ≡ y.visits) × (x.totals ≡ y.totals) × (x.start ≡ y.start)
 
-  pub visits-unclocked : (calls : List ℕ) → clock s calls ≡ none → Alike (build_route s calls) (build_route (unrested s) calls)
+  pub visits-unclocked : (calls : List ℕ) → clock s calls ≡ None → Alike (build_route s calls) (build_route (unrested s) calls)
   unfolding open_route start_of
   visits-unclocked calls e = go (first_closed s calls) refl
     where
       go : (o : Option ℕ) → first_closed s calls ≡ o → Alike (build_route s calls) (build_route (unrested s) calls)
-      go (some leg) c = rw (route-closed s calls leg c, route-closed (unrested s) calls leg (sym (unrested-closed 1 0 calls) ∙ c)) (refl, refl, refl)
-      go none c =
+      go (Some leg) c = rw (route-closed s calls leg c, route-closed (unrested s) calls leg (sym (unrested-closed 1 0 calls) ∙ c)) (refl, refl, refl)
+      go None c =
           rw (route-open s calls c, route-open (unrested s) calls (sym (unrested-closed 1 0 calls) ∙ c))
           (rw (e, unrested-place calls) (
             unrested-visits 0 0 start no_load calls,

@@ -4,7 +4,7 @@ use native.Mathlib.Omega.{arith}
 use mathlib.Core.Path.{◌≡◌, refl, sym, ap, ◌∙◌}
 use mathlib.Core.Bool.{true, false, false≢true}
 use mathlib.Core.List.{List, [], ◌∷◌, map}
-use mathlib.Core.Option.{none}
+use Rattle.std.specs.Prelude.{None}
 use lib.ListN.{length, get_or, length-map}
 use Rattle.definitions.specs.Sheet.{Sheet, any_soft}
 use Rattle.definitions.specs.Run.{Run}
@@ -72,10 +72,10 @@ unfolding opened
 needless-drop held D = let n : Same 1 0 = ap length (drops-one base tour held (1 ∷ []) D) in omega (arith, n)
 
 -- customer 1 can't be reached by 9, and customer 2 is dropped in its place
-pub another-call-dropped : (held : List ℕ) → Drops (until 9 none) tour held (2 ∷ []) → ⊥
+pub another-call-dropped : (held : List ℕ) → Drops (until 9 None) tour held (2 ∷ []) → ⊥
 unfolding opened
 another-call-dropped held D =
-    let n : Same 2 1 = ap (λ (l : List ℕ). get_or l 0 0) (drops-one (until 9 none) tour held (2 ∷ []) D) in
+    let n : Same 2 1 = ap (λ (l : List ℕ). get_or l 0 0) (drops-one (until 9 None) tour held (2 ∷ []) D) in
     omega (arith, n)
 
 -- ---- against `partition`: a position is both served and dropped

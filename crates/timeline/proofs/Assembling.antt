@@ -5,7 +5,7 @@ use native.Mathlib.Omega.{arith}
 use mathlib.Core.Path.{◌≡◌, refl, sym, ap, ◌∙◌}
 use mathlib.Core.Bool.{Bool}
 use mathlib.Core.List.{List, []}
-use mathlib.Core.Option.{Option, none, some}
+use Rattle.std.specs.Prelude.{Option, None, Some}
 use lib.ListN.{length, length-take, get_or, take}
 use lib.Seq.{get_or-take}
 use lib.Ieee as Ieee
@@ -16,7 +16,7 @@ use Rattle.definitions.specs.Sheet.{BreakOf}
 use Rattle.whole.specs.Whole.{fl}
 use Rattle.distance.specs.declared.leg.Leg.{Leg}
 use Rattle.models.specs.Load.{load_of}
-use Rattle.evaluation.specs.Records.{Tables, LimitsF, start_of}
+use Rattle.evaluation.specs.Records.{Tables, LimitsF}
 use Rattle.evaluation.specs.Tables.{leg_f}
 use Rattle.evaluation.specs.Way.{closed_f}
 use Rattle.evaluation.proofs.Reading.{get_d_of}
@@ -37,13 +37,13 @@ use Rattle.timeline.specs.Timing.{started_f, given_start_f, given_rest_f, untake
 -- what is read of the first n visits
 pub start_first : (rest : Option (BreakOf Float)) (place n : ℕ) (visits : List Visit) → place ≤ n → given_start_f rest place visits ≡ given_start_f rest place (take n visits)
 unfolding given_start_f
-start_first none place n visits h = refl
-start_first (some b) zero n visits h = refl
-start_first (some b) (suc k) n visits h = rw (get_or-take n visits k blank_visit (omega arith))
+start_first None place n visits h = refl
+start_first (Some b) zero n visits h = refl
+start_first (Some b) (suc k) n visits h = rw (get_or-take n visits k blank_visit (omega arith))
 
 -- at a place from 1 on, whatever stands beyond the visits
 pub start-at : (b : BreakOf Float) (place : ℕ) (visits : List Visit) (d : Visit) → (place ≡ 0 → ⊥) → place ≤ length visits
-    → started_f b (get_or visits (place - 1) d).arrival_time ≡ given_start_f (some b) place visits
+    → started_f b (get_or visits (place - 1) d).arrival_time ≡ given_start_f (Some b) place visits
 unfolding given_start_f
 start-at b zero visits d h i = absurd (h refl)
 start-at b (suc k) visits d h i =
@@ -55,7 +55,7 @@ start-at b (suc k) visits d h i =
 -- ---- by the first closed leg
 
 module _ (t : Tables) (capacity : Load) (limits : LimitsF) (place : ℕ) (calls : List ℕ) where
-  pub times-closed : (b : Built) (begins : List Float) (leg : ℕ) → closed_f (leg_f t) 1 0 calls ≡ some leg → (built_of b ≡ closed_route_f leg) × (b.count ≡ 0) × (b.found ≡ 1)
+  pub times-closed : (b : Built) (begins : List Float) (leg : ℕ) → closed_f (leg_f t) 1 0 calls ≡ Some leg → (built_of b ≡ closed_route_f leg) × (b.count ≡ 0) × (b.found ≡ 1)
       → Times t capacity limits place calls (record { run = b; begins = begins })
   unfolding timeline_f
   times-closed b begins leg e h =
@@ -70,9 +70,9 @@ module _ (t : Tables) (capacity : Load) (limits : LimitsF) (place : ℕ) (calls 
 
 -- ---- a run without one
 
-module _ (t : Tables) (capacity : Load) (limits : LimitsF) (place : ℕ) (calls : List ℕ) (O : closed_f (leg_f t) 1 0 calls ≡ none) (short : length calls ≤ most_calls)
+module _ (t : Tables) (capacity : Load) (limits : LimitsF) (place : ℕ) (calls : List ℕ) (O : closed_f (leg_f t) 1 0 calls ≡ None) (short : length calls ≤ most_calls)
     (at : RestAt) (w : VisitedRun) (f : Violations) (g : Leg) (begins : List Float) (missing : Bool)
-    (er : rest_at_of at ≡ given_rest_f t limits.rest place calls) (W : Walks t (rest_at_of at) calls w) (eg : some g ≡ leg_f t w.trip.prev 0) where
+    (er : rest_at_of at ≡ given_rest_f t limits.rest place calls) (W : Walks t (rest_at_of at) calls w) (eg : Some g ≡ leg_f t w.trip.prev 0) where
   abbrev distance : Float
   distance = Ieee.add binary64 w.trip.distance g.distance
 
@@ -99,7 +99,7 @@ module _ (t : Tables) (capacity : Load) (limits : LimitsF) (place : ℕ) (calls 
         begins = begins;
       }
 
-  module _ (em : missing ≡ untaken_f limits.rest place (start_of at.start) duration) (eb : take (length calls) begins ≡ begins_f t.customers (rest_at_of at) 1 (take (length calls) w.visits))
+  module _ (em : missing ≡ untaken_f limits.rest place at.start duration) (eb : take (length calls) begins ≡ begins_f t.customers (rest_at_of at) 1 (take (length calls) w.visits))
       (C : Checked w.windows missing (load_of w.trip.load) capacity limits distance duration f) where
     assembled : timeline_in made ≡ open_timeline_f t capacity limits place calls
     unfolding open_timeline_f

@@ -5,7 +5,7 @@ use native.Mathlib.Nat.{not-suc-le-zero}
 use mathlib.Core.Path.{◌≡◌, refl, sym, ap, subst, ◌∙◌}
 use mathlib.Core.Bool.{true, false, not, ◌&&◌, ◌||◌, and-false}
 use mathlib.Core.List.{List, [], ◌∷◌}
-use mathlib.Core.Option.{Option, none, some}
+use Rattle.std.specs.Prelude.{Option, None, Some}
 use lib.Dec.{eqb}
 use lib.ListN.{length, get_or, take}
 use borrow.Author.Tests.{eq-eqb, ne_eqb, eqb-true, leb-true}
@@ -31,11 +31,11 @@ use Rattle.timeline.proofs.Stops.{visits-of, rest-past, rest-here, rest-later}
 -- ---- by the first closed leg
 
 module _ (s : Sheet) (r : Run) where
-  pub timeline-closed : (leg : ℕ) → first_closed s r.calls ≡ some leg → timeline s r ≡ closed_timeline leg
+  pub timeline-closed : (leg : ℕ) → first_closed s r.calls ≡ Some leg → timeline s r ≡ closed_timeline leg
   unfolding timeline
   timeline-closed leg e = rw (e, timeline) refl
 
-  pub timeline-open : first_closed s r.calls ≡ none → timeline s r ≡ open_timeline s r
+  pub timeline-open : first_closed s r.calls ≡ None → timeline s r ≡ open_timeline s r
   unfolding timeline
   timeline-open e = rw (e, timeline) refl
 
@@ -48,38 +48,38 @@ not_first : (k : ℕ) → 0 < k → 0 ≡ k → ⊥
 not_first k h e = omega arith
 
 -- the break of a call that is served is not too late
-taken : (b : Break) (arrival r : ℕ) → ready (some b) arrival ≡ some r → rest_start (some b) arrival ≡ some (break_start b arrival)
+taken : (b : Break) (arrival r : ℕ) → ready (Some b) arrival ≡ Some r → rest_start (Some b) arrival ≡ Some (break_start b arrival)
 unfolding ready
 taken b arrival r e = by-test (too_late b arrival) (λ y. clash (rw y at e)) (λ n. rw n)
 
-module _ (s : Sheet) (place : ℕ) (b : Break) (rest-is : s.head.rest ≡ some b) where
+module _ (s : Sheet) (place : ℕ) (b : Break) (rest-is : s.head.rest ≡ Some b) where
   -- where the rest of a run is served there is a label before it
-  label-before : (k a : ℕ) (m : Option Label) (calls : List ℕ) (last : Label) → serve_all s place k a m calls ≡ some last → (n : Label) × (m ≡ some n)
-  label-before k a none calls last q = clash (sym (served-none s 0 place k a calls) ∙ q)
-  label-before k a (some n) calls last q = (n, refl)
+  label-before : (k a : ℕ) (m : Option Label) (calls : List ℕ) (last : Label) → serve_all s place k a m calls ≡ Some last → (n : Label) × (m ≡ Some n)
+  label-before k a None calls last q = clash (sym (served-none s 0 place k a calls) ∙ q)
+  label-before k a (Some n) calls last q = (n, refl)
 
   -- the start of a break m calls on from here, where the calls before it are served
   abbrev start_after : ℕ → ℕ → ℕ → Option Label → List ℕ → Option ℕ
   start_after m k a x calls =
       serve_all s 0 k a x (take m calls)
       >>= λ n. drive s (last_of a (take m calls)) (get_or calls m 0)
-      >>= λ g. some (break_start b (n.time + g.travel))
+      >>= λ g. Some (break_start b (n.time + g.travel))
 
   -- at the call itself
-  starts-here : (k a c : ℕ) (l n : Label) → place ≡ k → serve s (break_at s place k) k a c l ≡ some n
-      → (v : ℕ) × (rest_start s.head.rest (arrives_at s a c l) ≡ some v) × ((drive s a c >>= λ g. some (break_start b (l.time + g.travel))) ≡ some v)
+  starts-here : (k a c : ℕ) (l n : Label) → place ≡ k → serve s (break_at s place k) k a c l ≡ Some n
+      → (v : ℕ) × (rest_start s.head.rest (arrives_at s a c l) ≡ Some v) × ((drive s a c >>= λ g. Some (break_start b (l.time + g.travel))) ≡ Some v)
   starts-here k a c l n e q =
-      let here : break_at s place k ≡ some b = rw (eq-eqb place k e) rest-is in
+      let here : break_at s place k ≡ Some b = rw (eq-eqb place k e) rest-is in
       let (g, way, served) = serve-leg s (break_at s place k) k a c l n q in
       let r = served-at (customer s c) (break_at s place k) k g.travel l n served in
-      let on : ready (some b) (l.time + g.travel) ≡ some r.0 = sym (ap (λ (x : Option Break). ready x (l.time + g.travel)) here) ∙ r.1 in (
+      let on : ready (Some b) (l.time + g.travel) ≡ Some r.0 = sym (ap (λ (x : Option Break). ready x (l.time + g.travel)) here) ∙ r.1 in (
         break_start b (l.time + g.travel),
-        ap (λ (o : Option Break). rest_start o (arrives_at s a c l)) rest-is ∙ ap (λ (t : ℕ). rest_start (some b) t) (arrives-by s l a c g way) ∙ taken b (l.time + g.travel) r.0 on,
-        ap (λ (x : Option Leg). x >>= λ h. some (break_start b (l.time + h.travel))) way,
+        ap (λ (o : Option Break). rest_start o (arrives_at s a c l)) rest-is ∙ ap (λ (t : ℕ). rest_start (Some b) t) (arrives-by s l a c g way) ∙ taken b (l.time + g.travel) r.0 on,
+        ap (λ (x : Option Leg). x >>= λ h. Some (break_start b (l.time + h.travel))) way,
       )
 
-  starts_from : (m k a : ℕ) (l : Label) (n : Load) (calls : List ℕ) (last : Label) → 0 < k → place ≡ k + m → m < length calls → serve_all s place k a (some l) calls ≡ some last
-      → (v : ℕ) × (rest_of (stops_from s place k a l n calls) ≡ some v) × (start_after m k a (some l) calls ≡ some v)
+  starts_from : (m k a : ℕ) (l : Label) (n : Load) (calls : List ℕ) (last : Label) → 0 < k → place ≡ k + m → m < length calls → serve_all s place k a (Some l) calls ≡ Some last
+      → (v : ℕ) × (rest_of (stops_from s place k a l n calls) ≡ Some v) × (start_after m k a (Some l) calls ≡ Some v)
   unfolding serve_all
   starts_from m k a l n [] last h e i q = absurd (not-suc-le-zero i)
   starts_from zero k a l n (c ∷ cs) last h e i q =
@@ -89,11 +89,11 @@ module _ (s : Sheet) (place : ℕ) (b : Break) (rest-is : s.head.rest ≡ some b
   starts_from (suc m) k a l n (c ∷ cs) last h e i q =
       let x = label-before (suc k) c (serve s (break_at s place k) k a c l) cs last q in
       let apart = off place k m e in
-      let away : break_at s place k ≡ none = rw (ne_eqb place k apart) in
-      let served : serve s none k a c l ≡ some x.0 = subst (λ (o : Option Break). serve s o k a c l ≡ some x.0) away x.1 in
-      let nowhere : break_at s 0 k ≡ none = rw (ne_eqb 0 k (not_first k h)) in
-      let first : serve s (break_at s 0 k) k a c l ≡ some x.0 = subst (λ (o : Option Break). serve s o k a c l ≡ some x.0) (sym nowhere) served in
-      let on = (visited-served s none k a c l x.0 served).0 in
+      let away : break_at s place k ≡ None = rw (ne_eqb place k apart) in
+      let served : serve s None k a c l ≡ Some x.0 = subst (λ (o : Option Break). serve s o k a c l ≡ Some x.0) away x.1 in
+      let nowhere : break_at s 0 k ≡ None = rw (ne_eqb 0 k (not_first k h)) in
+      let first : serve s (break_at s 0 k) k a c l ≡ Some x.0 = subst (λ (o : Option Break). serve s o k a c l ≡ Some x.0) (sym nowhere) served in
+      let on = (visited-served s None k a c l x.0 served).0 in
       let load = plus n (customer s c).demand in
       let (v, rest, began) = starts_from m (suc k) c x.0 load cs last (omega arith) (omega arith) (omega arith) (rw x.1 at q) in (
         v,
@@ -103,24 +103,24 @@ module _ (s : Sheet) (place : ℕ) (b : Break) (rest-is : s.head.rest ≡ some b
 
 -- ---- a run whose windows are all kept without a break is served
 
-serve-open : (s : Sheet) (k a c : ℕ) (l : Label) (g : Leg) (e : Entry) → drive s a c ≡ some g → entered s c (ready_for s none a c l) ≡ some e
-    → serve s none k a c l ≡ some (visited s none k a c l)
+serve-open : (s : Sheet) (k a c : ℕ) (l : Label) (g : Leg) (e : Entry) → drive s a c ≡ Some g → entered s c (ready_for s None a c l) ≡ Some e
+    → serve s None k a c l ≡ Some (visited s None k a c l)
 unfolding serve_at visited ready
 serve-open s k a c l g e way q =
-    let on : entered s c (l.time + g.travel) ≡ some e = sym (ap (λ (n : ℕ). entered s c n) (arrives-by s l a c g way)) ∙ q in
+    let on : entered s c (l.time + g.travel) ≡ Some e = sym (ap (λ (n : ℕ). entered s c n) (arrives-by s l a c g way)) ∙ q in
     rw (way, on, q)
 
-served-open : (s : Sheet) (k a : ℕ) (l : Label) (calls : List ℕ) (d : ℕ) → 0 < k → distance_from s a calls ≡ some d → is_empty (windows_from s 0 k a l calls) ≡ true
-    → serve_all s 0 k a (some l) calls ≡ some (last_label s 0 k a l calls)
+served-open : (s : Sheet) (k a : ℕ) (l : Label) (calls : List ℕ) (d : ℕ) → 0 < k → distance_from s a calls ≡ Some d → is_empty (windows_from s 0 k a l calls) ≡ true
+    → serve_all s 0 k a (Some l) calls ≡ Some (last_label s 0 k a l calls)
 unfolding serve_all last_label windows_from
 served-open s k a l [] d h far w = refl
 served-open s k a l (c ∷ cs) d h far w =
     let (g, way, rest, on, sum) = distance-on s a c cs d far in
-    let nowhere : break_at s 0 k ≡ none = rw (ne_eqb 0 k (not_first k h)) in
+    let nowhere : break_at s 0 k ≡ None = rw (ne_eqb 0 k (not_first k h)) in
     let kept = rw nowhere at w in
-    by-test (present (entered s c (ready_for s none a c l)))
-    (λ y. let (e, q) = there (entered s c (ready_for s none a c l)) y in
-    rw (nowhere, serve-open s k a c l g e way q) (served-open s (suc k) c (visited s none k a c l) cs rest (omega arith) on (rw y at kept)))
+    by-test (present (entered s c (ready_for s None a c l)))
+    (λ y. let (e, q) = there (entered s c (ready_for s None a c l)) y in
+    rw (nowhere, serve-open s k a c l g e way q) (served-open s (suc k) c (visited s None k a c l) cs rest (omega arith) on (rw y at kept)))
     (λ n. absurd (no (rw n at kept)))
   where
     no : false ≡ true → ⊥
@@ -145,17 +145,17 @@ module _ (s : Sheet) (calls : List ℕ) where
       × (present (rest_of (stops_at place)) || (eqb place 0 && excused b (totals_at place).duration) ≡ true)
 
   -- the clock's place is one that the break may have
-  own-place : (b : Break) → s.head.rest ≡ some b → (t : Totals) → clock s calls ≡ some t → placed (some b) t.place (length calls) t.duration ≡ true
+  own-place : (b : Break) → s.head.rest ≡ Some b → (t : Totals) → clock s calls ≡ Some t → placed (Some b) t.place (length calls) t.duration ≡ true
   own-place b r t q = subst (λ (x : Option Break). placed x t.place (length calls) t.duration ≡ true) r (clock-own s calls t q).1
 
   -- when a break before call number k, from 0, starts
   abbrev started : ℕ → Break → Option ℕ
   started k h =
-      serve_all s 0 1 0 (some start) (take k calls)
+      serve_all s 0 1 0 (Some start) (take k calls)
       >>= λ n. drive s (last_of 0 (take k calls)) (get_or calls k 0)
-      >>= λ g. some (break_start h (n.time + g.travel))
+      >>= λ g. Some (break_start h (n.time + g.travel))
 
-  clocked-by : (b : Break) → s.head.rest ≡ some b → (t : Totals) → clock s calls ≡ some t → (p : ℕ) → t.place ≡ p → Clocked b p
+  clocked-by : (b : Break) → s.head.rest ≡ Some b → (t : Totals) → clock s calls ≡ Some t → (p : ℕ) → t.place ≡ p → Clocked b p
   unfolding start_of placed
   clocked-by b r t q zero e =
       let o = clock-own s calls t q in
@@ -164,19 +164,19 @@ module _ (s : Sheet) (calls : List ℕ) where
       let past = rest-past s 0 1 0 start no_load calls (omega arith) in
       let home_at : totals_at 0 ≡ t =
       subst (λ (p : ℕ). totals_at p ≡ t) e (ap (λ (x : Label). value_or no_totals (home s calls x)) v.0 ∙ ap (λ (x : Option Totals). value_or no_totals x) l.2) in
-      let early : excused b t.duration ≡ true = subst (λ (p : ℕ). placed (some b) p (length calls) t.duration ≡ true) e (own-place b r t q) in
+      let early : excused b t.duration ≡ true = subst (λ (p : ℕ). placed (Some b) p (length calls) t.duration ≡ true) e (own-place b r t q) in
       (past, rw past (ap (λ (u : Totals). excused b u.duration) home_at ∙ early))
   clocked-by b r t q (suc k) e =
       let o = clock-own s calls t q in
       let l = ridden s calls t.place t o.0 in
-      let own = subst (λ (p : ℕ). placed (some b) p (length calls) t.duration ≡ true) e (own-place b r t q) in
-      let served = subst (λ (p : ℕ). serve_all s p 1 0 (some start) calls ≡ some l.0) e l.1 in
+      let own = subst (λ (p : ℕ). placed (Some b) p (length calls) t.duration ≡ true) e (own-place b r t q) in
+      let served = subst (λ (p : ℕ). serve_all s p 1 0 (Some start) calls ≡ Some l.0) e l.1 in
       let few = leb-true (suc k) (length calls) own in
       let (v, rest, began) = starts_from s (suc k) b r k 1 0 start no_load calls l.0 (omega arith) (omega arith) (omega arith) served in
       (rest ∙ sym (ap (λ (o : Option Break). o >>= started k) r ∙ began), rw rest refl)
 
   -- where it has none: the run goes without, and where all windows are kept it is not excused
-  unclocked : (b : Break) → s.head.rest ≡ some b → first_closed s calls ≡ none → clock s calls ≡ none → is_empty (windows_at 0) ≡ true → excused b (totals_at 0).duration ≡ false
+  unclocked : (b : Break) → s.head.rest ≡ Some b → first_closed s calls ≡ None → clock s calls ≡ None → is_empty (windows_at 0) ≡ true → excused b (totals_at 0).duration ≡ false
   unfolding placed
   unclocked b r roads q w =
       let (d, far) = open-distance s 1 0 calls roads in
@@ -207,21 +207,21 @@ module _ (s : Sheet) (calls : List ℕ) where
 
   starts_by : (r : Option Break) → s.head.rest ≡ r → (o : Option Totals) → clock s calls ≡ o → Starts o
   unfolding placed
-  starts_by r e none q = unplaced
-  starts_by none e (some t) q =
+  starts_by r e None q = unplaced
+  starts_by None e (Some t) q =
       let own = subst (λ (x : Option Break). placed x t.place (length calls) t.duration ≡ true) e (clock-own s calls t q).1 in
       subst (λ (p : ℕ). rest_of (stops_at p) ≡ start_of s (record { calls = calls; place = p })) (sym (eqb-true t.place 0 own)) unplaced
-  starts_by (some b) e (some t) q = (clocked-by b e t q t.place refl).0
+  starts_by (Some b) e (Some t) q = (clocked-by b e t q t.place refl).0
 
-  told-by : first_closed s calls ≡ none → (r : Option Break) → s.head.rest ≡ r → (o : Option Totals) → clock s calls ≡ o → Told r o
-  told-by roads none e o q = refl
-  told-by roads (some b) e (some t) q = rw (clocked-by b e t q t.place refl).1 refl
-  told-by roads (some b) e none q =
+  told-by : first_closed s calls ≡ None → (r : Option Break) → s.head.rest ≡ r → (o : Option Totals) → clock s calls ≡ o → Told r o
+  told-by roads None e o q = refl
+  told-by roads (Some b) e (Some t) q = rw (clocked-by b e t q t.place refl).1 refl
+  told-by roads (Some b) e None q =
       by-test (is_empty (windows_at 0))
       (λ w. rw (w, rest-past s 0 1 0 start no_load calls (omega arith), unclocked b e roads q w) refl)
       (λ w. rw (w, and-false) refl)
 
-  open-alike : first_closed s calls ≡ none → route_of (open_timeline s (record { calls = calls; place = place_or (clock s calls) })) ≡ open_route s calls
+  open-alike : first_closed s calls ≡ None → route_of (open_timeline s (record { calls = calls; place = place_or (clock s calls) })) ≡ open_route s calls
   unfolding open_timeline open_route
   open-alike roads =
       rw (
@@ -238,5 +238,5 @@ module _ (s : Sheet) (calls : List ℕ) where
       run = record { calls = calls; place = place_or (clock s calls) }
 
       go : (o : Option ℕ) → first_closed s calls ≡ o → route_of (timeline s run) ≡ build_route s calls
-      go (some leg) e = ap route_of (timeline-closed s run leg e) ∙ sym (route-closed s calls leg e)
-      go none e = ap route_of (timeline-open s run e) ∙ open-alike e ∙ sym (route-open s calls e)
+      go (Some leg) e = ap route_of (timeline-closed s run leg e) ∙ sym (route-closed s calls leg e)
+      go None e = ap route_of (timeline-open s run e) ∙ open-alike e ∙ sym (route-open s calls e)

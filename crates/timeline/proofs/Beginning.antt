@@ -4,8 +4,8 @@ use native.Mathlib.Omega.{arith}
 use native.Mathlib.Numerals.{add-one}
 use mathlib.Core.Path.{◌≡◌, refl, sym, ap, ◌∙◌}
 use mathlib.Core.List.{List, [], ◌∷◌, ◌++◌, map, append_assoc, append-nil}
-use lib.ListN.{length, get_or, take, drop, set, length-set, length-take, drop_of_length-le}
-use lib.Seq.{drop-cons, take-suc-set, get_or-take}
+use lib.ListN.{length, get_or, take, drop, set, length-set, drop_of_length-le}
+use lib.Seq.{drop-cons, take-suc-set}
 use lib.Ieee.{Float}
 use Rattle.definitions.specs.Sheet.{CustomerOf}
 use Rattle.models.specs.declared.customer.Customer.{Customer}
@@ -24,40 +24,34 @@ unfolding record_f
 begin-is customers c i d long e h r k arrival ready x er ex =
     ex ∙ ap (begin_f (customer_of (get_or customers i d)).window) er ∙ ap (λ (y : CustomerOf Float). begin_f y.window (ready_at_f r k arrival)) (read-record customers [] [] 0 c i d long e h)
 
-module _ (customers : List (CustomerOf Float)) (r : RestF) (visits : List Visit) (count : ℕ) where
+module _ (customers : List (CustomerOf Float)) (r : RestF) (visits : List Visit) where
   -- before visit number i + 1
   pub record Underway (begins : List Float) (i : ℕ) : Type 0 where
-    pub within : i ≤ count
-    pub goes : take i begins ++ begins_f customers r (suc i) (drop i (take count visits)) ≡ begins_f customers r 1 (take count visits)
+    pub goes : take i begins ++ begins_f customers r (suc i) (drop i visits) ≡ begins_f customers r 1 visits
     pub long : length begins ≡ 128
 
   pub set_out : (begins : List Float) → length begins ≡ 128 → Underway begins 0
-  set_out begins l = record { within = omega arith; goes = refl; long = l }
+  set_out begins l = record { goes = refl; long = l }
 
-  module _ (few : count ≤ 128) (long : length visits ≡ 128) (begins : List Float) (i : ℕ) (U : Underway begins i) where
+  module _ (begins : List Float) (i : ℕ) (U : Underway begins i) where
     abbrev visit : Visit → Visit
     visit d = get_or visits i d
 
     -- the next one, and those behind it
-    left : (d : Visit) (x : Float) → i < count → x ≡ begin_f (window_f customers (visit d).customer_id) (ready_at_f r (i + 1) (visit d).arrival_time)
-        → begins_f customers r (suc i) (drop i (take count visits)) ≡ x ∷ begins_f customers r (suc (suc i)) (drop (suc i) (take count visits))
+    left : (d : Visit) (x : Float) → i < length visits → x ≡ begin_f (window_f customers (visit d).customer_id) (ready_at_f r (i + 1) (visit d).arrival_time)
+        → begins_f customers r (suc i) (drop i visits) ≡ x ∷ begins_f customers r (suc (suc i)) (drop (suc i) visits)
     unfolding begins_f
-    left d x h e =
-        let there : i < length (take count visits) = rw (length-take count visits) (omega arith) in
-        rw (drop-cons (take count visits) i d there, get_or-take count visits i d h, e, add-one)
+    left d x h e = rw (drop-cons visits i d h, e, add-one)
 
-    pub turn : (d : Visit) (x : Float) → i < count → x ≡ begin_f (window_f customers (visit d).customer_id) (ready_at_f r (i + 1) (visit d).arrival_time) → Underway (set begins i x) (i + 1)
-    turn d x h e =
+    pub turn : (d : Visit) (x : Float) → i < length visits → length visits ≤ 128 → x ≡ begin_f (window_f customers (visit d).customer_id) (ready_at_f r (i + 1) (visit d).arrival_time)
+        → Underway (set begins i x) (i + 1)
+    turn d x h few e =
         let room : i < length begins = omega (arith, U.long) in
         record {
-          within = omega arith;
           goes = rw (add-one, take-suc-set begins i x, append_assoc) (ap (λ (l : List Float). take i begins ++ l) (sym (left d x h e)) ∙ U.goes);
           long = simp length-set U.long;
         }
 
-    pub arrive : count ≤ i → take count begins ≡ begins_f customers r 1 (take count visits)
+    pub arrive : (count : ℕ) → count ≡ i → length visits ≤ i → take count begins ≡ begins_f customers r 1 visits
     unfolding begins_f
-    arrive h =
-        let all : i ≡ count = omega (arith, U.within) in
-        let done : length (take count visits) ≤ i = rw (length-take count visits) (omega arith) in
-        rw (← all) (sym (append-nil (take i begins))) ∙ rw (drop_of_length-le (take count visits) done) at U.goes
+    arrive count e h = rw e (sym (append-nil (take i begins)) ∙ rw (drop_of_length-le visits h) at U.goes)

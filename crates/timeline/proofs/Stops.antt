@@ -4,7 +4,7 @@ use native.Mathlib.Omega.{arith}
 use native.Mathlib.Nat.{not-suc-le-zero}
 use mathlib.Core.Path.{◌≡◌, refl, sym, ap, ◌∙◌}
 use mathlib.Core.List.{List, [], ◌∷◌, map}
-use mathlib.Core.Option.{Option, none, some}
+use Rattle.std.specs.Prelude.{Option, None, Some}
 use lib.ListN.{length, get_or}
 use borrow.Author.Tests.{eq-eqb, ne_eqb}
 use Rattle.basics.specs.Options.{or_else}
@@ -14,9 +14,9 @@ use Rattle.definitions.specs.Run.{Label, break_at}
 use Rattle.definitions.specs.Visits.{Visit, visited, visits_from, arrives_at}
 use Rattle.definitions.specs.Timeline.{rest_start, stops_from, rest_of}
 
-pub or-none : {A : Type 0} (o : Option A) → or_else o none ≡ o
-or-none none = refl
-or-none (some a) = refl
+pub or-none : {A : Type 0} (o : Option A) → or_else o None ≡ o
+or-none None = refl
+or-none (Some a) = refl
 
 -- what is read where there is no visit
 abbrev pub no_visit : Visit
@@ -29,7 +29,7 @@ module _ (s : Sheet) (place : ℕ) where
   visits-of k a l n (c ∷ cs) = rw (visits-of (suc k) c (visited s (break_at s place k) k a c l) (plus n (customer s c).demand) cs) refl
 
   -- past its place the break is not taken
-  pub rest-past : (k a : ℕ) (l : Label) (n : Load) (calls : List ℕ) → place < k → rest_of (stops_from s place k a l n calls) ≡ none
+  pub rest-past : (k a : ℕ) (l : Label) (n : Load) (calls : List ℕ) → place < k → rest_of (stops_from s place k a l n calls) ≡ None
   unfolding stops_from
   rest-past k a l n [] h = refl
   rest-past k a l n (c ∷ cs) h = rw (ne_eqb place k apart) (rest-past (suc k) c _ _ cs (omega arith))
@@ -45,7 +45,7 @@ module _ (s : Sheet) (place : ℕ) where
 
   -- before it the run is the one without a break
   pub rest-later : (k a : ℕ) (l : Label) (n : Load) (c : ℕ) (cs : List ℕ) → (place ≡ k → ⊥)
-      → rest_of (stops_from s place k a l n (c ∷ cs)) ≡ rest_of (stops_from s place (suc k) c (visited s none k a c l) (plus n (customer s c).demand) cs)
+      → rest_of (stops_from s place k a l n (c ∷ cs)) ≡ rest_of (stops_from s place (suc k) c (visited s None k a c l) (plus n (customer s c).demand) cs)
   unfolding stops_from
   rest-later k a l n c cs h = rw (ne_eqb place k h)
 
@@ -57,7 +57,7 @@ module _ (s : Sheet) (place : ℕ) where
   rest-by zero k a l n (c ∷ cs) h e i = rest-here k a l n c cs (omega arith)
   rest-by (suc m) k a l n (c ∷ cs) h e i =
       rest-later k a l n c cs off
-      ∙ rest-by m (suc k) c (visited s none k a c l) (plus n (customer s c).demand) cs (omega arith) (omega arith) (omega arith)
+      ∙ rest-by m (suc k) c (visited s None k a c l) (plus n (customer s c).demand) cs (omega arith) (omega arith) (omega arith)
       ∙ rw (ne_eqb 0 k first)
     where
       off : place ≡ k → ⊥

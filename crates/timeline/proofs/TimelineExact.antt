@@ -5,8 +5,7 @@ use native.Mathlib.Nat.{not-suc-le-zero}
 use mathlib.Core.Path.{◌≡◌, refl, sym, ap, subst, ◌∙◌}
 use mathlib.Core.Bool.{Bool, false, not, ◌||◌, ◌&&◌}
 use mathlib.Core.List.{List, [], ◌∷◌, map}
-use mathlib.Core.Option
-use mathlib.Core.Option.{Option, none, some}
+use Rattle.std.specs.Prelude.{Option, None, Some, option_map}
 use lib.Dec.{eqb}
 use lib.ListN.{length, get_or, get_or-map}
 use lib.Ieee.{Float}
@@ -51,24 +50,24 @@ use Rattle.timeline.proofs.Stops.{no_visit, visits-of, rest-past, rest-by}
 use Rattle.timeline.proofs.Agreeing.{agrees-stops}
 use Rattle.timeline.proofs.AtTheClock.{timeline-closed, timeline-open}
 
-length-exact : (o : Option Break) → duration_f (Option.map fl_break o) ≡ fl (length_of o)
-length-exact none = refl
-length-exact (some b) = refl
+length-exact : (o : Option Break) → duration_f (option_map fl_break o) ≡ fl (length_of o)
+length-exact None = refl
+length-exact (Some b) = refl
 
 -- ---- the break
 
-started-exact : (b : Break) → SmallBreak b → (k arrival : ℕ) → k < most_calls → arrival ≤ ready_by k → started_f (fl_break b) (fl arrival) ≡ Option.map fl (rest_start (some b) arrival)
+started-exact : (b : Break) → SmallBreak b → (k arrival : ℕ) → k < most_calls → arrival ≤ ready_by k → started_f (fl_break b) (fl arrival) ≡ option_map fl (rest_start (Some b) arrival)
 started-exact b B k arrival few h =
     rw (larger-fl arrival b.earliest (omega arith) (omega arith), fl-lt b.latest (break_start b arrival) (omega arith) (omega arith))
     (by-test (too_late b arrival) (λ e. rw e) (λ e. rw e))
 
-start_small : (b : Break) → SmallBreak b → (k arrival : ℕ) → k < most_calls → arrival ≤ ready_by k → Holds (λ (n : ℕ). n ≤ limit) (rest_start (some b) arrival)
+start_small : (b : Break) → SmallBreak b → (k arrival : ℕ) → k < most_calls → arrival ≤ ready_by k → Holds (λ (n : ℕ). n ≤ limit) (rest_start (Some b) arrival)
 start_small b B k arrival few h = by-test (too_late b arrival) (λ e. rw e tt) (λ e. rw e (omega arith))
 
 untaken-exact : (r : Option Break) → Holds SmallBreak r → (place : ℕ) (stops : List Stop) (duration : ℕ) → duration ≤ limit
-    → untaken_f (Option.map fl_break r) place (Option.map fl (rest_of stops)) (fl duration) ≡ untaken r place stops duration
-untaken-exact none B place stops duration h = refl
-untaken-exact (some b) B place stops duration h = rw (present-same fl (rest_of stops), fl-lt duration b.earliest h (omega arith)) refl
+    → untaken_f (option_map fl_break r) place (option_map fl (rest_of stops)) (fl duration) ≡ untaken r place stops duration
+untaken-exact None B place stops duration h = refl
+untaken-exact (Some b) B place stops duration h = rw (present-same fl (rest_of stops), fl-lt duration b.earliest h (omega arith)) refl
 
 -- ---- the break place of the last label
 
@@ -82,7 +81,7 @@ last-past s place k a l (c ∷ cs) h = last-past s place (suc k) c _ cs (omega a
     apart e = omega arith
 
 -- at a call of the run it is taken up, also where the break would start past latest
-last-placed : (s : Sheet) (b : Break) → s.head.rest ≡ some b → (m place k a : ℕ) (l : Whole.Label) (calls : List ℕ) → place ≡ k + m → m < length calls
+last-placed : (s : Sheet) (b : Break) → s.head.rest ≡ Some b → (m place k a : ℕ) (l : Whole.Label) (calls : List ℕ) → place ≡ k + m → m < length calls
     → (last_label s place k a l calls).place ≡ place
 unfolding last_label visited
 last-placed s b r m place k a l [] e h = absurd (not-suc-le-zero h)
@@ -95,7 +94,7 @@ last-placed s b r (suc m) place k a l (c ∷ cs) e h = last-placed s b r m place
 -- a place that a run of the sheet may be given: one of its calls, or 0, and only 0 on a sheet without a break
 pub record Given (s : Sheet) (calls : List ℕ) (place : ℕ) : Type 0 where
   pub own : place ≤ length calls
-  pub needed : s.head.rest ≡ none → place ≡ 0
+  pub needed : s.head.rest ≡ None → place ≡ 0
 
 module _ (s : Sheet) (S : Sized s) (t : Tables) (I : Image s t) where
   -- ---- arrivals
@@ -105,7 +104,7 @@ module _ (s : Sheet) (S : Sized s) (t : Tables) (I : Image s t) where
       → (get_or (visits_from s 0 j a l n calls) m no_visit).arrival ≤ ready_by (k + m)
   unfolding visits_from ready
   arrival-small m k j a l n [] few E h = absurd (not-suc-le-zero h)
-  arrival-small zero k j a l n (c ∷ cs) few E h = omega (arith, readiness-most s S k (omega arith) none tt j a c l E)
+  arrival-small zero k j a l n (c ∷ cs) few E h = omega (arith, readiness-most s S k (omega arith) None tt j a c l E)
   arrival-small (suc m) k j a l n (c ∷ cs) few E h =
       let rest = arrival-small m (suc k) (suc j) c (visited s (break_at s 0 j) j a c l) (plus n (customer s c).demand) cs (omega arith)
       (visited-early s S k (omega arith) (break_at s 0 j) (break-small s S 0 j) j a c l E) (omega arith) in
@@ -148,10 +147,10 @@ module _ (s : Sheet) (S : Sized s) (t : Tables) (I : Image s t) where
     -- what the break's start is, and that a float holds it
     abbrev Began : Option Break → ℕ → Type 0
     Began r p =
-        (given_start_f (Option.map fl_break r) p (map fl_visit without) ≡ Option.map fl (rest_of (stops_from s p 1 0 start no_load calls)))
+        (given_start_f (option_map fl_break r) p (map fl_visit without) ≡ option_map fl (rest_of (stops_from s p 1 0 start no_load calls)))
         × Holds (λ (n : ℕ). n ≤ limit) (rest_of (stops_from s p 1 0 start no_load calls))
 
-    unplaced : rest_of (stops_from s 0 1 0 start no_load calls) ≡ none
+    unplaced : rest_of (stops_from s 0 1 0 start no_load calls) ≡ None
     unplaced = rest-past s 0 1 0 start no_load calls (omega arith)
 
     rest_at : (r : Option Break) → s.head.rest ≡ r → (m : ℕ) → m < length calls
@@ -161,13 +160,13 @@ module _ (s : Sheet) (S : Sized s) (t : Tables) (I : Image s t) where
 
     began-by : (r : Option Break) → s.head.rest ≡ r → (p : ℕ) → p ≤ length calls → Began r p
     unfolding given_start_f
-    began-by none e zero h = rw unplaced (refl, tt)
-    began-by none e (suc m) h = rw (rest_at none e m h) (refl, tt)
-    began-by (some b) e zero h = rw unplaced (refl, tt)
-    began-by (some b) e (suc m) h =
+    began-by None e zero h = rw unplaced (refl, tt)
+    began-by None e (suc m) h = rw (rest_at None e m h) (refl, tt)
+    began-by (Some b) e zero h = rw unplaced (refl, tt)
+    began-by (Some b) e (suc m) h =
         let B : SmallBreak b = subst (Holds SmallBreak) e S.rest-small in
         let small = arrival-small m 0 1 0 start no_load calls (omega arith) start-early h in
-        rw (rest_at (some b) e m h) (
+        rw (rest_at (Some b) e m h) (
           ap (λ (v : Held.Visit). started_f (fl_break b) v.arrival_time) (get_or-map fl_visit without m no_visit)
               ∙ started-exact b B (0 + m) (get_or without m no_visit).arrival (omega arith) small,
           start_small b B (0 + m) (get_or without m no_visit).arrival (omega arith) small,
@@ -186,21 +185,21 @@ module _ (s : Sheet) (S : Sized s) (t : Tables) (I : Image s t) where
     last-place : last.place ≡ place
     last-place = go s.head.rest refl place P.own P.needed
       where
-        go : (r : Option Break) → s.head.rest ≡ r → (p : ℕ) → p ≤ length calls → (s.head.rest ≡ none → p ≡ 0) → (last_label s p 1 0 start calls).place ≡ p
+        go : (r : Option Break) → s.head.rest ≡ r → (p : ℕ) → p ≤ length calls → (s.head.rest ≡ None → p ≡ 0) → (last_label s p 1 0 start calls).place ≡ p
         go r e zero h n = last-past s 0 1 0 start calls (omega arith)
-        go none e (suc m) h n = let z = n e in absurd (never z)
+        go None e (suc m) h n = let z = n e in absurd (never z)
           where
             never : suc m ≡ 0 → ⊥
             never z = omega arith
-        go (some b) e (suc m) h n = last-placed s b e m (suc m) 1 0 start calls (omega arith) h
+        go (Some b) e (suc m) h n = last-placed s b e m (suc m) 1 0 start calls (omega arith) h
 
     -- ---- a run without a closed leg, so long and with the way home `w`
 
-    module _ (roads : first_closed s calls ≡ none) (d : ℕ) (far : distance_from s 0 calls ≡ some d) (w : Leg) (back : drive s (last_of 0 calls) 0 ≡ some w) where
+    module _ (roads : first_closed s calls ≡ None) (d : ℕ) (far : distance_from s 0 calls ≡ Some d) (w : Leg) (back : drive s (last_of 0 calls) 0 ≡ Some w) where
       abbrev totals : Totals
       totals = home_by s calls d w.travel last
 
-      came-home : home s calls last ≡ some totals
+      came-home : home s calls last ≡ Some totals
       came-home = home-is s calls d w far back last
 
       distance-fits : d ≤ limit
@@ -213,16 +212,16 @@ module _ (s : Sheet) (S : Sized s) (t : Tables) (I : Image s t) where
       set_out =
           record { few = omega arith; from-inside = depot-inside s S; calls-inside = i; early = start-early; agreed = agrees-stops s place 1 0 start no_load calls; roads = roads }
 
-      set-out-without : Onward s 0 none 0 1 0 start calls
+      set-out-without : Onward s 0 None 0 1 0 start calls
       set-out-without =
-          record { few = omega arith; from-inside = depot-inside s S; calls-inside = i; early = start-early; agreed = agrees-past s 0 none 1 0 start calls (omega arith); roads = roads }
+          record { few = omega arith; from-inside = depot-inside s S; calls-inside = i; early = start-early; agreed = agrees-past s 0 None 1 0 start calls (omega arith); roads = roads }
 
-      rest-exact : given_rest_f t (Option.map fl_break s.head.rest) place calls ≡ fl_rest s place began false
+      rest-exact : given_rest_f t (option_map fl_break s.head.rest) place calls ≡ fl_rest s place began false
       unfolding given_rest_f
       rest-exact =
           rw (
             length-exact s.head.rest,
-            visits-exact s S t I 0 none false tt 0 1 0 (fl 0) start no_load calls set-out-without,
+            visits-exact s S t I 0 None false tt 0 1 0 (fl 0) start no_load calls set-out-without,
             (began-by s.head.rest refl place P.own).0,
           )
 
@@ -265,8 +264,8 @@ module _ (s : Sheet) (S : Sized s) (t : Tables) (I : Image s t) where
         run = record { calls = calls; place = place }
 
         go : (o : Option ℕ) → first_closed s calls ≡ o → timeline_by_f t s.head.capacity (fl_limits s) place calls o ≡ fl_timeline (timeline s run)
-        go (some leg) e = ap fl_timeline (sym (timeline-closed s run leg e))
-        go none e =
+        go (Some leg) e = ap fl_timeline (sym (timeline-closed s run leg e))
+        go None e =
             let (d, far) = open-distance s 1 0 calls e in
             let (w, back) = distance-home s 0 calls d far in
             open-exactly e d far w back ∙ ap fl_timeline (sym (timeline-open s run e))

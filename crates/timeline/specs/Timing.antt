@@ -1,6 +1,5 @@
 -- The timeline of a run whose break is at a given place, on floats, step by step as the code has it. Definitions only.
-use Rattle.std.specs.Prelude.{ℕ, zero, suc, ◌≤◌, ◌≡◌, Bool, false, not, ◌&&◌, ◌||◌, List, [], ◌∷◌, eqb, length, get_or, take, Float}
-use Rattle.std.proofs.Math.Option.{Option, none, some}
+use Rattle.std.specs.Prelude.{ℕ, zero, suc, ◌≤◌, ◌≡◌, Bool, false, not, ◌&&◌, ◌||◌, List, [], ◌∷◌, eqb, length, get_or, take, Float, Option, None, Some}
 use Rattle.std.specs.Float.Ieee as Ieee
 use Rattle.basics.specs.Options.{◌>>=◌, present, given}
 use Rattle.definitions.specs.Domain.{most_calls}
@@ -25,9 +24,9 @@ started_f b arrival = given (not (Ieee.lt b.latest (break_start_f b arrival))) (
 
 -- at call number `place`, from 1, by the visits of the run without it; 0 is none
 unfoldable pub given_start_f : Option (BreakOf Float) → ℕ → List Visit → Option Float
-given_start_f none place visits = none
-given_start_f (some b) zero visits = none
-given_start_f (some b) (suc k) visits = started_f b (get_or visits k blank_visit).arrival_time
+given_start_f None place visits = None
+given_start_f (Some b) zero visits = None
+given_start_f (Some b) (suc k) visits = started_f b (get_or visits k blank_visit).arrival_time
 
 -- as the visits have it, by its place and start
 abbrev pub rest_with_f : Option (BreakOf Float) → ℕ → Option Float → RestF
@@ -35,12 +34,12 @@ rest_with_f rest place start = record { place = place; start = start; duration =
 
 -- of a run without a closed leg
 unfoldable pub given_rest_f : Tables → Option (BreakOf Float) → ℕ → List ℕ → RestF
-given_rest_f t rest place calls = rest_with_f rest place (given_start_f rest place (visits_f t (rest_with_f rest 0 none) 1 start_trip calls))
+given_rest_f t rest place calls = rest_with_f rest place (given_start_f rest place (visits_f t (rest_with_f rest 0 None) 1 start_trip calls))
 
 -- needed and not taken: it would start past latest, or no place is given and the run is home too late to be excused
 abbrev pub untaken_f : Option (BreakOf Float) → ℕ → Option Float → Float → Bool
-untaken_f none place start duration = false
-untaken_f (some b) place start duration = not (present start || (eqb place 0 && excused_f b duration))
+untaken_f None place start duration = false
+untaken_f (Some b) place start duration = not (present start || (eqb place 0 && excused_f b duration))
 
 -- ---- the service starts
 
@@ -87,8 +86,8 @@ open_timeline_f t capacity limits place calls = timed_f t capacity limits place 
 
 -- by the first closed leg: of a run with one nothing but that is told
 abbrev pub timeline_by_f : Tables → Load → LimitsF → ℕ → List ℕ → Option ℕ → TimelineF
-timeline_by_f t capacity limits place calls (some leg) = record { route = closed_route_f leg; begins = [] }
-timeline_by_f t capacity limits place calls none = open_timeline_f t capacity limits place calls
+timeline_by_f t capacity limits place calls (Some leg) = record { route = closed_route_f leg; begins = [] }
+timeline_by_f t capacity limits place calls None = open_timeline_f t capacity limits place calls
 
 unfoldable pub timeline_f : Tables → Load → LimitsF → ℕ → List ℕ → TimelineF
 timeline_f t capacity limits place calls = timeline_by_f t capacity limits place calls (closed_f (leg_f t) 1 0 calls)

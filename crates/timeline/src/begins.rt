@@ -35,10 +35,8 @@ pub fn begins_of(
     ensures { take count result ≡ begins_f (map customer_of customers) (rest_at_of rest) 1 (take count visits) }
 {
     let mut begins = [0.0; 128];
-    let mut i = 0;
-    while i < count {
-        begins[i] = begin_of(visits[i], i + 1, customers, rest);
-        i += 1;
+    for (i, visit) in visits[..count].iter().enumerate() {
+        begins[i] = begin_of(*visit, i + 1, customers, rest);
     }
     begins
 }

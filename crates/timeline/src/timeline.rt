@@ -1,7 +1,6 @@
 // The timeline of a run whose break is at a given place: its visits with when each service starts, its totals, and what
 // it violates.
-ghost use Rattle.std.specs.Prelude.{◌≡◌, ◌≤◌, length};
-ghost use Rattle.std.proofs.Math.Option.{none};
+ghost use Rattle.std.specs.Prelude.{◌≡◌, ◌≤◌, length, None};
 ghost use Rattle.distance.specs.Lookup.{drive_f};
 ghost use Rattle.models.specs.Load.{space_of};
 ghost use Rattle.evaluation.specs.Records.{lent, limits_of};
@@ -36,7 +35,7 @@ fn open_timeline(
     place: usize,
 ) -> Timeline
     requires route_len_bound { (length route.now ≤ 128) × (place ≤ length route.now) }
-    requires route_value { closed_f (drive_f distances.now times.now size) 1 0 route.now ≡ none }
+    requires route_value { closed_f (drive_f distances.now times.now size) 1 0 route.now ≡ None }
     ensures { let tables = lent customers distances.now times.now size in
         Times tables (space_of capacity) (limits_of limits) place route.now result }
 {

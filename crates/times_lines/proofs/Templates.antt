@@ -3,7 +3,7 @@ use Prim.Native.Nat.{ℕ, ◌-◌}
 use mathlib.Core.Path.{◌≡◌, sym, ap, subst, ◌∙◌}
 use mathlib.Core.Bool.{true, false}
 use mathlib.Core.List.{List, [], ◌∷◌, ◌++◌}
-use mathlib.Core.Option.{some}
+use Rattle.std.specs.Prelude.{Some}
 use lib.Dec.{leb}
 use Rattle.definitions.specs.Listing.{text, end_of_line}
 use Rattle.definitions.specs.Run.{Totals}
@@ -21,12 +21,12 @@ put_as {at} {r} {a} {b} {old} {new} e p = subst (λ (l : List ℕ). Put at l old
 
 -- ---- a call
 
-pub rest-is : (p : Pause) → fill (text " break % to %,") (p.from ∷ p.until ∷ []) ≡ rest_words (some p)
+pub rest-is : (p : Pause) → fill (text " break % to %,") (p.from ∷ p.until ∷ []) ≡ rest_words (Some p)
 rest-is p = sym (chained (figure " break" p.from) (figure " to" p.until ∷ []) (text ","))
 
 module _ (ready due begin : ℕ) where
   abbrev words : List ℕ
-  words = window_words (some (record { ready = ready; due = due })) begin
+  words = window_words (Some (record { ready = ready; due = due })) begin
 
   pub slack-is : leb begin due ≡ true → fill (text ", window % to %, slack %\n") (ready ∷ due ∷ (due - begin) ∷ []) ≡ words
   slack-is e = rw e (sym (chained (figure ", window" ready) (figure " to" due ∷ figure ", slack" (due - begin) ∷ []) end_of_line))

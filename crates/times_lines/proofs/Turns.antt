@@ -5,7 +5,7 @@ use native.Mathlib.Nat.{not-suc-le-zero}
 use native.Mathlib.Numerals.{add-one}
 use mathlib.Core.Path.{◌≡◌, refl, sym, ap, ◌∙◌}
 use mathlib.Core.List.{List, [], ◌∷◌, ◌++◌, map}
-use mathlib.Core.Option.{Option}
+use Rattle.std.specs.Prelude.{Option}
 use lib.Dec.{eqb}
 use lib.Ieee.{Float}
 use lib.ListN.{length, take, drop, get_or, length-take, drop_of_length-le}
@@ -23,14 +23,6 @@ use Rattle.visits.specs.declared.visit.Visit.{Visit}
 use Rattle.visits.specs.declared.visit.Violation.{Violation}
 use Rattle.times_lines.specs.Told.{told_at, stops_in, violation_in}
 
--- the next of the first so many, and those behind it
-next : {A : Type 0} (l : List A) (count i : ℕ) (d : A) → count ≤ length l → i < count → drop i (take count l) ≡ get_or l i d ∷ drop (i + 1) (take count l)
-next l count i d few h =
-    next-left (take count l) i d (rw (length-take count l) (omega arith)) ∙ ap (λ x. x ∷ drop (i + 1) (take count l)) (get_or-take count l i d h)
-
-none_left : {A : Type 0} (l : List A) (count i : ℕ) → count ≤ i → drop i (take count l) ≡ []
-none_left l count i h = drop_of_length-le (take count l) {i = i} (rw (length-take count l) (omega arith))
-
 -- ---- calls
 
 -- the window of a call, with its record read in the array of 64
@@ -42,33 +34,32 @@ window-read customers c i d long e h = ap (λ (y : CustomerOf Float). y.window) 
 module _ (customers : List (CustomerOf Float)) (duration : Float) (place : ℕ) (start : Option Float) (n : ℕ) (visits : List Visit) (begins : List Float) (count : ℕ) where
   -- the lines from call number i + 1 on
   abbrev pub stops_left : ℕ → List ℕ
-  stops_left i = stop_lines n (i + 1) (stops_in customers duration place start (i + 1) (drop i (take count visits)) (drop i (take count begins)))
+  stops_left i = stop_lines n (i + 1) (stops_in customers duration place start (i + 1) (drop i visits) (drop i (take count begins)))
 
-  pub stops-more : (i : ℕ) (v : Visit) (b : Float) → count ≤ length visits → count ≤ length begins → i < count
+  pub stops-more : (i : ℕ) (v : Visit) (b : Float) → count ≤ length begins → i < length visits → i < count
       → stops_left i ≡ stop_line n (i + 1) (told_at customers duration place start (i + 1) (get_or visits i v) (get_or begins i b)) ++ stops_left (i + 1)
   unfolding stops_in
-  stops-more i v b fewᵥ fewᵦ h =
-      ap (λ (l : List Visit). stop_lines n (i + 1) (stops_in customers duration place start (i + 1) l (drop i (take count begins)))) (next visits count i v fewᵥ h)
-      ∙ ap (λ (l : List Float). stop_lines n (i + 1) (stops_in customers duration place start (i + 1) (get_or visits i v ∷ drop (i + 1) (take count visits)) l)) (next begins count i b fewᵦ h)
+  stops-more i v b few hᵥ h =
+      let begin-next : drop i (take count begins) ≡ get_or begins i b ∷ drop (i + 1) (take count begins) =
+      next-left (take count begins) i b (rw (length-take count begins) (omega arith)) ∙ ap (λ x. x ∷ drop (i + 1) (take count begins)) (get_or-take count begins i b h) in
+      ap (λ (l : List Visit). stop_lines n (i + 1) (stops_in customers duration place start (i + 1) l (drop i (take count begins)))) (next-left visits i v hᵥ)
+      ∙ ap (λ (l : List Float). stop_lines n (i + 1) (stops_in customers duration place start (i + 1) (get_or visits i v ∷ drop (i + 1) visits) l)) begin-next
       ∙ ap (λ (m : ℕ). stop_line n (i + 1) (told_at customers duration place start (i + 1) (get_or visits i v) (get_or begins i b))
-      ++ stop_lines n m (stops_in customers duration place start m (drop (i + 1) (take count visits)) (drop (i + 1) (take count begins)))) (sym (add-one (i + 1)))
+      ++ stop_lines n m (stops_in customers duration place start m (drop (i + 1) visits) (drop (i + 1) (take count begins)))) (sym (add-one (i + 1)))
 
-  pub stops-ended : (i : ℕ) → count ≤ i → stops_left i ≡ []
+  pub stops-ended : (i : ℕ) → length visits ≤ i → stops_left i ≡ []
   unfolding stops_in
   stops-ended i h =
-      ap (λ (l : List Visit). stop_lines n (i + 1) (stops_in customers duration place start (i + 1) l (drop i (take count begins)))) (none_left visits count i h)
+      ap (λ (l : List Visit). stop_lines n (i + 1) (stops_in customers duration place start (i + 1) l (drop i (take count begins)))) (drop_of_length-le visits h)
 
 -- ---- violations
 
-module _ (n : ℕ) (violations : List Violation) (found : ℕ) where
+module _ (n : ℕ) (violations : List Violation) where
   abbrev pub violations_left : ℕ → List ℕ
-  violations_left i = violation_lines n (map violation_in (drop i (take found violations)))
+  violations_left i = violation_lines n (map violation_in (drop i violations))
 
-  pub violations-more : (i : ℕ) (v : Violation) → found ≤ length violations → i < found → violations_left i ≡ violation_line n (violation_in (get_or violations i v)) ++ violations_left (i + 1)
-  violations-more i v few h = ap (λ (l : List Violation). violation_lines n (map violation_in l)) (next violations found i v few h)
-
-  pub violations-ended : (i : ℕ) → found ≤ i → violations_left i ≡ []
-  violations-ended i h = ap (λ (l : List Violation). violation_lines n (map violation_in l)) (none_left violations found i h)
+  pub violations-more : (i : ℕ) (v : Violation) → i < length violations → violations_left i ≡ violation_line n (violation_in (get_or violations i v)) ++ violations_left (i + 1)
+  violations-more i v h = ap (λ (l : List Violation). violation_lines n (map violation_in l)) (next-left violations i v h)
 
 -- ---- a run with calls
 

@@ -1,6 +1,5 @@
 -- What the lines of a timeline tell, by the code's floats: each as the whole number that a line shows. Definitions only.
-use Rattle.std.specs.Prelude.{ℕ, suc, cond, List, [], ◌∷◌, map, eqb, Float, get_or}
-use Rattle.std.proofs.Math.Option.{Option, none, some}
+use Rattle.std.specs.Prelude.{ℕ, suc, cond, List, [], ◌∷◌, map, eqb, Float, get_or, Option, None, Some}
 use Rattle.std.specs.Float.Ieee as Ieee
 use Rattle.std.specs.Float.{binary64}
 use Rattle.definitions.specs.Sheet.{WindowOf, BreakOf, CustomerOf, Window}
@@ -23,16 +22,16 @@ use Rattle.visits.specs.Building.{RouteF}
 
 -- the start of a break at this place, at call number k
 unfoldable pub start_at : ℕ → Option Float → ℕ → Option Float
-start_at place start k = cond (eqb place k) start none
+start_at place start k = cond (eqb place k) start None
 
 -- a break of this duration, by its start
 abbrev pub pause_in : Float → Option Float → Option Pause
-pause_in duration none = none
-pause_in duration (some from) = some (record { from = whole_part from; until = whole_part (Ieee.add binary64 from duration) })
+pause_in duration None = None
+pause_in duration (Some from) = Some (record { from = whole_part from; until = whole_part (Ieee.add binary64 from duration) })
 
 abbrev pub window_in : Option (WindowOf Float) → Option Window
-window_in none = none
-window_in (some w) = some (record { ready = whole_part w.ready; due = whole_part w.due })
+window_in None = None
+window_in (Some w) = Some (record { ready = whole_part w.ready; due = whole_part w.due })
 
 -- a visit whose service starts at `begin`
 abbrev pub stop_in : Option Pause → Option (WindowOf Float) → Visit → Float → Told

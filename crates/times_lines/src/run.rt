@@ -3,7 +3,6 @@
 ghost use Rattle.std.specs.Prelude.{◌≡◌, cond, [], map, ◌+◌, ◌*◌, ◌≤◌, eqb, length, take};
 ghost use Rattle.basics.specs.Lists.{is_empty};
 ghost use Rattle.models.specs.Records.{customer_of, rest_of};
-ghost use Rattle.evaluation.specs.Records.{start_of};
 ghost use Rattle.visits.specs.Building.{built_of};
 ghost use Rattle.listing_lines.specs.Put.{Put};
 ghost use Rattle.texts.specs.TimesText as Text;
@@ -11,11 +10,10 @@ ghost use Rattle.times_lines.specs.Told.{figures_in, told_at, stops_in, violatio
 
 use crate::stop::{start_at, stop_line};
 use crate::violation::violation_line;
-use evaluation::route::Start;
 use evaluation::schedule::record_index;
 use listing_lines::number::whole_part;
 use models::customer::Customer;
-use models::vehicle::Rest;
+use models::vehicle::VehicleBreak;
 use templates::fill::filled;
 use visits::evaluator::Built;
 use visits::rest::duration_of;
@@ -31,11 +29,11 @@ fn line_of(
     begin: f64,
     customers: [Customer; 64],
     place: usize,
-    start: Start,
+    start: Option<f64>,
     duration: f64,
 ) -> usize
     requires { at + 420 ≤ length out.old }
-    ensures text { let told = told_at (map customer_of customers) duration place (start_of start) k visit begin in
+    ensures text { let told = told_at (map customer_of customers) duration place start k visit begin in
         Put at (Text.stop_line n k told) out.old out.new result }
     ensures short { result ≤ at + 400 }
 {
@@ -58,34 +56,32 @@ pub fn stop_lines(
     count: usize,
     customers: [Customer; 64],
     place: usize,
-    start: Start,
+    start: Option<f64>,
     duration: f64,
 ) -> usize
     requires { (count ≤ 128) × (at + (400 * count + 20) ≤ length out.old) }
-    ensures text { let stops = stops_in (map customer_of customers) duration place (start_of start) 1
+    ensures text { let stops = stops_in (map customer_of customers) duration place start 1
         (take count visits) (take count begins) in
         Put at (Text.stop_lines n 1 stops) out.old out.new result }
     ensures short { result ≤ at + 400 * count }
-    ensures driven { let stops = stops_in (map customer_of customers) duration place (start_of start) 1
+    ensures driven { let stops = stops_in (map customer_of customers) duration place start 1
         (take count visits) (take count begins) in
         is_empty stops ≡ eqb count 0 }
 {
     let mut end = at;
-    let mut i = 0;
-    while i < count {
+    for (i, visit) in visits[..count].iter().enumerate() {
         end = line_of(
             &mut *out,
             end,
             n,
             i + 1,
-            visits[i],
+            *visit,
             begins[i],
             customers,
             place,
             start,
             duration,
         );
-        i += 1;
     }
     end
 }
@@ -137,10 +133,8 @@ pub fn violation_lines(
     ensures short { result ≤ at + 150 * found }
 {
     let mut end = at;
-    let mut i = 0;
-    while i < found {
-        end = violation_line(&mut *out, end, n, violations[i]);
-        i += 1;
+    for violation in &violations[..found] {
+        end = violation_line(&mut *out, end, n, *violation);
     }
     end
 }
@@ -153,7 +147,7 @@ pub fn run_lines(
     run: Built,
     begins: [f64; 128],
     customers: [Customer; 64],
-    rest: Rest,
+    rest: Option<VehicleBreak>,
     place: usize,
 ) -> usize
     requires count_bound { (run.count ≤ 128) × (run.found ≤ 132) }

@@ -1,33 +1,30 @@
 // The line of a call.
-ghost use Rattle.std.specs.Prelude.{◌≡◌, ◌+◌, ◌≤◌, length};
-ghost use Rattle.std.proofs.Math.Option.{some};
+ghost use Rattle.std.specs.Prelude.{◌≡◌, ◌+◌, ◌≤◌, length, Some};
 ghost use Rattle.models.specs.Records.{opening_of};
 ghost use Rattle.listing_lines.specs.Put.{Put};
 ghost use Rattle.texts.specs.TimesText as Text;
-ghost use Rattle.evaluation.specs.Records.{start_of};
 ghost use Rattle.times_lines.specs.Told.{start_at, window_in, pause_in, stop_in};
 
-use evaluation::route::Start;
 use listing_lines::number::whole_part;
 use listing_lines::text::word;
-use models::customer::Opening;
+use models::customer::TimeWindow;
 use templates::fill::filled;
 use visits::visit::Visit;
 
 // The start of the break at call number k, if that is its place.
-pub fn start_at(place: usize, start: Start, k: usize) -> Start
-    ensures { start_of result ≡ start_at place (start_of start) k }
+pub fn start_at(place: usize, start: Option<f64>, k: usize) -> Option<f64>
+    ensures { result ≡ start_at place start k }
 {
-    if place == k { start } else { Start::Unbroken }
+    if place == k { start } else { None }
 }
 
 // The break, if it is taken here.
-fn rest_words(out: &mut [u8], at: usize, start: Start, duration: f64) -> usize
+fn rest_words(out: &mut [u8], at: usize, start: Option<f64>, duration: f64) -> usize
     requires { at + 80 ≤ length out.old }
-    ensures text { Put at (Text.rest_words (pause_in duration (start_of start))) out.old out.new result }
+    ensures text { Put at (Text.rest_words (pause_in duration start)) out.old out.new result }
     ensures short { result ≤ at + 60 }
 {
-    let Start::At(from) = start else {
+    let Some(from) = start else {
         return at;
     };
     filled(
@@ -41,7 +38,7 @@ fn rest_words(out: &mut [u8], at: usize, start: Start, duration: f64) -> usize
 // A window, how long before or after due the service starts, and the end of the line.
 fn slack_words(out: &mut [u8], at: usize, ready: u64, due: u64, begin: u64) -> usize
     requires { at + 110 ≤ length out.old }
-    ensures text { let text = Text.window_words (some (record { ready = ready; due = due })) begin in
+    ensures text { let text = Text.window_words (Some (record { ready = ready; due = due })) begin in
         Put at text out.old out.new result }
     ensures short { result ≤ at + 90 }
 {
@@ -62,12 +59,12 @@ fn slack_words(out: &mut [u8], at: usize, ready: u64, due: u64, begin: u64) -> u
 }
 
 // The window, if there is one, and the end of the line.
-fn window_words(out: &mut [u8], at: usize, opening: Opening, begin: u64) -> usize
+fn window_words(out: &mut [u8], at: usize, opening: Option<TimeWindow>, begin: u64) -> usize
     requires { at + 110 ≤ length out.old }
     ensures text { Put at (Text.window_words (window_in (opening_of opening)) begin) out.old out.new result }
     ensures short { result ≤ at + 90 }
 {
-    let Opening::Window(window) = opening else {
+    let Some(window) = opening else {
         return word(&mut *out, at, b"\n");
     };
     slack_words(
@@ -87,12 +84,12 @@ pub fn stop_line(
     k: u64,
     visit: Visit,
     begin: f64,
-    start: Start,
+    start: Option<f64>,
     duration: f64,
-    opening: Opening,
+    opening: Option<TimeWindow>,
 ) -> usize
     requires { at + 420 ≤ length out.old }
-    ensures text { let told = stop_in (pause_in duration (start_of start)) (opening_of opening) visit begin in
+    ensures text { let told = stop_in (pause_in duration start) (opening_of opening) visit begin in
         Put at (Text.stop_line n k told) out.old out.new result }
     ensures short { result ≤ at + 400 }
 {

@@ -3,7 +3,7 @@ use Prim.Native.Nat.{ℕ, suc, ◌+◌, ◌≤◌}
 use native.Mathlib.Omega.{arith}
 use mathlib.Core.Bool.{Bool, true, false, not, ◌&&◌}
 use mathlib.Core.List.{List, [], ◌∷◌, ◌++◌}
-use mathlib.Core.Option.{Option, none, some}
+use Rattle.std.specs.Prelude.{Option, None, Some}
 use lib.Ieee.{Float}
 use lib.ListN.{length, length-append}
 use Rattle.basics.specs.Lists.{is_empty}
@@ -69,8 +69,8 @@ module _ (t : Tables) (capacity : Load) (limits : LimitsF) (place : ℕ) (calls 
   by-leg : (o : Option ℕ) → (length (timeline_by_f t capacity limits place calls o).route.visits ≤ length calls)
       × (length (timeline_by_f t capacity limits place calls o).route.violations ≤ length calls + 5)
   unfolding open_timeline_f
-  by-leg (some leg) = (omega arith, omega arith)
-  by-leg none =
+  by-leg (Some leg) = (omega arith, omega arith)
+  by-leg None =
       let r = given_rest_f t limits.rest place calls in
       let x = trip_f t r 1 start_trip calls in
       let totals = home_f t place x in

@@ -4,7 +4,7 @@ use native.Mathlib.Omega.{arith}
 use mathlib.Core.Path.{◌≡◌, refl, sym, ap, ◌∙◌}
 use mathlib.Core.Bool.{Bool, true, false, cond, not, ◌&&◌, ◌||◌, false≢true}
 use mathlib.Core.List.{List, [], ◌∷◌, map}
-use mathlib.Core.Option.{Option, some}
+use Rattle.std.specs.Prelude.{Option, Some}
 use lib.ListN.{length, length-map, length-append, length-take, length-drop, take, drop}
 use lib.Seq.{take_all}
 use lib.Dec.{ltb}
@@ -43,7 +43,7 @@ ends-stored m ends old new h k e =
 -- ---- more than 128 calls are refused, whatever the ends are
 
 -- 1 is given where neither 13 nor 14 fits
-third-fits : (a b c : Bool) (rest : List Refusal) → c ≡ true → first_fit (refusal 13 a ∷ refusal 14 b ∷ refusal 1 c ∷ rest) ≡ some (cond a 13 (cond b 14 1))
+third-fits : (a b c : Bool) (rest : List Refusal) → c ≡ true → first_fit (refusal 13 a ∷ refusal 14 b ∷ refusal 1 c ∷ rest) ≡ Some (cond a 13 (cond b 14 1))
 third-fits true b c rest e = refl
 third-fits false true c rest e = refl
 third-fits false false true rest e = refl
@@ -61,21 +61,21 @@ module _ (s : Sheet) (tour calls places : List ℕ) where
   number ends = cond (too_short marking (lent_runs s tour calls ends places)) 13 (cond (tables_odd s) 14 1)
 
   module _ (many : ltb most_calls (length calls) ≡ true) (ends : List ℕ) where
-    out : out_of_range some (lent_runs s tour calls ends places) ≡ true
+    out : out_of_range Some (lent_runs s tour calls ends places) ≡ true
     unfolding out_of_range
-    out = third_of (bad_sheet some s) (bad_tour s.head.places tour) (ltb most_calls (length calls)) (any (λ (c : ℕ). not (is_call s.head.places c)) calls) many
+    out = third_of (bad_sheet Some s) (bad_tour s.head.places tour) (ltb most_calls (length calls)) (any (λ (c : ℕ). not (is_call s.head.places c)) calls) many
 
-    refused : refusal_of some marking (lent_runs s tour calls ends places) ≡ some (number ends)
+    refused : refusal_of Some marking (lent_runs s tour calls ends places) ≡ Some (number ends)
     unfolding refusal_of refusals
     refused =
         let l = lent_runs s tour calls ends places in
-        third-fits (too_short marking l) (tables_odd s) (out_of_range some l)
+        third-fits (too_short marking l) (tables_odd s) (out_of_range Some l)
         (refusal 21 (repeats tour)
-        ∷ refusal 2 (pairs_fall some s)
-        ∷ refusal 22 (closures_differ some s.legs)
+        ∷ refusal 2 (pairs_fall Some s)
+        ∷ refusal 22 (closures_differ Some s.legs)
         ∷ refusal 5 (runs_odd marking l)
         ∷ refusal 4 (false && any_soft (records s))
-        ∷ refusal 23 (false && any_closed some s.legs)
+        ∷ refusal 23 (false && any_closed Some s.legs)
         ∷ [])
         out
 

@@ -4,7 +4,7 @@ use native.Mathlib.Omega.{arith}
 use mathlib.Core.Path.{◌≡◌, refl, sym, ap, subst, ◌∙◌}
 use mathlib.Core.Bool.{cond, true≢false}
 use mathlib.Core.List.{List, [], ◌∷◌, ◌++◌}
-use mathlib.Core.Option.{Option, none, some}
+use Rattle.std.specs.Prelude.{Option, None, Some}
 use lib.Ieee.{Float}
 use lib.ListN.{length, take, length-take}
 use borrow.Author.Tests.{ltb-false}
@@ -54,10 +54,10 @@ placed : (s : Sheet) (r : Run) → Proper s r → Given s r.calls r.place
 placed s r P = go s.head.rest refl P.placeable
   where
     go : (o : Option Break) → s.head.rest ≡ o → r.place ≤ cond (present o) (length r.calls) 0 → Given s r.calls r.place
-    go none e h = record { own = omega (arith, h); needed = λ n. omega (arith, h) }
-    go (some b) e h = record { own = h; needed = λ n. absurd (never (sym e ∙ n)) }
+    go None e h = record { own = omega (arith, h); needed = λ n. omega (arith, h) }
+    go (Some b) e h = record { own = h; needed = λ n. absurd (never (sym e ∙ n)) }
       where
-        never : some b ≡ none → ⊥
+        never : Some b ≡ None → ⊥
         never q = true≢false (ap present q)
 
 module _ (s : Sheet) (S : Sized s) (t : Tables) (I : Image s t) where
@@ -77,22 +77,22 @@ module _ (s : Sheet) (S : Sized s) (t : Tables) (I : Image s t) where
 
 -- the number of a refusal
 abbrev number_in : Answer (Unit {0}) → Option ℕ
-number_in (refused n) = some n
-number_in (gives x) = none
+number_in (refused n) = Some n
+number_in (gives x) = None
 
 number-in : (o : Option ℕ) → number_in (unless_refused o tt) ≡ o
-number-in none = refl
-number-in (some n) = refl
+number-in None = refl
+number-in (Some n) = refl
 
-given-number : (number : ℕ) (o : Option ℕ) → number ≡ value_or 0 o → (number ≡ 0 → ⊥) → o ≡ some number
-given-number number none e h = absurd (h e)
-given-number number (some n) e h = ap some (sym e)
+given-number : (number : ℕ) (o : Option ℕ) → number ≡ value_or 0 o → (number ≡ 0 → ⊥) → o ≡ Some number
+given-number number None e h = absurd (h e)
+given-number number (Some n) e h = ap Some (sym e)
 
 module _ (s : Sheet) (tour : List ℕ) (head : Head) (array : List Customer) (distances times : List Float) (H : InMemory s tour head array distances times) (calls ends places : List ℕ) (number : ℕ)
     (refuses : Refuses marking (λ cs. lent_of (sheet_of head cs distances times) tour calls ends places []) head.places array number) where
   -- of these runs on the sheet of whole numbers
   abbrev refusal : Option ℕ
-  refusal = refusal_of some marking (lent_runs s tour calls ends places)
+  refusal = refusal_of Some marking (lent_runs s tour calls ends places)
 
   -- and on the sheet in memory
   abbrev refusal_f : Option ℕ
@@ -112,11 +112,11 @@ module _ (s : Sheet) (tour : List ℕ) (head : Head) (array : List Customer) (di
   refused-times h = sym (ap (λ (o : Option ℕ). times_answer (unless_refused o (timelines_text s 1 given))) (sym same ∙ given-number number refusal_f told h))
 
   module _ (z : number ≡ 0) where
-    free : refusal ≡ none
+    free : refusal ≡ None
     free = sym same ∙ accepts marking (lent_of (sheet_of head (first s tour head array distances times H) distances times) tour calls ends places []) (sym z ∙ told)
 
-    accepted : Accepted some marking (lent_runs s tour calls ends places)
-    accepted = accepted-within some marking (lent_runs s tour calls ends places) free
+    accepted : Accepted Some marking (lent_runs s tour calls ends places)
+    accepted = accepted-within Some marking (lent_runs s tour calls ends places) free
 
     within-calls : WithinCalls s calls
     unfolding whole_sheet

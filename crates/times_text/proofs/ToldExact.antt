@@ -4,8 +4,7 @@ use native.Mathlib.Omega.{arith}
 use mathlib.Core.Path.{◌≡◌, refl, sym, ap, ◌∙◌}
 use mathlib.Core.Bool.{Bool, true, false, not, ◌&&◌}
 use mathlib.Core.List.{List, [], ◌∷◌, ◌++◌, map}
-use mathlib.Core.Option
-use mathlib.Core.Option.{Option, none, some}
+use Rattle.std.specs.Prelude.{Option, None, Some, option_map}
 use lib.Dec.{eqb}
 use lib.Ieee.{Float}
 use lib.ListN.{length}
@@ -45,18 +44,18 @@ use Rattle.times_lines.specs.Told.{start_at, pause_in, window_in, stops_in, viol
 
 -- ---- a call
 
-window-exact : (w : Option Window) → Holds SmallWindow w → window_in (Option.map fl_window w) ≡ w
-window-exact none W = refl
-window-exact (some w) W = rw (whole-part-fl w.ready (omega arith), whole-part-fl w.due (omega arith)) refl
+window-exact : (w : Option Window) → Holds SmallWindow w → window_in (option_map fl_window w) ≡ w
+window-exact None W = refl
+window-exact (Some w) W = rw (whole-part-fl w.ready (omega arith), whole-part-fl w.due (omega arith)) refl
 
-no-pause : (r : Option Break) → pause_of r none ≡ none
-no-pause none = refl
-no-pause (some b) = refl
+no-pause : (r : Option Break) → pause_of r None ≡ None
+no-pause None = refl
+no-pause (Some b) = refl
 
 pause-exact : (r : Option Break) → Holds SmallBreak r → (k arrival : ℕ) → k < most_calls → arrival ≤ ready_by k
-    → pause_in (duration_f (Option.map fl_break r)) (Option.map fl (rest_start r arrival)) ≡ pause_of r (rest_start r arrival)
-pause-exact none B k arrival few h = refl
-pause-exact (some b) B k arrival few h =
+    → pause_in (duration_f (option_map fl_break r)) (option_map fl (rest_start r arrival)) ≡ pause_of r (rest_start r arrival)
+pause-exact None B k arrival few h = refl
+pause-exact (Some b) B k arrival few h =
     by-test (too_late b arrival) (λ y. rw y refl)
     (λ f. rw (f, whole-part-fl (break_start b arrival) (omega arith), fl-sum (break_start b arrival) b.duration (omega arith), whole-part-fl (break_start b arrival + b.duration) (omega arith)) refl)
 
@@ -95,8 +94,8 @@ totals-exact t F =
     rw (whole-part-fl t.distance F.distance-fits, whole-part-fl t.duration F.duration-fits, whole-part-fl t.lateness F.lateness-fits, whole-part-fl t.pay F.pay-fits) refl
 
 due-fits : (w : Option Window) → Holds SmallWindow w → due_of w ≤ limit
-due-fits none W = omega arith
-due-fits (some w) W = omega arith
+due-fits None W = omega arith
+due-fits (Some w) W = omega arith
 
 module _ (s : Sheet) (S : Sized s) where
   windows-fit : (place k j a : ℕ) (l : Label) (calls : List ℕ) → k + length calls ≤ most_calls → Early k l → All Fits (windows_from s place j a l calls)
@@ -134,22 +133,22 @@ module _ (s : Sheet) (S : Sized s) where
 
   module _ (t : Tables) (I : Image s t) (place : ℕ) where
     abbrev length-of : Float
-    length-of = duration_f (Option.map fl_break s.head.rest)
+    length-of = duration_f (option_map fl_break s.head.rest)
 
     -- the break of these stops, by the break of the run
     pause-at : (o : Option ℕ) (k j a : ℕ) (l : Label) (n : Load) (c : ℕ) (cs : List ℕ) → k < most_calls → Early k l → (j ≤ place → o ≡ rest_of (stops_from s place j a l n (c ∷ cs)))
-        → pause_in length-of (start_at place (Option.map fl o) j) ≡ pause_of s.head.rest (rest_start (break_at s place j) (arrives_at s a c l))
+        → pause_in length-of (start_at place (option_map fl o) j) ≡ pause_of s.head.rest (rest_start (break_at s place j) (arrives_at s a c l))
     unfolding start_at ready
     pause-at o k j a l n c cs few E h =
         by-test (eqb place j)
         (λ y. let here = eqb-true place j y in
         let e = h (omega arith) ∙ rest-here s place j a l n c cs here in
-        rw (y, e) (pause-exact s.head.rest S.rest-small k (arrives_at s a c l) few (omega (arith, readiness-most s S k few none tt j a c l E))))
+        rw (y, e) (pause-exact s.head.rest S.rest-small k (arrives_at s a c l) few (omega (arith, readiness-most s S k few None tt j a c l E))))
         (λ f. rw f (sym (no-pause s.head.rest)))
 
     stops-exact : (o : Option ℕ) (k j a : ℕ) (l : Label) (n : Load) (calls : List ℕ) → k + length calls ≤ most_calls → Early k l → All (Place s) calls
         → (j ≤ place → o ≡ rest_of (stops_from s place j a l n calls))
-        → stops_in t.customers length-of place (Option.map fl o) j (map fl_visit (map (λ x. x.visit) (stops_from s place j a l n calls))) (map (λ x. fl x.begin) (stops_from s place j a l n calls))
+        → stops_in t.customers length-of place (option_map fl o) j (map fl_visit (map (λ x. x.visit) (stops_from s place j a l n calls))) (map (λ x. fl x.begin) (stops_from s place j a l n calls))
         ≡ map (told_of s) (stops_from s place j a l n calls)
     unfolding stops_in stops_from record_f ready
     stops-exact o k j a l n [] few E i h = refl
@@ -159,7 +158,7 @@ module _ (s : Sheet) (S : Sized s) where
           pause-at o k j a l n c cs fewer E h,
           record-exact s S t I c i.0,
           window-exact (customer s c).window C.window-small,
-          whole-part-fl (arrives_at s a c l) (omega (arith, readiness-most s S k fewer none tt j a c l E)),
+          whole-part-fl (arrives_at s a c l) (omega (arith, readiness-most s S k fewer None tt j a c l E)),
           whole-part-fl (begins (customer s c).window (ready_for s here a c l)) (omega (arith, begins-most (customer s c).window C.window-small k _ most)),
           whole-part-fl m.time (omega (arith, M)),
           stops-exact o (suc k) (suc j) c m load_after cs (omega arith) M i.1 later,
@@ -185,7 +184,7 @@ module _ (s : Sheet) (S : Sized s) where
 
         later : suc j ≤ place → o ≡ rest_of (stops_from s place (suc j) c m load_after cs)
         later q =
-            let away : here ≡ none = rw (ne_eqb place j apart) refl in
+            let away : here ≡ None = rw (ne_eqb place j apart) refl in
             h (omega arith) ∙ rest-later s place j a l n c cs apart
             ∙ ap (λ (b : Option Break). rest_of (stops_from s place (suc j) c (visited s b j a c l) load_after cs)) (sym away)
           where
@@ -200,11 +199,11 @@ module _ (s : Sheet) (S : Sized s) where
 
       -- what the lines tell of a timeline, held in floats
       abbrev lines_of : Timeline → List ℕ
-      lines_of x = run_text_f t.customers (Option.map fl_break s.head.rest) place n (fl_timeline x).route (fl_timeline x).begins
+      lines_of x = run_text_f t.customers (option_map fl_break s.head.rest) place n (fl_timeline x).route (fl_timeline x).begins
 
       totals-small : (o : Option Totals) → home s calls (last_label s place 1 0 start calls) ≡ o → TotalsFit (value_or no_totals o)
-      totals-small none e = omega arith
-      totals-small (some x) e = totals-fit (length calls) few x (home-most s S calls (last_label s place 1 0 start calls) (last-most s S place calls few) x e)
+      totals-small None e = omega arith
+      totals-small (Some x) e = totals-fit (length calls) few x (home-most s S calls (last_label s place 1 0 start calls) (last-most s S place calls few) x e)
 
       open_told : lines_of (open_timeline s run) ≡ timeline_text s n (open_timeline s run)
       unfolding run_text_f timeline_text open_timeline
@@ -229,5 +228,5 @@ module _ (s : Sheet) (S : Sized s) where
       told-exact = go (first_closed s calls) refl
         where
           go : (o : Option ℕ) → first_closed s calls ≡ o → lines_of (timeline s run) ≡ timeline_text s n (timeline s run)
-          go (some leg) e = rw (timeline-closed s run leg e) (closed-told leg)
-          go none e = rw (timeline-open s run e) open_told
+          go (Some leg) e = rw (timeline-closed s run leg e) (closed-told leg)
+          go None e = rw (timeline-open s run e) open_told

@@ -75,23 +75,19 @@ pub fn runs_text(
 {
     let mut end = 0;
     let mut from = 0;
-    let mut k = 0;
-    while k < ends.len() {
-        let to = ends[k];
-        let place = places[k];
+    for (k, &to) in ends.iter().enumerate() {
         end = run_text(
             &mut *out,
             end,
             (k + 1) as u64,
             &calls[from..to],
-            place,
+            places[k],
             customers,
             distances,
             times,
             head,
         );
         from = to;
-        k += 1;
     }
     end
 }

@@ -5,7 +5,7 @@ use native.Mathlib.Omega.{arith}
 use mathlib.Core.Path.{◌≡◌, refl, sym, ap, ap₂, subst, ◌∙◌}
 use mathlib.Core.Bool.{Bool, true, false}
 use mathlib.Core.List.{List, [], ◌∷◌, ◌++◌, reverse}
-use mathlib.Core.Option.{some}
+use Rattle.std.specs.Prelude.{Some}
 use lib.ListN.{length, get_or, take, drop, length-take, length-drop, take-append-drop}
 use lib.Seq.{drop-cons, get_or-drop, drop-drop}
 use lib.Dec.{ltb}
@@ -102,7 +102,7 @@ same-order new old turn there d e h =
     by-test (ltb e d) (λ t. let k = ltb-true e d t in rw t (lt-ltb (new + turn) (old + there) (omega arith)))
     (λ f. let k = ltb-false e d f in rw f (le-ltb (new + turn) (old + there) (omega arith)))
 
-module _ (s : Sheet) (S : Sized s) (O : any_closed some s.legs ≡ false) (t : Tables) (I : Image s t) where
+module _ (s : Sheet) (S : Sized s) (O : any_closed Some s.legs ≡ false) (t : Tables) (I : Image s t) where
   abbrev G : Given
   G = given_of s
 

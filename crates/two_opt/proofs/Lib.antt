@@ -1,5 +1,4 @@
--- A lent list turned round, and the legs of a stretch that is turned.
-pub mod Turning
+-- The legs of a stretch that is turned.
 pub mod TurnedLegs
 -- One reversal, and the search for reversals, step by step.
 pub mod Trying

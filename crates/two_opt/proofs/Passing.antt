@@ -76,10 +76,9 @@ module _ (t : Tables) (s : RulesF) where
   -- ---- the passes
 
   module _ (run : List ℕ) (new : List ℕ) where
-    pub pass-more : (left : ℕ) → 0 < left → state new true ≡ pass_f t s run → passes_f t s left run ≡ passes_f t s (left - 1) new
+    pub pass-more : (left next : ℕ) → left ≡ suc next → state new true ≡ pass_f t s run → passes_f t s left run ≡ passes_f t s next new
     unfolding passes_f
-    pass-more zero h e = absurd (lt_irrefl 0 h)
-    pass-more (suc left) h e = let z : suc left - 1 ≡ left = omega arith in rw (← e, z)
+    pass-more left next h e = rw (h, ← e)
 
     pub pass-last : (left : ℕ) → 0 < left → state new false ≡ pass_f t s run → passes_f t s left run ≡ new
     unfolding passes_f

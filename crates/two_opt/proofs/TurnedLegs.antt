@@ -1,27 +1,32 @@
 -- The legs of a stretch that is turned, one at a time: what is left of them, on top of what is reckoned already. Assumes nothing.
-use Prim.Native.Nat.{ℕ, zero, suc, ◌+◌, ◌-◌, ◌<◌, ◌≤◌}
+use Prim.Native.Nat.{ℕ, zero, suc, ◌-◌, ◌<◌, ◌≤◌}
 use native.Mathlib.Nat.{not-suc-le-zero, le_of_suc-le-suc}
-use native.Mathlib.Numerals.{add-one}
 use native.Mathlib.Omega.{arith}
 use mathlib.Core.Path.{◌≡◌, refl, sym, ap, ap₂, ◌∙◌}
 use mathlib.Core.Bool.{Bool, true, false}
 use mathlib.Core.List.{List, [], ◌∷◌}
-use lib.ListN.{length, get_or, take, drop, length-drop, drop_of_length-le}
-use lib.Seq.{drop-cons, get_or-drop}
+use lib.ListN.{length, get_or, take, drop, length-drop}
+use lib.Seq.{get_or-drop}
 use lib.Ieee as Ieee
 use lib.Ieee.{Float, binary64}
 use Rattle.whole.specs.Whole.{fl}
 use Rattle.two_opt.specs.Delta.{turned_legs_f, reversal_delta_f}
 
-module _ (leg : ℕ → ℕ → Float) (segment : List ℕ) (sum : Float) (prev k : ℕ) where
-  pub turned-legs-turn : (back there : Float) → k < length segment → back ≡ leg (get_or segment k 0) prev → there ≡ leg prev (get_or segment k 0)
-      → turned_legs_f leg sum prev (drop k segment) ≡ turned_legs_f leg (Ieee.add binary64 sum (Ieee.sub binary64 back there)) (get_or segment k 0) (drop (k + 1) segment)
+-- what is left, pair by pair
+module _ (leg : ℕ → ℕ → Float) where
+  pub turned-legs-turn : (sum : Float) (rest pair next : List ℕ) (back there : Float) → 2 ≤ length rest → pair ≡ take 2 rest → next ≡ drop 1 rest
+      → back ≡ leg (get_or pair 1 0) (get_or pair 0 0) → there ≡ leg (get_or pair 0 0) (get_or pair 1 0)
+      → turned_legs_f leg sum (get_or rest 0 0) (drop 1 rest) ≡ turned_legs_f leg (Ieee.add binary64 sum (Ieee.sub binary64 back there)) (get_or next 0 0) (drop 1 next)
   unfolding turned_legs_f
-  turned-legs-turn back there h b t = rw (b, t, add-one k, drop-cons segment k 0 h)
+  turned-legs-turn sum [] pair next back there h p n b t = absurd (omega arith)
+  turned-legs-turn sum (x ∷ []) pair next back there h p n b t = absurd (omega arith)
+  turned-legs-turn sum (x ∷ y ∷ l) pair next back there h p n b t = rw (n, b, t, p)
 
-  pub turned-legs-end : length segment ≤ k → turned_legs_f leg sum prev (drop k segment) ≡ sum
+  pub turned-legs-end : (sum : Float) (rest : List ℕ) → length rest < 2 → turned_legs_f leg sum (get_or rest 0 0) (drop 1 rest) ≡ sum
   unfolding turned_legs_f
-  turned-legs-end h = rw (drop_of_length-le segment h)
+  turned-legs-end sum [] h = refl
+  turned-legs-end sum (x ∷ []) h = refl
+  turned-legs-end sum (x ∷ y ∷ l) h = absurd (omega arith)
 
 -- ---- a call more at the end
 

@@ -6,7 +6,7 @@ use mathlib.Core.Path.{◌≡◌, refl, sym, ap, subst, ◌∙◌}
 use mathlib.Core.Logic.{◌⊎◌, inl, inr}
 use mathlib.Core.Bool.{true, false, cond}
 use mathlib.Core.List.{List, [], ◌∷◌}
-use mathlib.Core.Option.{some}
+use Rattle.std.specs.Prelude.{Some}
 use lib.ListN.{length}
 use lib.Dec.{ltb, eqb}
 use lib.Ieee as Ieee
@@ -87,7 +87,7 @@ among-all (c ∷ cs) = (by-test (eqb c c) (λ t. rw t) (λ f. absurd (eqb-false 
     later : (d : ℕ) → called cs d ≡ true → called (c ∷ cs) d ≡ true
     later d m = by-test (eqb c d) (λ t. rw t) (λ f. rw f m)
 
-module _ (s : Sheet) (W : Within s) (O : any_closed some s.legs ≡ false) (t : Tables) (I : Image s t) (route : List ℕ) (inside : All (Place s) route) where
+module _ (s : Sheet) (W : Within s) (O : any_closed Some s.legs ≡ false) (t : Tables) (I : Image s t) (route : List ℕ) (inside : All (Place s) route) where
   abbrev S : Sized s
   S = sized s W
 
@@ -136,7 +136,7 @@ module _ (s : Sheet) (W : Within s) (O : any_closed some s.legs ≡ false) (t : 
   distance-bound (c ∷ cs) few = omega (arith, legs-most (open_leg s) (open-small s S) 0 (c ∷ cs))
 
   -- a run with calls, leg by leg from the depot
-  from-depot : (run : List ℕ) → 0 < length run → distance_from s 0 run ≡ some (distance_of G run)
+  from-depot : (run : List ℕ) → 0 < length run → distance_from s 0 run ≡ Some (distance_of G run)
   from-depot [] h = absurd (omega arith)
   from-depot (c ∷ cs) h = run-open s W O 0 (c ∷ cs)
 
@@ -270,7 +270,7 @@ pub record AsDefined (s : Sheet) (t : Tables) (run : List ℕ) : Type 0 where
   pub calls_are : improved_f t (told s t) run ≡ (two_opt s run).calls
   pub distance_is : improved_distance_f t (told s t) run ≡ fl (two_opt s run).distance
 
-pub two-opt-exact : (s : Sheet) → Within s → any_closed some s.legs ≡ false → (t : Tables) → Image s t → (run : List ℕ) → WithinCalls s run → AsDefined s t run
+pub two-opt-exact : (s : Sheet) → Within s → any_closed Some s.legs ≡ false → (t : Tables) → Image s t → (run : List ℕ) → WithinCalls s run → AsDefined s t run
 two-opt-exact s W O t I run C =
     let inside = calls-inside s run C in
     let few = few-calls s run C in

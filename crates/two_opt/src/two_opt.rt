@@ -36,14 +36,9 @@ pub fn reversal_delta(segment: &[usize], distances: &[f64], size: usize, symmetr
         return 0.0;
     }
     let mut sum = 0.0;
-    let mut prev = call_at(segment, 0);
-    let mut k = 1;
-    while k < segment.len() {
-        let next = segment[k];
-        let back = open_leg(distances, size, next, prev);
-        sum = sum + (back - open_leg(distances, size, prev, next));
-        prev = next;
-        k += 1;
+    for [prev, next] in segment.array_windows::<2>() {
+        let back = open_leg(distances, size, *next, *prev);
+        sum += back - open_leg(distances, size, *prev, *next);
     }
     sum
 }
@@ -272,12 +267,9 @@ pub fn try_all(
         return tried;
     }
     let mut known = tried;
-    let mut next = i + 1;
     let mut into = leg_into(&current[..], distances, size, i);
-    let mut turned = turned_between(&current[..], distances, size, rules.symmetric, i, next);
-    while next < current.len() {
-        let j = next;
-        next += 1;
+    let mut turned = turned_between(&current[..], distances, size, rules.symmetric, i, i + 1);
+    for j in i + 1..current.len() {
         turned = turned_on(&current[..], distances, size, rules.symmetric, turned, i, j);
         let delta = two_opt_delta(
             &current[..],
@@ -307,7 +299,7 @@ pub fn try_all(
             known,
         );
         into = leg_into(&current[..], distances, size, i);
-        turned = turned_between(&current[..], distances, size, rules.symmetric, i, next);
+        turned = turned_between(&current[..], distances, size, rules.symmetric, i, j + 1);
     }
     known
 }
@@ -336,8 +328,7 @@ pub fn pass(
     };
     let rest = limits.rest;
     let mut prefix = set_out(rest);
-    let mut i: usize = 0;
-    while i + 1 < current.len() {
+    for i in 0..current.len().saturating_sub(1) {
         tried = try_all(
             &mut *current,
             codes,
@@ -352,7 +343,6 @@ pub fn pass(
         );
         let cid = current[i];
         prefix = go_on(prefix, cid, codes, figures, distances, times, size);
-        i += 1;
     }
     tried.improved
 }
@@ -377,12 +367,10 @@ pub fn passes(
         let tables = listed lists distances.now times.now size in
         current.new ≡ passes_f tables (rules_of rules) most_passes current.old }
 {
-    let mut left = MOST_PASSES;
-    while 0 < left {
+    for _ in 0..MOST_PASSES {
         if !pass(&mut *current, codes, figures, distances, times, size, rules) {
             return;
         }
-        left -= 1;
     }
 }
 

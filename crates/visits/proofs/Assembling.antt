@@ -4,7 +4,7 @@ use Prim.Native.Nat.{ℕ, suc}
 use native.Mathlib.Omega.{arith}
 use mathlib.Core.Path.{◌≡◌, refl, sym, ap, ◌∙◌}
 use mathlib.Core.List.{List, [], ◌∷◌}
-use mathlib.Core.Option.{none, some}
+use Rattle.std.specs.Prelude.{None, Some}
 use lib.ListN.{length, length-take}
 use lib.Ieee as Ieee
 use lib.Ieee.{Float, binary64}
@@ -25,7 +25,7 @@ use Rattle.visits.specs.Building.{RouteF, open_route_f, closed_route_f, route_f,
 -- ---- by the first closed leg
 
 module _ (t : Tables) (capacity : Load) (limits : LimitsF) (calls : List ℕ) (b : Built) where
-  pub builds-closed : (leg : ℕ) → closed_f (leg_f t) 1 0 calls ≡ some leg → (built_of b ≡ closed_route_f leg) × (b.count ≡ 0) × (b.found ≡ 1) → Builds t capacity limits calls b
+  pub builds-closed : (leg : ℕ) → closed_f (leg_f t) 1 0 calls ≡ Some leg → (built_of b ≡ closed_route_f leg) × (b.count ≡ 0) × (b.found ≡ 1) → Builds t capacity limits calls b
   unfolding build_route_f
   builds-closed leg e h =
       let route : closed_route_f leg ≡ build_route_f t capacity limits calls = ap (route_f t capacity limits calls) (sym e) in
@@ -43,8 +43,8 @@ unfolding visits_f
 visits-counted t r k x [] = refl
 visits-counted t r k x (c ∷ cs) = ap suc (visits-counted t r (suc k) _ cs)
 
-module _ (t : Tables) (capacity : Load) (limits : LimitsF) (calls : List ℕ) (O : closed_f (leg_f t) 1 0 calls ≡ none) (at : RestAt) (w : VisitedRun) (f : Violations) (g : Leg)
-    (er : rest_at_of at ≡ rest_at_f t limits.rest calls) (W : Walks t (rest_at_of at) calls w) (eg : some g ≡ leg_f t w.trip.prev 0) where
+module _ (t : Tables) (capacity : Load) (limits : LimitsF) (calls : List ℕ) (O : closed_f (leg_f t) 1 0 calls ≡ None) (at : RestAt) (w : VisitedRun) (f : Violations) (g : Leg)
+    (er : rest_at_of at ≡ rest_at_f t limits.rest calls) (W : Walks t (rest_at_of at) calls w) (eg : Some g ≡ leg_f t w.trip.prev 0) where
   abbrev distance : Float
   distance = Ieee.add binary64 w.trip.distance g.distance
 

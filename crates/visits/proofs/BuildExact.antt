@@ -4,8 +4,7 @@ use native.Mathlib.Omega.{arith}
 use mathlib.Core.Path.{◌≡◌, refl, sym, ap, ap₂, ◌∙◌}
 use mathlib.Core.Bool.{Bool, true, false, not, ◌&&◌, not-not}
 use mathlib.Core.List.{List, [], ◌∷◌, ◌++◌, map, map-append}
-use mathlib.Core.Option
-use mathlib.Core.Option.{Option, none, some}
+use Rattle.std.specs.Prelude.{Option, None, Some, option_map}
 use lib.Dec.{ltb}
 use lib.ListN.{length}
 use Rattle.basics.specs.Options.{Holds, present, value_or}
@@ -47,9 +46,9 @@ use Rattle.visits.proofs.VisitsExact.{fl_trip, fl_rest, Onward, open-exact, visi
 
 -- ---- the violations
 
-over-exact : (o : Option ℕ) (n : ℕ) → Holds Small o → n ≤ limit → over_f (Option.map fl o) (fl n) ≡ not (within o n)
-over-exact none n h i = refl
-over-exact (some m) n h i = rw (fl-lt m n (omega arith) i) (rw (← not-ltb m n) (sym (not-not (ltb m n))))
+over-exact : (o : Option ℕ) (n : ℕ) → Holds Small o → n ≤ limit → over_f (option_map fl o) (fl n) ≡ not (within o n)
+over-exact None n h i = refl
+over-exact (Some m) n h i = rw (fl-lt m n (omega arith) i) (rw (← not-ltb m n) (sym (not-not (ltb m n))))
 
 -- a violation where a test holds is one where the opposite test fails
 when-exact : (b c : Bool) (v : Violation) → b ≡ not c → when b (fl_violation v) ≡ map fl_violation (unless c v)
@@ -103,24 +102,24 @@ module _ (s : Sheet) (S : Sized s) (t : Tables) (I : Image s t) (calls : List �
 
   -- the place, and whether there is none
   placed-exact : (r : Option Break) → s.head.rest ≡ r
-      → (place_of (placed_f t (Option.map fl_break r) calls) ≡ place) × (missing_f (Option.map fl_break r) (placed_f t (Option.map fl_break r) calls) ≡ present r && not (present (clock s calls)))
+      → (place_of (placed_f t (option_map fl_break r) calls) ≡ place) × (missing_f (option_map fl_break r) (placed_f t (option_map fl_break r) calls) ≡ present r && not (present (clock s calls)))
   unfolding placed_f
-  placed-exact none e = (go (clock s calls) refl, refl)
+  placed-exact None e = (go (clock s calls) refl, refl)
     where
       go : (o : Option Totals) → clock s calls ≡ o → 0 ≡ place_or o
-      go none q = refl
-      go (some u) q = sym (no_place s calls e u q)
-  placed-exact (some b) e = rw (schedule-exact s S t I b e calls few i) (go (clock s calls))
+      go None q = refl
+      go (Some u) q = sym (no_place s calls e u q)
+  placed-exact (Some b) e = rw (schedule-exact s S t I b e calls few i) (go (clock s calls))
     where
-      go : (o : Option Totals) → (place_of (Option.map fl_totals o) ≡ place_or o) × (not (present (Option.map fl_totals o)) ≡ not (present o))
-      go none = (refl, refl)
-      go (some u) = (refl, refl)
+      go : (o : Option Totals) → (place_of (option_map fl_totals o) ≡ place_or o) × (not (present (option_map fl_totals o)) ≡ not (present o))
+      go None = (refl, refl)
+      go (Some u) = (refl, refl)
 
-  length-exact : (o : Option Break) → duration_f (Option.map fl_break o) ≡ fl (length_of o)
-  length-exact none = refl
-  length-exact (some b) = refl
+  length-exact : (o : Option Break) → duration_f (option_map fl_break o) ≡ fl (length_of o)
+  length-exact None = refl
+  length-exact (Some b) = refl
 
-  rest-exact : rest_at_f t (Option.map fl_break s.head.rest) calls ≡ fl_rest s place began missing
+  rest-exact : rest_at_f t (option_map fl_break s.head.rest) calls ≡ fl_rest s place began missing
   unfolding rest_at_f
   rest-exact = let p = placed-exact s.head.rest refl in rw (p.1, p.0, length-exact s.head.rest, start-exact s S t I calls few i place)
 
@@ -143,16 +142,16 @@ module _ (s : Sheet) (S : Sized s) (t : Tables) (I : Image s t) (calls : List �
   began-fits = go began refl
     where
       go : (o : Option ℕ) → began ≡ o → Holds (λ (n : ℕ). n ≤ limit) o
-      go none q = tt
-      go (some n) q = omega (arith, start-most s S calls place few n q)
+      go None q = tt
+      go (Some n) q = omega (arith, start-most s S calls place few n q)
 
   -- ---- a run without a closed leg, so long and with the way home `w`
 
-  module _ (roads : first_closed s calls ≡ none) (d : ℕ) (far : distance_from s 0 calls ≡ some d) (w : Leg) (back : drive s (last_of 0 calls) 0 ≡ some w) where
+  module _ (roads : first_closed s calls ≡ None) (d : ℕ) (far : distance_from s 0 calls ≡ Some d) (w : Leg) (back : drive s (last_of 0 calls) 0 ≡ Some w) where
     abbrev totals : Totals
     totals = home_by s calls d w.travel last
 
-    came-home : home s calls last ≡ some totals
+    came-home : home s calls last ≡ Some totals
     came-home = home-is s calls d w far back last
 
     last-place : last.place ≡ place
@@ -160,8 +159,8 @@ module _ (s : Sheet) (S : Sized s) (t : Tables) (I : Image s t) (calls : List �
     last-place = go (clock s calls) refl
       where
         go : (o : Option Totals) → clock s calls ≡ o → last.place ≡ place
-        go none q = rw q (last-unplaced 0 0 start calls)
-        go (some u) q =
+        go None q = rw q (last-unplaced 0 0 start calls)
+        go (Some u) q =
             ap (λ (x : Option Totals). (value_or no_totals x).place) (sym came-home)
             ∙ ap (λ (x : Route). x.totals.place) (sym (route-open s calls roads))
             ∙ ap (λ (x : Totals). x.place) (visits-clock s calls u q).0
@@ -209,8 +208,8 @@ module _ (s : Sheet) (S : Sized s) (t : Tables) (I : Image s t) (calls : List �
   build-exact = ap (route_f t s.head.capacity (fl_limits s) calls) (first-closed-exact s S t I calls i) ∙ go (first_closed s calls) refl
     where
       go : (o : Option ℕ) → first_closed s calls ≡ o → route_f t s.head.capacity (fl_limits s) calls o ≡ fl_route (build_route s calls)
-      go (some leg) e = ap fl_route (sym (route-closed s calls leg e))
-      go none e =
+      go (Some leg) e = ap fl_route (sym (route-closed s calls leg e))
+      go None e =
           let (d, far) = open-distance s 1 0 calls e in
           let (w, back) = distance-home s 0 calls d far in
           open-route-exact e d far w back ∙ ap fl_route (sym (route-open s calls e))

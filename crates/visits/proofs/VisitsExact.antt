@@ -5,8 +5,7 @@ use native.Mathlib.Nat.{add-zero}
 use mathlib.Core.Path.{◌≡◌, refl, sym, ap, ◌∙◌}
 use mathlib.Core.Bool.{Bool, not}
 use mathlib.Core.List.{List, [], ◌∷◌, map}
-use mathlib.Core.Option
-use mathlib.Core.Option.{Option, none, some}
+use Rattle.std.specs.Prelude.{Option, None, Some, option_map}
 use lib.Dec.{eqb}
 use lib.ListN.{length}
 use lib.Ieee as Ieee
@@ -54,26 +53,26 @@ fl_trip far l carried a = record { label = fl_label (unplaced l); distance = far
 
 -- the break by its place and start
 abbrev pub fl_rest : Sheet → ℕ → Option ℕ → Bool → RestF
-fl_rest s place o missing = record { place = place; start = Option.map fl o; duration = fl (length_of s.head.rest); missing = missing }
+fl_rest s place o missing = record { place = place; start = option_map fl o; duration = fl (length_of s.head.rest); missing = missing }
 
 length-small : (o : Option Break) → Holds SmallBreak o → Small (length_of o)
-length-small none B = omega arith
-length-small (some b) B = B.duration-small
+length-small None B = omega arith
+length-small (Some b) B = B.duration-small
 
 pub ready-exact : (s : Sheet) → Sized s → (place : ℕ) (o : Option ℕ) (missing : Bool) → Holds (λ (n : ℕ). n ≤ limit) o → (k arrival : ℕ)
     → ready_at_f (fl_rest s place o missing) k (fl arrival) ≡ fl (ready_at s place o k arrival)
 unfolding ready_at_f
-ready-exact s S place none missing O k arrival = refl
-ready-exact s S place (some from) missing O k arrival =
+ready-exact s S place None missing O k arrival = refl
+ready-exact s S place (Some from) missing O k arrival =
     by-test (eqb place k) (λ y. rw (y, fl-add from (length_of s.head.rest) O (omega (arith, length-small s.head.rest S.rest-small)))) (λ n. rw n)
 
 -- ---- a call after k others
 
 module _ (k : ℕ) (few : k < most_calls) where
-  pub begin-exact : (w : Option Window) → Holds SmallWindow w → (r : ℕ) → r ≤ ready_by k → begin_f (Option.map fl_window w) (fl r) ≡ fl (begins w r)
+  pub begin-exact : (w : Option Window) → Holds SmallWindow w → (r : ℕ) → r ≤ ready_by k → begin_f (option_map fl_window w) (fl r) ≡ fl (begins w r)
   unfolding begin_f
-  begin-exact none W r h = refl
-  begin-exact (some w) W r h =
+  begin-exact None W r h = refl
+  begin-exact (Some w) W r h =
       let z : r + (w.ready - r) ≡ max r w.ready = omega arith in
       rw (waiting-exact w r (omega arith) (omega arith) (omega arith), fl-add r (w.ready - r) (omega arith) (omega arith), z)
 
@@ -93,19 +92,19 @@ module _ (k : ℕ) (few : k < most_calls) where
       where
         go : (o : Option Entry) → enter c.window c.penalty r ≡ o
             → served_by (fl_customer c) (fl r) (fl_label (unplaced l))
-            (Option.map (λ (e : Entry). fl_label (record { time = e.start; lateness = l.lateness + e.lateness; pay = l.pay + e.pay; place = 0 })) o)
+            (option_map (λ (e : Entry). fl_label (record { time = e.start; lateness = l.lateness + e.lateness; pay = l.pay + e.pay; place = 0 })) o)
             ≡ record { label = fl_label (left o); shut = not (present o) }
-        go none q =
+        go None q =
             let z = begins-most c.window C.window-small k r h in
             rw (begin-exact c.window C.window-small r h, fl-add (begins c.window r) c.service (omega arith) (omega (arith, C.service-small)), add-zero l.lateness, add-zero l.pay)
-        go (some e) q =
+        go (Some e) q =
             let s = enter-most k few c.window c.penalty C.window-small C.penalty-small r h e q in
             rw (fl-add e.start c.service (omega arith) (omega (arith, C.service-small)))
 
 -- ---- the walk
 
 -- where no leg is closed, the first can be driven and none of the others is closed
-road-on : (s : Sheet) (j a c : ℕ) (cs : List ℕ) → closed_from s j a (c ∷ cs) ≡ none → (g : Leg) × (drive s a c ≡ some g) × (closed_from s (suc j) c cs ≡ none)
+road-on : (s : Sheet) (j a c : ℕ) (cs : List ℕ) → closed_from s j a (c ∷ cs) ≡ None → (g : Leg) × (drive s a c ≡ Some g) × (closed_from s (suc j) c cs ≡ None)
 unfolding closed_from
 road-on s j a c cs q = by-leg s a c (λ f. clash (sym (rw f at q))) (λ g e. (g, e, rw e at q))
 
@@ -116,15 +115,15 @@ pub record Onward (s : Sheet) (place : ℕ) (o : Option ℕ) (k j a : ℕ) (l : 
   pub calls-inside : All (Place s) calls
   pub early : Early k l
   pub agreed : Agrees s place o j a l calls
-  pub roads : closed_from s j a calls ≡ none
+  pub roads : closed_from s j a calls ≡ None
 
 module _ (s : Sheet) (S : Sized s) (t : Tables) (I : Image s t) (place : ℕ) (o : Option ℕ) (missing : Bool) (O : Holds (λ (n : ℕ). n ≤ limit) o) where
   abbrev R : RestF
   R = fl_rest s place o missing
 
   -- a leg that can be driven, in floats
-  pub open-exact : (a c : ℕ) → Place s a → Place s c → (g : Leg) → drive s a c ≡ some g → open_f t a c ≡ fl_leg g
-  open-exact a c p q g e = ap (λ (x : Option Held.Leg). value_or (record { distance = fl 0; time = fl 0 }) x) (leg-exact s S t I a c p q ∙ ap (Option.map fl_leg) e)
+  pub open-exact : (a c : ℕ) → Place s a → Place s c → (g : Leg) → drive s a c ≡ Some g → open_f t a c ≡ fl_leg g
+  open-exact a c p q g e = ap (λ (x : Option Held.Leg). value_or (record { distance = fl 0; time = fl 0 }) x) (leg-exact s S t I a c p q ∙ ap (option_map fl_leg) e)
 
   module _ (k j a : ℕ) (l : Whole.Label) (c : ℕ) (cs : List ℕ) (H : Onward s place o k j a l (c ∷ cs)) where
     -- call number j
@@ -193,7 +192,7 @@ module _ (s : Sheet) (S : Sized s) (t : Tables) (I : Image s t) (place : ℕ) (o
       (by-test (present (entered s c (readiness k j a l c cs H))) (λ y. rw y) (λ n. rw n))
 
   -- with so far gone before them, and the way home `w`
-  pub trip-exact : (k j a far : ℕ) (l : Whole.Label) (carried : Load) (calls : List ℕ) (d : ℕ) → distance_from s a calls ≡ some d → (w : Leg) → drive s (last_of a calls) 0 ≡ some w
+  pub trip-exact : (k j a far : ℕ) (l : Whole.Label) (carried : Load) (calls : List ℕ) (d : ℕ) → distance_from s a calls ≡ Some d → (w : Leg) → drive s (last_of a calls) 0 ≡ Some w
       → far + d ≤ limit → Onward s place o k j a l calls
       → (gone : ℕ) × (gone + w.length ≡ far + d) × (trip_f t R j (fl_trip (fl far) l carried a) calls ≡ fl_trip (fl gone) (last_label s place j a l calls) (plus carried (load s calls)) (last_of a calls))
   unfolding trip_f last_label

@@ -6,7 +6,7 @@ use native.Mathlib.Numerals.{add-one}
 use mathlib.Core.Path.{◌≡◌, refl, sym, ap, subst, ◌∙◌}
 use mathlib.Core.Bool.{Bool, true, false, cond}
 use mathlib.Core.List.{List, [], ◌∷◌, ◌++◌, append_assoc, append-nil}
-use mathlib.Core.Option.{Option, none, some}
+use Rattle.std.specs.Prelude.{Option, None, Some}
 use lib.ListN.{length, get_or, take, drop, set, length-set, drop_of_length-le}
 use lib.Seq.{drop-cons, take-set-le, take-suc-set}
 use lib.Ieee as Ieee
@@ -60,7 +60,7 @@ module _ (x : TripF) (r : RestF) (k cid : ℕ) (c : CustomerOf Float) (distance 
 -- ---- the walk
 
 -- where no leg is closed, the first is open and none of the others is closed
-none-closed : (b : Bool) (o : Option ℕ) (k : ℕ) → cond b o (some k) ≡ none → (b ≡ true) × (o ≡ none)
+none-closed : (b : Bool) (o : Option ℕ) (k : ℕ) → cond b o (Some k) ≡ None → (b ≡ true) × (o ≡ None)
 none-closed true o k e = (refl, e)
 none-closed false o k e = clash (sym e)
 
@@ -71,7 +71,7 @@ pub record Underway (t : Tables) (r : RestF) (calls : List ℕ) (visits : List V
   pub visits-go : take i visits ++ visits_f t r (suc i) x (drop i calls) ≡ visits_f t r 1 start_trip calls
   pub windows-go : take count list ++ windows_f t r (suc i) x (drop i calls) ≡ windows_f t r 1 start_trip calls
   pub trip-goes : trip_f t r (suc i) x (drop i calls) ≡ trip_f t r 1 start_trip calls
-  pub roads : closed_f (leg_f t) (suc i) x.prev (drop i calls) ≡ none
+  pub roads : closed_f (leg_f t) (suc i) x.prev (drop i calls) ≡ None
   pub few : count ≤ i
   pub load-most : UpTo i x.load
   pub visits-long : length visits ≡ 128
@@ -79,7 +79,7 @@ pub record Underway (t : Tables) (r : RestF) (calls : List ℕ) (visits : List V
 
 module _ (t : Tables) (r : RestF) (calls : List ℕ) where
   pub set_out : (visits : List Visit) (list : List Violation) (x : TripF)
-      → length calls ≤ 128 → closed_f (leg_f t) 1 0 calls ≡ none → length visits ≡ 128 → length list ≡ most_violations → x ≡ start_trip → Underway t r calls visits list 0 x 0
+      → length calls ≤ 128 → closed_f (leg_f t) 1 0 calls ≡ None → length visits ≡ 128 → length list ≡ most_violations → x ≡ start_trip → Underway t r calls visits list 0 x 0
   set_out visits list x s o v l e =
       rw e
       (record {
@@ -101,7 +101,7 @@ module _ (t : Tables) (r : RestF) (calls : List ℕ) where
     countable = up-to-more i 1000 x.load (omega arith) U.load-most
 
     -- the leg to the next call is open, and so are those behind it
-    next-open : i < length calls → (present (leg_f t x.prev (get_or calls i 0)) ≡ true) × (closed_f (leg_f t) (suc (suc i)) (get_or calls i 0) (drop (suc i) calls) ≡ none)
+    next-open : i < length calls → (present (leg_f t x.prev (get_or calls i 0)) ≡ true) × (closed_f (leg_f t) (suc (suc i)) (get_or calls i 0) (drop (suc i) calls) ≡ None)
     unfolding closed_f
     next-open h = none-closed (present (leg_f t x.prev (get_or calls i 0))) _ (suc i) (rw (drop-cons calls i 0 h) at U.roads)
 
@@ -109,7 +109,7 @@ module _ (t : Tables) (r : RestF) (calls : List ℕ) where
     call-open h = (next-open h).0
 
     -- the call, with what is looked up for it
-    module _ (s : VisitedF) (c : CustomerOf Float) (g : Leg) (h : i < length calls) (ec : c ≡ record_f t (get_or calls i 0)) (eg : some g ≡ leg_f t x.prev (get_or calls i 0))
+    module _ (s : VisitedF) (c : CustomerOf Float) (g : Leg) (h : i < length calls) (ec : c ≡ record_f t (get_or calls i 0)) (eg : Some g ≡ leg_f t x.prev (get_or calls i 0))
         (es : s ≡ visit_f x r (i + 1) (get_or calls i 0) c g.distance g.time) where
       visited-is : s ≡ visit_at_f t r (suc i) x (get_or calls i 0)
       visited-is = es ∙ rw (ec, ← eg, add-one)
@@ -142,7 +142,7 @@ module _ (t : Tables) (r : RestF) (calls : List ℕ) where
             visits-go = rw (add-one, take-suc-set visits i s.visit, append_assoc, ← visits-left) U.visits-go;
             windows-go = rw (add-one, written-some list count n s.violation s.shut free en, append_assoc, ← windows-left) U.windows-go;
             trip-goes = rw (add-one, ← trip-left) U.trip-goes;
-            roads = rw (add-one) (subst (λ (a : ℕ). closed_f (leg_f t) (suc (suc i)) a (drop (suc i) calls) ≡ none) last-is (next-open h).1);
+            roads = rw (add-one) (subst (λ (a : ℕ). closed_f (leg_f t) (suc (suc i)) a (drop (suc i) calls) ≡ None) last-is (next-open h).1);
             few = by-test s.shut (λ y. let z = rw y at en in omega arith) (λ y. let z = rw y at en in omega arith);
             load-most = more;
             visits-long = simp length-set U.visits-long;
@@ -159,7 +159,7 @@ module _ (t : Tables) (r : RestF) (calls : List ℕ) where
           trip-is = rw (ex, ← U.trip-goes, drop_of_length-le calls h);
           home-open =
               ap (λ (y : TripF). present (leg_f t y.prev 0)) ex
-              ∙ (none-closed (present (leg_f t x.prev 0)) none (suc i) (rw (drop_of_length-le calls h) at U.roads)).0;
+              ∙ (none-closed (present (leg_f t x.prev 0)) None (suc i) (rw (drop_of_length-le calls h) at U.roads)).0;
           few = omega arith;
           long = rw el U.list-long;
         }

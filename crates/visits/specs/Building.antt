@@ -1,13 +1,12 @@
 -- The answer of `build_route` on floats. Definitions only.
-use Rattle.std.specs.Prelude.{ℕ, ◌≡◌, List, [], ◌∷◌, length, take, Float}
-use Rattle.std.proofs.Math.Option.{Option, none, some}
+use Rattle.std.specs.Prelude.{ℕ, ◌≡◌, List, [], ◌∷◌, length, take, Float, Option, None, Some}
 use Rattle.std.specs.Float.Ieee as Ieee
 use Rattle.std.specs.Float.{binary64}
 use Rattle.definitions.specs.Load.{Load, no_load}
 use Rattle.whole.specs.Whole.{fl}
 use Rattle.models.specs.Load.{load_of}
 use Rattle.clock.specs.declared.schedule.Scheduled.{Scheduled}
-use Rattle.evaluation.specs.Records.{Tables, LimitsF, start_of}
+use Rattle.evaluation.specs.Records.{Tables, LimitsF}
 use Rattle.evaluation.specs.Tables.{leg_f}
 use Rattle.evaluation.specs.Way.{closed_f}
 use Rattle.visits.specs.declared.visit.Visit.{Visit}
@@ -61,14 +60,14 @@ closed_route_f leg =
       visits = [];
       totals = record { distance = fl 0; duration = fl 0; lateness = fl 0; cost = fl 0; place = 0 };
       load = no_load;
-      start = none;
+      start = None;
       violations = record { kind = ClosedLeg leg } ∷ [];
     }
 
 -- by the first closed leg
 abbrev pub route_f : Tables → Load → LimitsF → List ℕ → Option ℕ → RouteF
-route_f t capacity limits calls (some leg) = closed_route_f leg
-route_f t capacity limits calls none = open_route_f t capacity limits calls
+route_f t capacity limits calls (Some leg) = closed_route_f leg
+route_f t capacity limits calls None = open_route_f t capacity limits calls
 
 unfoldable pub build_route_f : Tables → Load → LimitsF → List ℕ → RouteF
 build_route_f t capacity limits calls = route_f t capacity limits calls (closed_f (leg_f t) 1 0 calls)
@@ -88,7 +87,7 @@ built_of b =
             place = b.place;
           };
       load = load_of b.load;
-      start = start_of b.start;
+      start = b.start;
       violations = take b.found b.violations;
     }
 

@@ -1,6 +1,5 @@
 -- A route of whole numbers, each figure held in a float. Definitions only.
-use Rattle.std.specs.Prelude.{map}
-use Rattle.std.proofs.Math.Option
+use Rattle.std.specs.Prelude.{map, option_map}
 use Rattle.definitions.specs.Visits as Whole
 use Rattle.definitions.specs.Visits.{Route, window_shut, break_not_placeable, over_capacity, over_distance, over_duration, over_wheelchairs, closed_leg}
 use Rattle.whole.specs.Whole.{fl}
@@ -39,6 +38,6 @@ fl_route r =
       visits = map fl_visit r.visits;
       totals = fl_totals r.totals;
       load = r.load;
-      start = Option.map fl r.start;
+      start = option_map fl r.start;
       violations = map fl_violation r.violations;
     }

@@ -1,6 +1,5 @@
 -- What a run violates besides its windows, on floats, in the order of the code. Definitions only.
-use Rattle.std.specs.Prelude.{◌+◌, ◌≤◌, ◌≡◌, Bool, false, cond, not, ◌&&◌, List, [], ◌∷◌, ◌++◌, length, Float}
-use Rattle.std.proofs.Math.Option.{Option, none, some}
+use Rattle.std.specs.Prelude.{◌+◌, ◌≤◌, ◌≡◌, Bool, false, cond, not, ◌&&◌, List, [], ◌∷◌, ◌++◌, length, Float, Option, None, Some}
 use Rattle.std.specs.Float.Ieee as Ieee
 use Rattle.basics.specs.Lists.{is_empty}
 use Rattle.definitions.specs.Load.{Load, seated, wheeled}
@@ -13,8 +12,8 @@ use Rattle.visits.specs.Visiting.{listed, most_violations}
 
 -- above the limit, if there is one
 abbrev pub over_f : Option Float → Float → Bool
-over_f none x = false
-over_f (some max) x = Ieee.lt max x
+over_f None x = false
+over_f (Some max) x = Ieee.lt max x
 
 -- the violation, where the test holds
 unfoldable pub when : Bool → Violation → List Violation

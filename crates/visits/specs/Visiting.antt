@@ -1,6 +1,5 @@
 -- Visiting the calls of a run on floats, step by step as the code has it. Definitions only.
-use Rattle.std.specs.Prelude.{ℕ, suc, ◌≤◌, ◌≡◌, Bool, true, cond, not, ◌&&◌, List, [], ◌∷◌, eqb, length, take, Float}
-use Rattle.std.proofs.Math.Option.{Option, none, some}
+use Rattle.std.specs.Prelude.{ℕ, suc, ◌≤◌, ◌≡◌, Bool, true, cond, not, ◌&&◌, List, [], ◌∷◌, eqb, length, take, Float, Option, None, Some}
 use Rattle.std.specs.Float.Ieee as Ieee
 use Rattle.std.specs.Float.{binary64}
 use Rattle.basics.specs.Options.{◌>>=◌, present, value_or}
@@ -16,7 +15,7 @@ use Rattle.models.specs.Window.{waiting_f, due_f}
 use Rattle.clock.specs.declared.schedule.Label.{Label}
 use Rattle.clock.specs.declared.schedule.Scheduled.{Scheduled}
 use Rattle.clock.specs.Serving.{start_label, at_time, enter_f, leave_f}
-use Rattle.evaluation.specs.Records.{Tables, start_of}
+use Rattle.evaluation.specs.Records.{Tables}
 use Rattle.evaluation.specs.Tables.{record_f, leg_f}
 use Rattle.evaluation.specs.Schedule.{schedule_f}
 use Rattle.evaluation.specs.Route.{start_f}
@@ -40,19 +39,19 @@ pub record RestF : Type 0 where
   pub missing : Bool
 
 abbrev pub rest_at_of : RestAt → RestF
-rest_at_of r = record { place = r.place; start = start_of r.start; duration = r.duration; missing = r.missing }
+rest_at_of r = record { place = r.place; start = r.start; duration = r.duration; missing = r.missing }
 
 -- placed where the run finishes earliest
 unfoldable pub placed_f : Tables → Option (BreakOf Float) → List ℕ → Option Scheduled
 placed_f t rest calls = rest >>= λ b. schedule_f t b calls
 
 abbrev pub place_of : Option Scheduled → ℕ
-place_of none = 0
-place_of (some s) = s.place
+place_of None = 0
+place_of (Some s) = s.place
 
 abbrev pub duration_f : Option (BreakOf Float) → Float
-duration_f none = fl 0
-duration_f (some b) = b.duration
+duration_f None = fl 0
+duration_f (Some b) = b.duration
 
 abbrev pub missing_f : Option (BreakOf Float) → Option Scheduled → Bool
 missing_f rest placed = present rest && not (present placed)
@@ -73,14 +72,14 @@ rest_at_f t rest calls = rest_by_f t rest calls (placed_f t rest calls)
 -- at the call that the break comes before, the service can start only after it
 unfoldable pub ready_at_f : RestF → ℕ → Float → Float
 ready_at_f r k arrival =
-    value_or arrival (r.start >>= λ from. cond (eqb r.place k) (some (Ieee.add binary64 from r.duration)) none)
+    value_or arrival (r.start >>= λ from. cond (eqb r.place k) (Some (Ieee.add binary64 from r.duration)) None)
 
 -- ---- a call
 
 -- when service starts, from readiness on
 unfoldable pub begin_f : Option (WindowOf Float) → Float → Float
-begin_f none readiness = readiness
-begin_f (some w) readiness = Ieee.add binary64 readiness (waiting_f w readiness)
+begin_f None readiness = readiness
+begin_f (Some w) readiness = Ieee.add binary64 readiness (waiting_f w readiness)
 
 -- the label as service starts: where the window is shut nothing is charged
 abbrev pub stay_f : CustomerOf Float → Float → Label → Option Label → Label

@@ -1,6 +1,5 @@
 // The visits of a run with their times and loads, its totals, and what it violates (evaluation/evaluator.rs).
-ghost use Rattle.std.specs.Prelude.{◌≡◌, cond, ◌+◌, ◌≤◌, length, replicate};
-ghost use Rattle.std.proofs.Math.Option.{none};
+ghost use Rattle.std.specs.Prelude.{◌≡◌, cond, ◌+◌, ◌≤◌, length, replicate, None};
 ghost use Rattle.distance.specs.Lookup.{drive_f};
 ghost use Rattle.models.specs.Load.{space_of};
 ghost use Rattle.evaluation.specs.Records.{lent, limits_of};
@@ -12,7 +11,6 @@ use crate::rest::{RestAt, rest_at};
 use crate::trip::{Trip, open_leg};
 use crate::violation::Violations;
 use crate::visit::{MOST_VIOLATIONS, Violation, ViolationType, Visit};
-use evaluation::route::Start;
 use evaluation::schedule::record_index;
 use evaluation::way::first_closed;
 use models::customer::Customer;
@@ -40,7 +38,7 @@ pub struct Built {
     pub lateness_cost: f64,
     pub load: Load,
     pub place: usize,
-    pub start: Start,
+    pub start: Option<f64>,
 }
 
 // What stands in the arrays where nothing is written.
@@ -84,7 +82,7 @@ pub fn walk(
     rest: RestAt,
 ) -> VisitedRun
     requires route_len_bound { length route.now ≤ 128 }
-    requires route_value { closed_f (drive_f distances.now times.now size) 1 0 route.now ≡ none }
+    requires route_value { closed_f (drive_f distances.now times.now size) 1 0 route.now ≡ None }
     ensures { let tables = lent customers distances.now times.now size in
         Walks tables (rest_at_of rest) route.now result }
 {
@@ -92,9 +90,7 @@ pub fn walk(
     let mut list = blank_violations();
     let mut count = 0;
     let mut trip = Trip::start();
-    let mut i = 0;
-    while i < route.len() {
-        let cid = route[i];
+    for (i, &cid) in route.iter().enumerate() {
         let prev = trip.prev;
         let leg = open_leg(distances, times, size, prev, cid);
         let index = record_index(cid);
@@ -105,7 +101,6 @@ pub fn walk(
         list[count] = violation;
         count = counted(count, call.shut);
         trip = call.trip;
-        i += 1;
     }
     VisitedRun {
         visits,
@@ -134,7 +129,7 @@ pub fn closed_route(leg: usize) -> Built
         lateness_cost: 0.0,
         load: Load::none(),
         place: 0,
-        start: Start::Unbroken,
+        start: None,
     }
 }
 
@@ -149,7 +144,7 @@ fn open_route(
     limits: RouteLimits,
 ) -> Built
     requires route_len_bound { length route.now ≤ 128 }
-    requires route_value { closed_f (drive_f distances.now times.now size) 1 0 route.now ≡ none }
+    requires route_value { closed_f (drive_f distances.now times.now size) 1 0 route.now ≡ None }
     ensures { let tables = lent customers distances.now times.now size in
         Builds tables (space_of capacity) (limits_of limits) route.now result }
 {

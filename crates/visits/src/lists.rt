@@ -11,11 +11,7 @@ pub fn scattered_visits(records: [Visit; 128], n: usize, visits: &mut [Visit])
         visits.new ≡ written (take (min n (length lent)) records) lent }
 {
     let m = fitting(n, 128, visits.len());
-    let mut i = 0;
-    while i < m {
-        visits[i] = records[i];
-        i += 1;
-    }
+    visits[..m].copy_from_slice(&records[..m]);
 }
 
 // The same of violations.
@@ -28,9 +24,5 @@ pub fn scattered_violations(
         violations.new ≡ written (take (min n (length lent)) records) lent }
 {
     let m = fitting(n, MOST_VIOLATIONS, violations.len());
-    let mut i = 0;
-    while i < m {
-        violations[i] = records[i];
-        i += 1;
-    }
+    violations[..m].copy_from_slice(&records[..m]);
 }

@@ -1,22 +1,21 @@
 // Where the visits of a run have its break: placed where the run finishes earliest, and left out where it has no place.
 ghost use Rattle.std.specs.Prelude.{◌≡◌};
 ghost use Rattle.models.specs.Records.{rest_of};
-ghost use Rattle.clock.specs.Records.{finished_of};
 ghost use Rattle.evaluation.specs.Records.{lent};
 ghost use Rattle.visits.specs.Visiting.{rest_at_of, placed_f, place_of, duration_f, missing_f, rest_at_f, ready_at_f};
 
-use clock::schedule::Finished;
-use evaluation::route::{Start, start_of};
+use clock::schedule::Scheduled;
+use evaluation::route::start_of;
 use evaluation::schedule::schedule;
 use models::customer::Customer;
-use models::vehicle::Rest;
+use models::vehicle::VehicleBreak;
 
 // The break as the visits have it: the number of the call that it comes before, from 1, or 0; its start and its length;
 // and whether it has no place though there is one.
 #[derive(Clone, Copy)]
 pub struct RestAt {
     pub place: usize,
-    pub start: Start,
+    pub start: Option<f64>,
     pub duration: f64,
     pub missing: bool,
 }
@@ -28,45 +27,45 @@ pub fn placed(
     distances: &[f64],
     times: &[f64],
     size: usize,
-    rest: Rest,
-) -> Finished
+    rest: Option<VehicleBreak>,
+) -> Option<Scheduled>
     ensures { let tables = lent customers distances.now times.now size in
-        finished_of result ≡ placed_f tables (rest_of rest) route.now }
+        result ≡ placed_f tables (rest_of rest) route.now }
 {
     match rest {
-        Rest::Unbroken => Finished::Impossible,
-        Rest::Break(b) => schedule(route, customers, distances, times, size, b),
+        None => None,
+        Some(b) => schedule(route, customers, distances, times, size, b),
     }
 }
 
-pub fn place_of(placed: Finished) -> usize
-    ensures { result ≡ place_of (finished_of placed) }
+pub fn place_of(placed: Option<Scheduled>) -> usize
+    ensures { result ≡ place_of placed }
 {
     match placed {
-        Finished::Impossible => 0,
-        Finished::Home(s) => s.place,
+        None => 0,
+        Some(s) => s.place,
     }
 }
 
-pub fn duration_of(rest: Rest) -> f64
+pub fn duration_of(rest: Option<VehicleBreak>) -> f64
     ensures { result ≡ duration_f (rest_of rest) }
 {
     match rest {
-        Rest::Unbroken => 0.0,
-        Rest::Break(b) => b.duration,
+        None => 0.0,
+        Some(b) => b.duration,
     }
 }
 
 // There is a break, and it has no place.
-pub fn is_missing(rest: Rest, placed: Finished) -> bool
-    ensures { result ≡ missing_f (rest_of rest) (finished_of placed) }
+pub fn is_missing(rest: Option<VehicleBreak>, placed: Option<Scheduled>) -> bool
+    ensures { result ≡ missing_f (rest_of rest) placed }
 {
-    let Rest::Break(_) = rest else {
+    let Some(_) = rest else {
         return false;
     };
     match placed {
-        Finished::Impossible => true,
-        Finished::Home(_) => false,
+        None => true,
+        Some(_) => false,
     }
 }
 
@@ -76,7 +75,7 @@ pub fn rest_at(
     distances: &[f64],
     times: &[f64],
     size: usize,
-    rest: Rest,
+    rest: Option<VehicleBreak>,
 ) -> RestAt
     ensures { let tables = lent customers distances.now times.now size in
         rest_at_of result ≡ rest_at_f tables (rest_of rest) route.now }
@@ -98,7 +97,7 @@ impl RestAt {
         ensures { result ≡ ready_at_f (rest_at_of self) index arrival }
     {
         let start = self.start;
-        let Start::At(from) = start else {
+        let Some(from) = start else {
             return arrival;
         };
         if self.place == index {

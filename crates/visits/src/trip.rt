@@ -1,6 +1,5 @@
 // One call of a run visited, also where it is reached too late.
-ghost use Rattle.std.specs.Prelude.{◌≡◌, true, ℕ, ◌+◌};
-ghost use Rattle.std.proofs.Math.Option.{some};
+ghost use Rattle.std.specs.Prelude.{◌≡◌, true, ℕ, ◌+◌, Some};
 ghost use Rattle.basics.specs.Options.{present};
 ghost use Rattle.distance.specs.Lookup.{drive_f};
 ghost use Rattle.models.specs.Load.{load_of, UpTo, Countable};
@@ -9,9 +8,9 @@ ghost use Rattle.visits.specs.Visiting.{rest_at_of, trip_of, visited_of, begin_f
 
 use crate::rest::RestAt;
 use crate::visit::{Violation, ViolationType, Visit};
-use clock::schedule::{Label, Reached, enter};
-use distance::leg::{Drive, Leg, leg_between};
-use models::customer::{Customer, Opening, due_or_zero};
+use clock::schedule::{Label, enter};
+use distance::leg::{Leg, leg_between};
+use models::customer::{Customer, TimeWindow, due_or_zero};
 use models::load::Load;
 
 // A call as it is left, and whether it was reached after due without a penalty.
@@ -42,11 +41,11 @@ pub struct VisitedCall {
 // A leg of a run that has no closed one, so the second case is never met.
 pub fn open_leg(distances: &[f64], times: &[f64], size: usize, from: usize, to: usize) -> Leg
     requires { present (drive_f distances.now times.now size from to) ≡ true }
-    ensures { some result ≡ drive_f distances.now times.now size from to }
+    ensures { Some result ≡ drive_f distances.now times.now size from to }
 {
     match leg_between(distances, times, size, from, to) {
-        Drive::Open(leg) => leg,
-        Drive::Closed => Leg {
+        Some(leg) => leg,
+        None => Leg {
             distance: 0.0,
             time: 0.0,
         },
@@ -54,12 +53,12 @@ pub fn open_leg(distances: &[f64], times: &[f64], size: usize, from: usize, to: 
 }
 
 // When service starts, from readiness on.
-pub fn service_start(opening: Opening, ready: f64) -> f64
+pub fn service_start(opening: Option<TimeWindow>, ready: f64) -> f64
     ensures { result ≡ begin_f (opening_of opening) ready }
 {
     match opening {
-        Opening::Always => ready,
-        Opening::Window(window) => ready + window.waiting_time(ready),
+        None => ready,
+        Some(window) => ready + window.waiting_time(ready),
     }
 }
 
@@ -68,7 +67,7 @@ pub fn attend(customer: Customer, ready: f64, label: Label) -> Served
     ensures { result ≡ served_f (customer_of customer) ready label }
 {
     let service = customer.service_duration;
-    let Reached::At(l) = enter(customer, ready, label) else {
+    let Some(l) = enter(customer, ready, label) else {
         let opening = customer.time_window;
         return Served {
             label: Label {

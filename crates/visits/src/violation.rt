@@ -1,13 +1,12 @@
 // The violations of a run, in their order: windows by visit, the break, capacity in each measure, distance, duration.
 ghost use Rattle.std.specs.Prelude.{◌≡◌, ◌&&◌, ◌+◌, ◌<◌, ◌≤◌, eqb, length};
 ghost use Rattle.models.specs.Load.{space_of, load_of};
-ghost use Rattle.models.specs.Records.{limit_of};
 ghost use Rattle.evaluation.specs.Records.{limits_of};
 ghost use Rattle.visits.specs.Visiting.{most_violations};
 ghost use Rattle.visits.specs.Violations.{Added, Checked, when, over_f, overloads_f};
 
 use crate::visit::{MOST_VIOLATIONS, Violation, ViolationType};
-use models::limits::{Limit, RouteLimits, limit_or_zero};
+use models::limits::{RouteLimits, limit_or_zero};
 use models::load::{Load, Space};
 
 // The first `count` of the list.
@@ -18,12 +17,12 @@ pub struct Violations {
 }
 
 // Above the limit, if there is one.
-pub fn exceeds(limit: Limit, x: f64) -> bool
-    ensures { result ≡ over_f (limit_of limit) x }
+pub fn exceeds(limit: Option<f64>, x: f64) -> bool
+    ensures { result ≡ over_f limit x }
 {
     match limit {
-        Limit::Unlimited => false,
-        Limit::At(max) => x > max,
+        None => false,
+        Some(max) => x > max,
     }
 }
 

@@ -10,7 +10,7 @@ use mathlib.Core.Path.{◌≡◌, refl, sym, ap, subst, ◌∙◌}
 use Prim.Native.Nat.{ℕ, zero, suc}
 use native.Mathlib.Omega.{arith}
 use mathlib.Core.List.{List, [], ◌∷◌, map}
-use mathlib.Core.Option.{Option, none, some}
+use Rattle.std.specs.Prelude.{Option, None, Some}
 use seplogic.Ra.Ura.{Ura}
 use base.Fraction.{full_share}
 use lib.Dec.{T}
@@ -81,15 +81,15 @@ set_same (c ∷ σ) (suc i) τ b v e = ap (λ (l : List Cell). c ∷ l) (set_sam
 
 -- what a local holds, if anything
 abbrev value_of : Cell → Option Val
-value_of (unset τ b) = none
-value_of (holds τ b v) = some v
+value_of (unset τ b) = None
+value_of (holds τ b v) = Some v
 
 abbrev pub value_at : List Cell → ℕ → Option Val
-value_at [] i = none
+value_at [] i = None
 value_at (c ∷ σ) zero = value_of c
 value_at (c ∷ σ) (suc i) = value_at σ i
 
-pub value-here : (σ : List Cell) (i : ℕ) (τ : Ty) (b : ℕ) (v : Val) → Here σ i (holds τ b v) → value_at σ i ≡ some v
+pub value-here : (σ : List Cell) (i : ℕ) (τ : Ty) (b : ℕ) (v : Val) → Here σ i (holds τ b v) → value_at σ i ≡ Some v
 value-here [] i τ b v e = absurd e
 value-here (c ∷ σ) zero τ b v e = ap value_of e
 value-here (c ∷ σ) (suc i) τ b v e = value-here σ i τ b v e
@@ -100,7 +100,7 @@ record Found (σ : List Cell) (i : ℕ) (v : Val) : Type 0 where
   pub block : ℕ
   pub here : Here σ i (holds ty block v)
 
-found : (σ : List Cell) (i : ℕ) (v : Val) → value_at σ i ≡ some v → Found σ i v
+found : (σ : List Cell) (i : ℕ) (v : Val) → value_at σ i ≡ Some v → Found σ i v
 found [] i v e = let z : ◌≡◌ {A = ℕ} 0 1 = cc in absurd (omega arith)
 found (unset τ b ∷ σ) zero v e = let z : ◌≡◌ {A = ℕ} 0 1 = cc in absurd (omega arith)
 found (holds τ b w ∷ σ) zero v e = let same : w ≡ v = cc in record { ty = τ; block = b; here = ap (holds τ b) same }
@@ -198,20 +198,20 @@ module _ {M : Type 1} {𝓤 : Ura M} {𝓛 : Logic 𝓤} {K : Type 0} where
     pub reads : K → (n : ℕ) (σ : List Cell) {τ : Ty} {b o : ℕ} {v : Val} {back : Val → Item 𝓤} → nth 𝓛 n Γ ≡ locals 𝓛 σ → Part K 𝓛 (locals 𝓛 σ) full_share τ b o v back → Reads K 𝓛 Γ τ b o v
     reads t n σ {τ} {b} {o} {v} {back} at p = look_in t n (subst (λ (j : Item 𝓤). Part K 𝓛 j full_share τ b o v back) (sym at) p)
 
-    pub arg : K → {E : Env 𝓤 H} (n : ℕ) (σ : List Cell) (i : ℕ) {v : Val} → nth 𝓛 n Γ ≡ locals 𝓛 σ → env_at 𝓛 σ ≡ E → value_at σ i ≡ some v → Opd K 𝓛 Γ E (copy (place i [])) v
+    pub arg : K → {E : Env 𝓤 H} (n : ℕ) (σ : List Cell) (i : ℕ) {v : Val} → nth 𝓛 n Γ ≡ locals 𝓛 σ → env_at 𝓛 σ ≡ E → value_at σ i ≡ Some v → Opd K 𝓛 Γ E (copy (place i [])) v
     arg t n σ i {v} at env e =
         let f = found σ i v e in
         load t (finds t σ i (holds f.ty f.block v) env f.here (stop t)) (reads t n σ at (held t σ i f.here))
 
     -- the locals of those numbers as operands
-    pub args : K → {E : Env 𝓤 H} (n : ℕ) (σ : List Cell) (is : List ℕ) {vs : List Val} → nth 𝓛 n Γ ≡ locals 𝓛 σ → env_at 𝓛 σ ≡ E → map (value_at σ) is ≡ map some vs
+    pub args : K → {E : Env 𝓤 H} (n : ℕ) (σ : List Cell) (is : List ℕ) {vs : List Val} → nth 𝓛 n Γ ≡ locals 𝓛 σ → env_at 𝓛 σ ≡ E → map (value_at σ) is ≡ map Some vs
         → Opds K 𝓛 Γ E (map (λ i. copy (place i [])) is) vs
     args t n σ [] {vs = []} at env e = no_more t
     args t n σ [] {vs = v ∷ vs} at env e = let z : ◌≡◌ {A = ℕ} 0 1 = cc in absurd (omega arith)
     args t n σ (i ∷ is) {vs = []} at env e = let z : ◌≡◌ {A = ℕ} 0 1 = cc in absurd (omega arith)
     args t n σ (i ∷ is) {vs = v ∷ vs} at env e =
-        let first : value_at σ i ≡ some v = cc in
-        let others : map (value_at σ) is ≡ map some vs = cc in
+        let first : value_at σ i ≡ Some v = cc in
+        let others : map (value_at σ) is ≡ map Some vs = cc in
         and_then t (arg t n σ i at env first) (args t n σ is at env others)
 
     pub set : K → (n : ℕ) (σ : List Cell) (i : ℕ) {τ : Ty} {b : ℕ} {v : Val} → nth 𝓛 n Γ ≡ locals 𝓛 σ → Here σ i (unset τ b) → T (has_ty τ v) × WT v

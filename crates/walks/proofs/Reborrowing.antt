@@ -6,7 +6,7 @@ use mathlib.Core.Path.{◌≡◌, refl, ◌∙◌}
 use Prim.Native.Nat.{ℕ, suc, ◌<◌, ◌^◌}
 use native.Mathlib.Omega.{arith}
 use mathlib.Core.List.{List, [], ◌∷◌}
-use mathlib.Core.Option.{some}
+use Rattle.std.specs.Prelude.{Some}
 use seplogic.Ra.Ura.{Ura}
 use lib.ListN.{length}
 use mir.Syntax.{Lifetime, Ty, Body, copy, place, field, deref, addr_of, aggregate, seq, assign, ty_ref, mut, erased, w64}
@@ -100,7 +100,7 @@ module _ {M : Type 1} {𝓤 : Ura M} {𝓛 : Logic 𝓤} {K : Type 0} {F : Item 
       env' : env_at 𝓛 σ' ≡ E
       env' = same-env 𝓛 σ x.into (vptr l.at.0 l.at.1) ∙ env
 
-      address : value_at σ' x.into ≡ some (vptr l.at.0 l.at.1)
+      address : value_at σ' x.into ≡ Some (vptr l.at.0 l.at.1)
       address = value-here σ' x.into _ _ _ (here-set σ x.into _ _ (vptr l.at.0 l.at.1) l.free)
 
       still : Here σ' x.list (holds (slice_ty (ty_ref l.lifetime mut x.pointed)) l.block (slice_val l.at l.size))

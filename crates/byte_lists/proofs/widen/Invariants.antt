@@ -1,12 +1,6 @@
--- `widen` meets its contract. The loop's invariant: the first k bytes are read. Assumes nothing.
--- what is read to keeps its length
-use Prim.Native.Nat.{◌-◌, ◌≤◌}
-use mathlib.Core.Path.{◌≡◌}
-use Rattle.lending.proofs.Lists.{front}
+-- The first k bytes stand at the front, and the rest is as it was.
+use Rattle.std.proofs.Common.{◌≡◌, ◌++◌, take, drop}
 use Rattle.byte_lists.proofs.widen.Given as goal
 
 abbrev pub invariant-loop-k : goal.invariant-loop-k
-invariant-loop-k l = (l.k ≤ l.n) × (l.numbers ≡ front l.k l.bytes l.initial.numbers)
-
-abbrev pub decreases-loop-k : goal.decreases-loop-k
-decreases-loop-k l = l.n - l.k
+invariant-loop-k l = l.numbers ≡ take l.k l.bytes ++ drop l.k l.initial.numbers

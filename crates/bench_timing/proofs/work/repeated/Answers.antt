@@ -1,7 +1,7 @@
 -- `work::repeated` meets its contract. Assumes nothing.
-use Rattle.std.proofs.Common.{sym, arith}
+use Rattle.std.proofs.Common.{sym}
 use Rattle.whole.proofs.Bits.{fl-zero}
 use Rattle.bench_timing.proofs.work.repeated.Goals as goal
 
-pub loop-k-init : goal.loop-k-init
-loop-k-init c = (omega arith, sym fl-zero)
+pub loop-init : goal.loop-init
+loop-init c = sym fl-zero

@@ -2,7 +2,7 @@
 use Prim.Native.Nat.{ℕ}
 use mathlib.Core.Path.{◌≡◌, sym, subst, ◌∙◌}
 use mathlib.Core.List.{List}
-use mathlib.Core.Option.{none}
+use Rattle.std.specs.Prelude.{None}
 use Rattle.basics.specs.Options.{present}
 use Rattle.models.specs.Load.{space_of}
 use Rattle.models.specs.Records.{rest_of}
@@ -16,7 +16,7 @@ use Rattle.bytes_visits.proofs.run.time_run.Goals.{After-widen-k}
 
 -- nothing is refused
 accepted : (x : After-widen-k)
-    → run_refusal x.args.head.places (present (rest_of x.args.head.limits.rest)) x.args.run.now x.args.place ≡ none
+    → run_refusal x.args.head.places (present (rest_of x.args.head.limits.rest)) x.args.run.now x.args.place ≡ None
 accepted x = no-refusal _ _ _ _ (sym x.if-number-ne0.false ∙ x.refuse_run-number.ensures)
 
 pub timeline_of-line-requires : goal.timeline_of-line-requires

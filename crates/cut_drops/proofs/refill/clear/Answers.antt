@@ -1,4 +1,4 @@
--- `refill::clear` meets its contract. The loop's invariant is `Clearing`: the cells up to k are cleared. The measure is what is left of the cells. Assumes nothing.
+-- `refill::clear` meets its contract. The loop's invariant is `Clearing`: the cells up to k are cleared. Assumes nothing.
 use native.Mathlib.Omega.{arith}
 use mathlib.Core.Path.{refl}
 use mathlib.Core.Bool.{false}
@@ -13,8 +13,7 @@ loop-k-preserved c =
     let l = c.loop-k in
     let a = c.args in
     let v = l.invariant in (
-      omega arith,
-      one-cleared a.from (inf false) nan a.cost.now l.k l.cost v.1 v.0 (omega arith) _ c.infinity-top.ensures,
-      one-cleared a.from (fl 0) nan a.dist.now l.k l.dist v.2 v.0 (omega arith) _ refl,
-      one-cleared a.from 0 0 a.pred.now l.k l.pred v.3 v.0 (omega arith) 0 refl,
+      one-cleared a.from (inf false) nan a.cost.now l.k l.cost v.0 (omega arith) (omega arith) _ c.infinity-top.ensures,
+      one-cleared a.from (fl 0) nan a.dist.now l.k l.dist v.1 (omega arith) (omega arith) _ refl,
+      one-cleared a.from 0 0 a.pred.now l.k l.pred v.2 (omega arith) (omega arith) 0 refl,
     )

@@ -1,4 +1,4 @@
--- `refill::refill` meets its contract. The loop's invariant is `Again`: after s rows the cells behind q are those of the table of the rows below s. The measure is what is left of q. Assumes nothing.
+-- `refill::refill` meets its contract. The loop's invariant is `Again`: after s rows the cells behind q are those of the table of the rows below s. Assumes nothing.
 use Prim.Native.Nat.{ℕ}
 use native.Mathlib.Omega.{arith}
 use mathlib.Core.List.{List}
@@ -26,7 +26,6 @@ loop-s-init c =
     let at_after_clear = (goal.at.loop-s-init c).After-clear in
     let k = c.clear.ensures in (
       none-again (over_by at_after_clear) (lists at_after_clear) c.args.q (rows _ _ _ (reached at_after_clear)),
-      omega arith,
       record {
         table-long = record { cost-long = k.cost-cleared.long; far-long = k.far-cleared.long; pred-long = k.pred-cleared.long };
         reach-long = c.requires.fact.reach-long;
@@ -41,8 +40,7 @@ loop-s-preserved-then-reach-s c =
     let r = c.requires.fact.row in (
       row-passed (over_by at_after_clear) (lists at_after_clear) c.args.q (rows _ _ _ (reached at_after_clear)) l.loop-s.s t.loop-s-test.true r.inside r.few
           (rows l.loop-s.cost l.loop-s.dist l.loop-s.pred l.loop-s.reach) l.loop-s.invariant.0 c.if-reach-s.true,
-      omega arith,
-      l.loop-s.invariant.2,
+      l.loop-s.invariant.1,
     )
 
 pub loop-s-preserved : goal.loop-s-preserved
@@ -55,8 +53,7 @@ loop-s-preserved c =
     let old = rows l.loop-s.cost l.loop-s.dist l.loop-s.pred l.loop-s.reach in
     let n = c.noted_row.ensures in (
       row-again (over_by at_after_clear) (lists at_after_clear) s.args.q (rows _ _ _ (reached at_after_clear)) l.loop-s.s t.loop-s-test.true r.inside r.few old l.loop-s.invariant.0 _ n,
-      omega arith,
-      listed-long (over_by at_after_clear) (lists at_after_clear) l.loop-s.s old _ s.requires.listed l.loop-s.invariant.2.reach-long n,
+      listed-long (over_by at_after_clear) (lists at_after_clear) l.loop-s.s old _ s.requires.listed l.loop-s.invariant.1.reach-long n,
     )
 
 pub returns : goal.returns
@@ -65,4 +62,4 @@ returns c =
     let l = c in
     let a = c.args in
     all-again (over_by at_after_clear) (lists at_after_clear) a.q (rows _ _ _ (reached at_after_clear)) (table a.cost.now a.dist.now a.pred.now)
-    (rows l.loop-s.cost l.loop-s.dist l.loop-s.pred l.loop-s.reach) l.clear.ensures l.loop-s.invariant.2.reach-long l.loop-s.s (omega arith) l.loop-s.invariant.0
+    (rows l.loop-s.cost l.loop-s.dist l.loop-s.pred l.loop-s.reach) l.clear.ensures l.loop-s.invariant.1.reach-long l.loop-s.s (omega arith) l.loop-s.invariant.0

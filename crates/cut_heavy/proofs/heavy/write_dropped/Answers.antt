@@ -18,13 +18,12 @@ loop-k-preserved-then-not-fits_alone c =
     let l = c in
     let i = l.loop-k.invariant in
     let h = c.loop-k-test.true in (
-      omega arith,
+      omega (arith, i.0),
       omega (arith, i.1),
       omega (arith, i.2),
-      omega (arith, i.3),
-      one_more i.4 _ _
+      one_more i.3 _ _
           (heavy-here _ c.args.tour.now l.loop-k.k h c.args.gone.now l.loop-k.q l.loop-k.a (sym c.fits_alone.ensures ∙ c.if-not-fits_alone.true))
-          (omega (arith, i.1, h, c.requires.tour_len_bound.1)),
+          (omega (arith, i.0, h, c.requires.tour_len_bound.1)),
     )
 
 pub loop-k-preserved-then-not-is_next : goal.loop-k-preserved-then-not-is_next
@@ -33,11 +32,10 @@ loop-k-preserved-then-not-is_next c =
     let l = light in
     let i = l.loop-k.invariant in
     let h = light.loop-k-test.true in (
-      omega arith,
+      omega (arith, i.0),
       omega (arith, i.1),
       omega (arith, i.2),
-      omega (arith, i.3),
-      none_more i.4 _
+      none_more i.3 _
           (kept_here _ c.args.tour.now l.loop-k.k h c.args.gone.now l.loop-k.q l.loop-k.a
           (sym light.fits_alone.ensures ∙ light.if-not-fits_alone.false) (sym c.is_next.ensures ∙ c.if-not-is_next.true)),
     )
@@ -48,17 +46,16 @@ loop-k-preserved c =
     let l = light in
     let i = l.loop-k.invariant in
     let h = light.loop-k-test.true in (
-      omega arith,
+      omega (arith, i.0),
       omega (arith, i.1),
       omega (arith, i.2),
-      omega (arith, i.3),
-      one_more i.4 _ _
+      one_more i.3 _ _
           (gone-here _ c.args.tour.now l.loop-k.k h c.args.gone.now l.loop-k.q l.loop-k.a
           (sym light.fits_alone.ensures ∙ light.if-not-fits_alone.false) (sym c.is_next.ensures ∙ c.if-not-is_next.false))
-          (omega (arith, i.1, h, c.requires.tour_len_bound.1)),
+          (omega (arith, i.0, h, c.requires.tour_len_bound.1)),
     )
 
 pub returns : goal.returns
 returns c =
     let l = c in
-    (all-written l.loop-k.invariant.4 (none-spread _ c.args.tour.now l.loop-k.k c.loop-k-test.false _ _ _)).1
+    (all-written l.loop-k.invariant.3 (none-spread _ c.args.tour.now l.loop-k.k c.loop-k-test.false _ _ _)).1

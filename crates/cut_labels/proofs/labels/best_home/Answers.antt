@@ -1,5 +1,4 @@
 -- `labels::best_home` meets its contract. The loop's invariant: the best so far is that of the first k labels. Assumes nothing.
-use native.Mathlib.Omega.{arith}
 use mathlib.Core.Path.{refl, ap, ap₂, ◌∙◌}
 use Rattle.clock.specs.Least.{kept_home_f, pick_f}
 use Rattle.cut_labels.specs.Labels.{labels_in, best_from}
@@ -8,16 +7,10 @@ use Rattle.cut_labels.proofs.labels.best_home.Goals as goal
 
 pub loop-k-init : goal.loop-k-init
 unfolding labels_in best_from
-loop-k-init c = (refl, omega arith)
+loop-k-init c = refl
 
 pub loop-k-preserved : goal.loop-k-preserved
 loop-k-preserved c =
-    let h = c in
-    let g = h in
-    let t = g in
-    let l = t.loop-k in (
-      c.pick-best.ensures
-          ∙ ap₂ pick_f l.invariant.0 (h.kept_home.ensures ∙ ap (kept_home_f _ _ _) g.label_at-label.ensures)
-          ∙ best-more _ _ _ _ _ l.k,
-      omega (arith, t.loop-k-test.true),
-    )
+    c.pick-best.ensures
+    ∙ ap₂ pick_f c.loop-k.invariant (c.kept_home.ensures ∙ ap (kept_home_f _ _ _) c.label_at-label.ensures)
+    ∙ best-more _ _ _ _ _ c.loop-k.k

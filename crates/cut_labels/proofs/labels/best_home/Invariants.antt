@@ -1,14 +1,9 @@
 -- `labels::best_home` meets its contract. The loop's invariant: the best so far is that of the first k labels. Assumes nothing.
-use Prim.Native.Nat.{◌-◌, ◌≤◌}
 use mathlib.Core.Path.{◌≡◌}
-use Rattle.clock.specs.Records.{finished_of}
 use Rattle.clock.specs.Least.{limits_on}
 use Rattle.cut_labels.specs.Labels.{lists, labels_in, best_from}
 use Rattle.cut_labels.proofs.labels.best_home.Given as goal
 
 abbrev pub invariant-loop-k : goal.invariant-loop-k
 invariant-loop-k l =
-    (finished_of l.best ≡ best_from (limits_on l.limits) l.distance l.back (finished_of l.initial.best) (labels_in (lists l.times l.lates l.pays l.places) l.k)) × (l.k ≤ l.n)
-
-abbrev pub decreases-loop-k : goal.decreases-loop-k
-decreases-loop-k l = l.n - l.k
+    l.best ≡ best_from (limits_on l.limits) l.distance l.back l.initial.best (labels_in (lists l.times l.lates l.pays l.places) l.k)

@@ -1,9 +1,9 @@
 -- `rest_row::rest_row` meets its contract. The loop's invariant is `RestAlong` for whatever tables the lists are worked out from: after m calls of the row, load, way and clock are those of
--- these calls, and the cells up to i + m are as the row leaves them. The measure is how many calls are left. Assumes nothing.
+-- these calls, and the cells up to i + m are as the row leaves them. Assumes nothing.
 use Prim.Native.Nat.{ℕ, ◌+◌, ◌-◌, ◌<◌, ◌≤◌}
 use native.Mathlib.Omega.{arith}
 use mathlib.Core.Path.{◌≡◌, refl, sym, ap, subst, ◌∙◌}
-use mathlib.Core.Option.{some}
+use Rattle.std.specs.Prelude.{None, Some}
 use mathlib.Core.List.{List}
 use lib.ListN.{length, get_or, take, drop, length-drop}
 use lib.Dec.{eqb}
@@ -16,10 +16,8 @@ use Rattle.models.specs.declared.placement.Placement.TheVariants.{Clock}
 use Rattle.models.specs.Records.{break_of}
 use Rattle.models.specs.Load.{UpTo, none-up-to, up-to-more}
 use Rattle.whole.proofs.Bits.{fl-zero}
-use Rattle.distance.specs.declared.matrix.Road.TheVariants.{Length, Closed}
-use Rattle.distance.specs.Lookup.{road_f, road_of}
-use Rattle.clock.specs.declared.schedule.Finished.TheVariants.{Impossible, Home}
-use Rattle.clock.specs.Records.{ClockF, clock_of, finished_of}
+use Rattle.distance.specs.Lookup.{road_f}
+use Rattle.clock.specs.Records.{ClockF, clock_of}
 use Rattle.clock.specs.Clock.{begun_f, push_f}
 use Rattle.evaluation.specs.Records.{Tables}
 use Rattle.cut_stops.specs.Stops.{stop_of, stop_at, StopsOf, LegsLong, LegsAre}
@@ -49,11 +47,11 @@ module _ (n : After-new-clock) where
   pause = (clock_of n.new-clock.result).rest
 
   abbrev over : Tables → Instance
-  over t = over_by t n.args.terms Clock (some pause)
+  over t = over_by t n.args.terms Clock (Some pause)
 
   as_lent : (new : Table) (r : ℕ) → Rowed over lists n.args.i old new r
-      → Rowed (λ t. over_by t n.args.terms Clock (some (break_of n.args.rest))) lists n.args.i old new r
-  as_lent new r = same-terms _ _ refl _ _ (ap (λ (x : ClockF). some x.rest) n.new-clock.ensures) n.args.terms lists n.args.i old new r
+      → Rowed (λ t. over_by t n.args.terms Clock (Some (break_of n.args.rest))) lists n.args.i old new r
+  as_lent new r = same-terms _ _ refl _ _ (ap (λ (x : ClockF). Some x.rest) n.new-clock.ensures) n.args.terms lists n.args.i old new r
 
 -- the next run
 module _ (r : In-loop-m) where
@@ -106,10 +104,10 @@ module _ (k : After-pushed-clock) where
   ahead-served : k.args.i + k.loop-m.m < length k.args.held.now
   ahead-served = omega (arith, k.loop-m-test.true)
 
-  leg-open : road_f k.leg_to.result ≡ some k.in-Length.leg
-  leg-open = let e : k.road_of.result ≡ Length k.in-Length.leg = k.in-Length.is in sym k.road_of.ensures ∙ ap road_of e
+  leg-open : road_f k.leg_to.result ≡ Some k.in-Some.leg
+  leg-open = let e : k.road_of.result ≡ Some k.in-Some.leg = k.in-Some.is in sym k.road_of.ensures ∙ e
 
-  far-way : k.way_to-gone.result ≡ joined_f k.loop-m.gone k.in-Length.leg (eqb k.loop-m.m 0)
+  far-way : k.way_to-gone.result ≡ joined_f k.loop-m.gone k.in-Some.leg (eqb k.loop-m.m 0)
   far-way = way-is (run_is _ _ _ ahead-served) _ _ _ k.way_to-gone.ensures
 
   served : clock_of k.pushed-clock.result
@@ -121,8 +119,8 @@ module _ (k : After-pushed-clock) where
       (run_is _ _ _ ahead-served).is_last
 
 -- the limits are asked
-at_home : (g : After-allow) → finished_of g.finish.result ≡ some g.in-Home.done
-at_home g = let e : g.finish.result ≡ Home g.in-Home.done = g.in-Home.is in ap finished_of e
+at_home : (g : After-allow) → g.finish.result ≡ Some g.in-Some-finish.done
+at_home g = let e : g.finish.result ≡ Some g.in-Some-finish.done = g.in-Some-finish.is in e
 
 pub loop-m-init : goal.loop-m-init
 loop-m-init c =
@@ -166,11 +164,11 @@ returns-in_default c =
     let q = c in
     let p = (goal.at.returns-in_default c).After-stop_at-stop in
     let l = c in
-    let e : q.road_of.result ≡ Closed = search rules in record {
+    let e : q.road_of.result ≡ None = search rules in record {
       fact = as_lent n _ _
           (λ t W L.
           cut_off (over n t) (l.loop-m.invariant.0.keeps t W L).along (inside p)
-          (leg-closed _ _ _ (called p t W L _ _ q.leg_to.ensures refl).leg-is (sym q.road_of.ensures ∙ ap road_of e)));
+          (leg-closed _ _ _ (called p t W L _ _ q.leg_to.ensures refl).leg-is (sym q.road_of.ensures ∙ e)));
       result_in_bounds = l.loop-m.invariant.0.within;
     }
 
@@ -198,7 +196,7 @@ loop-m-preserved-in_default-finish c =
     let b = c in
     let p = (goal.at.loop-m-preserved-in_default-finish c).After-stop_at-stop in
     let l = c in
-    let e : f.finish.result ≡ Impossible = search rules in (
+    let e : f.finish.result ≡ None = search rules in (
       record {
         within = omega (arith, ahead p);
         light = b.fits.ensures.up_to b.if-not-fits.false;
@@ -206,7 +204,7 @@ loop-m-preserved-in_default-finish c =
             λ t W L.
             endless (over n t) refl (pause n) refl _ _ _ _ (l.loop-m.invariant.0.keeps t W L) (called p t W L _ _ k.leg_to.ensures k.leg_to-travel.ensures)
             (inside p) (short p) b.plus-load.ensures.result_value (sym b.fits.ensures.value ∙ b.if-not-fits.false) (leg-open k) (far-way k) (served k)
-            _ f.finish.ensures (ap finished_of e);
+            _ f.finish.ensures (e);
       },
       next-index _ _ _ _ _ _ (served k) l.loop-m.invariant.1,
     )
@@ -258,4 +256,8 @@ pub returns : goal.returns
 unfolding Rowed
 returns c =
     let n = (goal.at.returns c).After-new-clock in
-    let l = c in record { fact = as_lent n _ _ (λ t W L. run_out (l.loop-m.invariant.0.keeps t W L).along (simp length-drop (omega (arith, c.loop-m-test.false)))); result_in_bounds = l.loop-m.invariant.0.within }
+    let l = c in
+    let all : l.loop-m.m ≡ length c.args.held.now - c.args.i = omega arith in record {
+      fact = rw (← all) (as_lent n _ _ (λ t W L. run_out (l.loop-m.invariant.0.keeps t W L).along (simp length-drop (omega (arith, c.loop-m-test.false)))));
+      result_in_bounds = omega (arith, l.loop-m.invariant.0.within, all);
+    }

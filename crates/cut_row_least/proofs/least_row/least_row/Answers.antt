@@ -1,10 +1,10 @@
 -- `least_row::least_row` meets its contract. The loop's invariant is `LeastAlong` for whatever tables the lists are worked out from: after m calls of the row, load, way and labels are those of these
--- calls, and the cells up to i + m are as the row leaves them. The measure is how many calls are left. Assumes nothing.
+-- calls, and the cells up to i + m are as the row leaves them. Assumes nothing.
 use Prim.Native.Nat.{ℕ, ◌+◌, ◌-◌, ◌<◌, ◌≤◌}
 use native.Mathlib.Numerals.{add-one}
 use native.Mathlib.Omega.{arith}
 use mathlib.Core.Path.{◌≡◌, refl, sym, ap, subst, ◌∙◌}
-use mathlib.Core.Option.{some}
+use Rattle.std.specs.Prelude.{None, Some}
 use mathlib.Core.List.{List}
 use lib.ListN.{length, get_or, take, drop, length-drop}
 use lib.Dec.{eqb}
@@ -17,10 +17,7 @@ use Rattle.models.specs.declared.placement.Placement.TheVariants.{Least}
 use Rattle.models.specs.Records.{break_of}
 use Rattle.models.specs.Load.{load_of, UpTo, none-up-to, up-to-more}
 use Rattle.whole.proofs.Bits.{fl-zero}
-use Rattle.distance.specs.declared.matrix.Road.TheVariants.{Length, Closed}
-use Rattle.distance.specs.Lookup.{road_f, road_of}
-use Rattle.clock.specs.declared.schedule.Finished.TheVariants.{Impossible, Home}
-use Rattle.clock.specs.Records.{finished_of}
+use Rattle.distance.specs.Lookup.{road_f}
 use Rattle.evaluation.specs.Records.{Tables}
 use Rattle.cut_labels.specs.Labels.{labels_in}
 use Rattle.cut_stops.specs.Stops.{stop_of, stop_at, StopsOf, LegsLong, LegsAre}
@@ -33,7 +30,7 @@ use Rattle.cut_runs.proofs.Calls.{RunIs, run_is, call_below, way-is, CallIs, cal
 use Rattle.cut_runs.proofs.Calling.{Called}
 use Rattle.cut_row_least.proofs.LeastAlong.{least-setout, none_left, unplaced, endless, put}
 use Rattle.cut_row_least.proofs.least_row.least_row.Goals as goal
-use Rattle.cut_row_least.proofs.least_row.least_row.Goals.{After-carry-before, After-none-load, After-stop_at-stop, In-Home, In-loop-m}
+use Rattle.cut_row_least.proofs.least_row.least_row.Goals.{After-carry-before, After-none-load, After-stop_at-stop, In-Some-best_home, In-loop-m}
 
 -- the loop is entered
 module _ (n : After-none-load) where
@@ -44,7 +41,7 @@ module _ (n : After-none-load) where
   pause = break_of n.args.rest
 
   abbrev over : Tables → Instance
-  over t = over_by t n.args.terms Least (some pause)
+  over t = over_by t n.args.terms Least (Some pause)
 
 -- the next run
 module _ (r : In-loop-m) where
@@ -94,15 +91,15 @@ module _ (p : After-stop_at-stop) where
 
 -- the labels serve it
 module _ (k : After-carry-before) where
-  leg-open : road_f k.leg_to.result ≡ some k.in-Length.leg
-  leg-open = let e : k.road_of.result ≡ Length k.in-Length.leg = k.in-Length.is in sym k.road_of.ensures ∙ ap road_of e
+  leg-open : road_f k.leg_to.result ≡ Some k.in-Some.leg
+  leg-open = let e : k.road_of.result ≡ Some k.in-Some.leg = k.in-Some.is in sym k.road_of.ensures ∙ e
 
-  far-way : k.way_to-gone.result ≡ joined_f k.loop-m.gone k.in-Length.leg (eqb k.loop-m.m 0)
+  far-way : k.way_to-gone.result ≡ joined_f k.loop-m.gone k.in-Some.leg (eqb k.loop-m.m 0)
   far-way = let ahead : k.args.i + k.loop-m.m < length k.args.held.now = omega (arith, k.loop-m-test.true) in way-is (run_is _ _ _ ahead) _ _ _ k.way_to-gone.ensures
 
 -- the call, its load and the way with it
 going : (k : After-carry-before) (t : Tables) → let a = k.args in let l = k.loop-m in let x = row_lists a.held.now a.legs.now a.time_legs.now a.codes.now a.figures.now in
-    let over = over_by t a.terms Least (some (break_of a.rest)) in let row = row_from (drop a.i a.held.now) a.i (table a.cost.now a.dist.now a.pred.now) in
+    let over = over_by t a.terms Least (Some (break_of a.rest)) in let row = row_from (drop a.i a.held.now) a.i (table a.cost.now a.dist.now a.pred.now) in
     CallIs t (drop a.i x.held) l.m (stop_of k.stop_at-stop.result) k.leg_to.result k.leg_to-travel.result
     → l.m < length (drop a.i x.held) → a.i + length (drop a.i x.held) ≤ most_cut
     → (base ahead' : Float) (new : Table)
@@ -112,7 +109,7 @@ going k t is-call within most base ahead' new A =
     record {
       along = A;
       listed = k.leg_to.result;
-      leg = k.in-Length.leg;
+      leg = k.in-Some.leg;
       is-call = is-call;
       inside = within;
       short = most;
@@ -123,8 +120,8 @@ going k t is-call within most base ahead' new A =
     }
 
 -- the best way home
-at_home : (g : In-Home) → finished_of g.best_home.result ≡ some g.in-Home.done
-at_home g = let e : g.best_home.result ≡ Home g.in-Home.done = g.in-Home.is in ap finished_of e
+at_home : (g : In-Some-best_home) → g.best_home.result ≡ Some g.in-Some-best_home.done
+at_home g = let e : g.best_home.result ≡ Some g.in-Some-best_home.done = g.in-Some-best_home.is in e
 
 pub loop-m-init : goal.loop-m-init
 unfolding labels_in
@@ -136,7 +133,7 @@ loop-m-init c =
         light = subst (UpTo 1) (sym c.none-load.ensures) (up-to-more 0 1 no_load (omega arith) none-up-to);
         keeps =
             λ t W L.
-            (least-setout (setout (tariff (over n t)) (row_at n _ _) _ _ c.none-load.ensures (sym fl-zero) s.requires.table-long refl refl) (ap some c.start.ensures) refl);
+            (least-setout (setout (tariff (over n t)) (row_at n _ _) _ _ c.none-load.ensures (sym fl-zero) s.requires.table-long refl refl) (ap Some c.start.ensures) refl);
       },
       record { times_long = refl; lates-long = refl; pays-long = refl; places-long = refl },
       omega arith,
@@ -167,10 +164,10 @@ returns-in_default c =
     let q = c in
     let p = (goal.at.returns-in_default c).After-stop_at-stop in
     let l = c in
-    let e : q.road_of.result ≡ Closed = search rules in record {
+    let e : q.road_of.result ≡ None = search rules in record {
       fact = (λ t W L.
           cut_off (over n t) (l.loop-m.invariant.0.keeps t W L).along (inside p)
-          (leg-closed _ _ _ (called p t W L _ _ q.leg_to.ensures refl).leg-is (sym q.road_of.ensures ∙ ap road_of e)));
+          (leg-closed _ _ _ (called p t W L _ _ q.leg_to.ensures refl).leg-is (sym q.road_of.ensures ∙ e)));
       result_in_bounds = l.loop-m.invariant.0.within;
     }
 
@@ -198,7 +195,7 @@ loop-m-preserved-in_default-best_home c =
     let l = c in
     let b = c in
     let served = k.call_served-n.ensures in
-    let e : f.best_home.result ≡ Impossible = search rules in (
+    let e : f.best_home.result ≡ None = search rules in (
       record {
         within = omega (arith, ahead p);
         light = b.fits.ensures.up_to b.if-not-fits.false;
@@ -206,7 +203,7 @@ loop-m-preserved-in_default-best_home c =
             λ t W L.
             let A = l.loop-m.invariant.0.keeps t W L in
             endless (over n t) refl (pause n) refl (going k t (called p t W L _ _ k.leg_to.ensures k.leg_to-travel.ensures) (inside p) (short p) _ _ _ A.along) A.labelled _ (add-one (m p)) k.carry-before.ensures
-            served.are _ f.best_home.ensures (ap finished_of e);
+            served.are _ f.best_home.ensures (e);
       },
       served.full,
       omega (arith, served.most, l.loop-m.invariant.2),
@@ -229,7 +226,7 @@ loop-m-preserved c =
             λ t W L.
             let A = l.loop-m.invariant.0.keeps t W L in
             put (over n t) refl (pause n) refl (going k t (called p t W L _ _ k.leg_to.ensures k.leg_to-travel.ensures) (inside p) (short p) _ _ _ A.along) A.labelled _ (add-one (m p)) k.carry-before.ensures
-            served.are _ f.best_home.ensures _ (at_home (goal.at.loop-m-preserved c).In-Home) _ _ (next-cell p) c.offer.ensures;
+            served.are _ f.best_home.ensures _ (at_home (goal.at.loop-m-preserved c).In-Some-best_home) _ _ (next-cell p) c.offer.ensures;
       },
       served.full,
       omega (arith, served.most, l.loop-m.invariant.2),
@@ -239,4 +236,7 @@ pub returns : goal.returns
 unfolding Rowed
 returns c =
     let l = c in
-    record { fact = (λ t W L. run_out (l.loop-m.invariant.0.keeps t W L).along (simp length-drop (omega (arith, c.loop-m-test.false)))); result_in_bounds = l.loop-m.invariant.0.within }
+    let all : l.loop-m.m ≡ length c.args.held.now - c.args.i = omega arith in record {
+      fact = λ t W L. rw (← all) (run_out (l.loop-m.invariant.0.keeps t W L).along (simp length-drop (omega (arith, c.loop-m-test.false))));
+      result_in_bounds = omega (arith, l.loop-m.invariant.0.within, all);
+    }

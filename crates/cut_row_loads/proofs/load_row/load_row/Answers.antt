@@ -1,9 +1,9 @@
 -- `load_row::load_row` meets its contract. The loop's invariant is `LoadAlong` for whatever tables the lists are worked out from: after m calls of the row, load and way are those of these calls,
--- nothing is late, and the cells up to i + m are as the row leaves them. The measure is how many calls are left. Assumes nothing.
+-- nothing is late, and the cells up to i + m are as the row leaves them. Assumes nothing.
 use Prim.Native.Nat.{ℕ, ◌+◌, ◌-◌, ◌<◌, ◌≤◌}
 use native.Mathlib.Omega.{arith}
 use mathlib.Core.Path.{◌≡◌, refl, sym, ap, subst, ◌∙◌}
-use mathlib.Core.Option.{some}
+use Rattle.std.specs.Prelude.{None, Some}
 use mathlib.Core.List.{List}
 use lib.ListN.{length, get_or, take, drop, length-drop}
 use lib.Dec.{eqb}
@@ -13,8 +13,7 @@ use Rattle.cut_theory.specs.Tab.{most_cut}
 use Rattle.definitions.specs.Load.{no_load}
 use Rattle.models.specs.Load.{load_of, UpTo, none-up-to, up-to-more}
 use Rattle.whole.proofs.Bits.{fl-zero}
-use Rattle.distance.specs.declared.matrix.Road.TheVariants.{Length, Closed}
-use Rattle.distance.specs.Lookup.{road_f, road_of}
+use Rattle.distance.specs.Lookup.{road_f}
 use Rattle.evaluation.specs.Records.{Tables}
 use Rattle.cut_stops.specs.Stops.{stop_of, stop_at, StopsOf, LegsLong, LegsAre}
 use Rattle.cut_table.specs.Table.{Table, table}
@@ -88,10 +87,10 @@ module _ (p : After-stop_at-stop) where
 
 -- the way to it is added
 module _ (way : After-way_to-gone) where
-  leg-open : road_f way.leg_to.result ≡ some way.in-Length.leg
-  leg-open = let e : way.road_of.result ≡ Length way.in-Length.leg = way.in-Length.is in sym way.road_of.ensures ∙ ap road_of e
+  leg-open : road_f way.leg_to.result ≡ Some way.in-Some.leg
+  leg-open = let e : way.road_of.result ≡ Some way.in-Some.leg = way.in-Some.is in sym way.road_of.ensures ∙ e
 
-  far-way : way.way_to-gone.result ≡ joined_f way.loop-m.gone way.in-Length.leg (eqb way.loop-m.m 0)
+  far-way : way.way_to-gone.result ≡ joined_f way.loop-m.gone way.in-Some.leg (eqb way.loop-m.m 0)
   far-way = let ahead : way.args.i + way.loop-m.m < length way.args.held.now = omega (arith, way.loop-m-test.true) in way-is (run_is _ _ _ ahead) _ _ _ way.way_to-gone.ensures
 
 -- the call, its load and the way with it
@@ -106,7 +105,7 @@ going way t time is-call within most base ahead' new A =
     record {
       along = A;
       listed = way.leg_to.result;
-      leg = way.in-Length.leg;
+      leg = way.in-Some.leg;
       is-call = is-call;
       inside = within;
       short = most;
@@ -154,10 +153,10 @@ returns-in_default c =
     let q = c in
     let p = (goal.at.returns-in_default c).After-stop_at-stop in
     let l = c in
-    let e : q.road_of.result ≡ Closed = search rules in record {
+    let e : q.road_of.result ≡ None = search rules in record {
       fact = λ t W L.
           cut_off (over n t) (l.loop-m.invariant.keeps t W L).along (inside p)
-          (leg-closed _ _ _ (called p t W L _ q.leg_to.ensures).leg-is (sym q.road_of.ensures ∙ ap road_of e));
+          (leg-closed _ _ _ (called p t W L _ q.leg_to.ensures).leg-is (sym q.road_of.ensures ∙ e));
       result_in_bounds = l.loop-m.invariant.within;
     }
 
@@ -179,4 +178,8 @@ loop-m-preserved c =
 pub returns : goal.returns
 unfolding Rowed
 returns c =
-    let l = c in record { fact = λ t W L. run_out (l.loop-m.invariant.keeps t W L).along (simp length-drop (omega (arith, c.loop-m-test.false))); result_in_bounds = l.loop-m.invariant.within }
+    let l = c in
+    let all : l.loop-m.m ≡ length c.args.held.now - c.args.i = omega arith in record {
+      fact = λ t W L. rw (← all) (run_out (l.loop-m.invariant.keeps t W L).along (simp length-drop (omega (arith, c.loop-m-test.false))));
+      result_in_bounds = omega (arith, l.loop-m.invariant.within, all);
+    }

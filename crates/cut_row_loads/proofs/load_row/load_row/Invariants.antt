@@ -1,6 +1,5 @@
 -- `load_row::load_row` meets its contract. The loop's invariant is `LoadAlong` for whatever tables the lists are worked out from: after m calls of the row, load and way are those of these calls,
--- nothing is late, and the cells up to i + m are as the row leaves them. The measure is how many calls are left. Assumes nothing.
-use Prim.Native.Nat.{◌-◌}
+-- nothing is late, and the cells up to i + m are as the row leaves them. Assumes nothing.
 use lib.ListN.{drop}
 use Rattle.models.specs.Load.{load_of}
 use Rattle.cut_table.specs.Table.{table}
@@ -14,6 +13,3 @@ abbrev pub invariant-loop-m : goal.invariant-loop-m
 invariant-loop-m l =
     Going (row_lists l.held l.legs l.time_legs l.codes l.figures) l.i (load_of l.load) l.m
     (λ t. LoadAlong t l.terms (row_from (drop l.i l.held) l.i (table l.initial.cost l.initial.dist l.initial.pred) l.base l.before) (table l.cost l.dist l.pred) (load_of l.load) l.gone l.m)
-
-abbrev pub decreases-loop-m : goal.decreases-loop-m
-decreases-loop-m l = l.left - l.m

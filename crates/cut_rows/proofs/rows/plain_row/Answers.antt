@@ -1,9 +1,9 @@
 -- `rows::plain_row` meets its contract. The loop's invariant is `PlainAlong` for whatever tables the lists are worked out from: after m calls of the row, load, way, time and lateness cost are
--- those of these calls, and the cells up to i + m are as the row leaves them. The measure is how many calls are left. Assumes nothing.
+-- those of these calls, and the cells up to i + m are as the row leaves them. Assumes nothing.
 use Prim.Native.Nat.{ℕ, ◌+◌, ◌-◌, ◌<◌, ◌≤◌}
 use native.Mathlib.Omega.{arith}
 use mathlib.Core.Path.{◌≡◌, refl, sym, ap, subst, ◌∙◌}
-use mathlib.Core.Option.{none, some}
+use Rattle.std.specs.Prelude.{None, Some}
 use mathlib.Core.List.{List}
 use lib.ListN.{length, get_or, take, drop, length-drop}
 use lib.Dec.{eqb}
@@ -13,14 +13,12 @@ use Rattle.cut_theory.specs.Tab.{most_cut}
 use Rattle.definitions.specs.Load.{no_load}
 use Rattle.models.specs.Load.{UpTo, none-up-to, up-to-more}
 use Rattle.whole.proofs.Bits.{fl-zero}
-use Rattle.distance.specs.declared.matrix.Road.TheVariants.{Length, Closed}
-use Rattle.distance.specs.Lookup.{road_f, road_of}
+use Rattle.distance.specs.Lookup.{road_f}
 use Rattle.evaluation.specs.Records.{Tables}
 use Rattle.cut_stops.specs.Stops.{stop_of, stop_at, StopsOf, LegsLong, LegsAre}
 use Rattle.cut_table.specs.Table.{table}
-use Rattle.cut_runs.specs.declared.visit.Visited.TheVariants.{Shut, Open}
 use Rattle.cut_runs.specs.Stretch.{joined_f, leg_to}
-use Rattle.cut_runs.specs.Runs.{Instance, visited_of, over_by, tariff, RowLists, row_lists, Rowed}
+use Rattle.cut_runs.specs.Runs.{Instance, over_by, tariff, RowLists, row_lists, Rowed}
 use Rattle.cut_runs.proofs.Along.{Row, row_from, setout}
 use Rattle.cut_runs.proofs.Ends.{run_out, overloaded, cut_off}
 use Rattle.cut_runs.proofs.Calls.{RunIs, run_is, call_below, way-is, CallIs, call-is, leg-closed}
@@ -34,7 +32,7 @@ module _ (n : After-none-load) where
   row_at base ahead = let a = n.args in row_from (drop a.i a.held.now) a.i (table a.cost.now a.dist.now a.pred.now) base ahead
 
   abbrev over : Tables → Instance
-  over t = over_by t n.args.terms n.args.terms.placement none
+  over t = over_by t n.args.terms n.args.terms.placement None
 
 -- the next run
 module _ (r : In-loop-m) where
@@ -87,18 +85,18 @@ module _ (v : After-visit) where
   ahead-visit : v.args.i + v.loop-m.m < length v.args.held.now
   ahead-visit = omega (arith, v.loop-m-test.true)
 
-  leg-open : road_f v.leg_to.result ≡ some v.in-Length.leg
-  leg-open = let e : v.road_of.result ≡ Length v.in-Length.leg = v.in-Length.is in sym v.road_of.ensures ∙ ap road_of e
+  leg-open : road_f v.leg_to.result ≡ Some v.in-Some.leg
+  leg-open = let e : v.road_of.result ≡ Some v.in-Some.leg = v.in-Some.is in sym v.road_of.ensures ∙ e
 
-  far-way : v.way_to-gone.result ≡ joined_f v.loop-m.gone v.in-Length.leg (eqb v.loop-m.m 0)
+  far-way : v.way_to-gone.result ≡ joined_f v.loop-m.gone v.in-Some.leg (eqb v.loop-m.m 0)
   far-way = way-is (run_is _ _ _ ahead-visit) _ _ _ v.way_to-gone.ensures
 
   time-way : v.way_to-arrival.result ≡ joined_f v.loop-m.time v.leg_to-in-loop-m.result (eqb v.loop-m.m 0)
   time-way = way-is (run_is _ _ _ ahead-visit) _ _ _ v.way_to-arrival.ensures
 
 -- the limits are asked
-served : (g : After-allow) → visited_of g.visit.result ≡ some g.in-Open.v
-served g = let e : g.visit.result ≡ Open g.in-Open.v = g.in-Open.is in ap visited_of e
+served : (g : After-allow) → g.visit.result ≡ Some g.in-Some-visit.v
+served g = let e : g.visit.result ≡ Some g.in-Some-visit.v = g.in-Some-visit.is in e
 
 pub loop-m-init : goal.loop-m-init
 loop-m-init c =
@@ -138,10 +136,10 @@ returns-in_default c =
     let q = c in
     let p = (goal.at.returns-in_default c).After-stop_at-stop in
     let l = c in
-    let e : q.road_of.result ≡ Closed = search rules in record {
+    let e : q.road_of.result ≡ None = search rules in record {
       fact = λ t W L.
           cut_off (over n t) (l.loop-m.invariant.keeps t W L).along (inside p)
-          (leg-closed _ _ _ (called p t W L _ _ q.leg_to.ensures refl).leg-is (sym q.road_of.ensures ∙ ap road_of e));
+          (leg-closed _ _ _ (called p t W L _ _ q.leg_to.ensures refl).leg-is (sym q.road_of.ensures ∙ e));
       result_in_bounds = l.loop-m.invariant.within;
     }
 
@@ -153,11 +151,11 @@ returns-in_default-visit c =
     let b = c in
     let p = (goal.at.returns-in_default-visit c).After-stop_at-stop in
     let l = c in
-    let e : v.visit.result ≡ Shut = search rules in record {
+    let e : v.visit.result ≡ None = search rules in record {
       fact = λ t W L.
           shut (over n t) refl _ _ _ _ _ (l.loop-m.invariant.keeps t W L) (called p t W L _ _ v.leg_to.ensures v.leg_to-in-loop-m.ensures) (inside p) (short p)
           b.plus-load.ensures.result_value (sym b.fits.ensures.value ∙ b.if-not-fits.false) (leg-open v) (far-way v) (time-way v)
-          (sym v.visit.ensures ∙ ap visited_of e);
+          (sym v.visit.ensures ∙ e);
       result_in_bounds = l.loop-m.invariant.within;
     }
 
@@ -201,4 +199,8 @@ loop-m-preserved c =
 pub returns : goal.returns
 unfolding Rowed
 returns c =
-    let l = c in record { fact = λ t W L. run_out (l.loop-m.invariant.keeps t W L).along (simp length-drop (omega (arith, c.loop-m-test.false))); result_in_bounds = l.loop-m.invariant.within }
+    let l = c in
+    let all : l.loop-m.m ≡ length c.args.held.now - c.args.i = omega arith in record {
+      fact = λ t W L. rw (← all) (run_out (l.loop-m.invariant.keeps t W L).along (simp length-drop (omega (arith, c.loop-m-test.false))));
+      result_in_bounds = omega (arith, l.loop-m.invariant.within, all);
+    }

@@ -1,5 +1,4 @@
--- `stops::work_out_calls` meets its contract. The loop's invariant is `StopsTo`: the places of the first k calls stand in the lists. The
--- measure is how many calls are left. Assumes nothing.
+-- `stops::work_out_calls` meets its contract. The loop's invariant is `StopsTo`: the places of the first calls stand in the lists. Assumes nothing.
 use Prim.Native.Nat.{ℕ, ◌<◌}
 use mathlib.Core.List.{List}
 use native.Mathlib.Omega.{arith}
@@ -15,27 +14,23 @@ unfolding Below64
 below calls k b here = b k here
 
 pub put_legs-requires : goal.put_legs-requires
-put_legs-requires c = below _ _ c.requires.1 c.loop-k-test.true
+put_legs-requires c = below _ _ c.requires.1 c.loop-c-test.true
 
 pub offset_bounds-customers-c : goal.offset_bounds-customers-c
-offset_bounds-customers-c c = omega (arith, below _ _ c.requires.1 c.loop-k-test.true)
+offset_bounds-customers-c c = omega (arith, below _ _ c.requires.1 c.loop-c-test.true)
 
 pub bounds-customers-c : goal.bounds-customers-c
-bounds-customers-c c = below _ _ c.requires.1 c.loop-k-test.true
+bounds-customers-c c = below _ _ c.requires.1 c.loop-c-test.true
 
 pub put_customer-requires : goal.put_customer-requires
-put_customer-requires c = below _ _ c.requires.1 c.loop-k-test.true
+put_customer-requires c = below _ _ c.requires.1 c.loop-c-test.true
 
-pub loop-k-preserved : goal.loop-k-preserved
-loop-k-preserved c =
-    let put = c in
-    let slice = put in
-    let at = slice in
-    let l = at.loop-k in
-    let s = at in
-    let a = s.args in
+pub loop-c-preserved : goal.loop-c-preserved
+loop-c-preserved c =
+    let l = c.loop-c in
+    let a = c.args in
     let calls = a.calls.now in
-    stops-more (lent a.customers a.distances.now a.times.now a.size) (numbers l.codes l.figures) _ l.k _ calls l.invariant
-    (place-put (numbers l.codes l.figures) _ (get_or calls l.k 0) _ (drive_f a.distances.now a.times.now a.size) _
-    l.invariant.long (below _ _ c.requires.1 c.loop-k-test.true) c.put_customer.ensures.codes_after put.put_legs.ensures c.put_customer.ensures.figures_after)
-    (looked-up a.customers a.distances.now a.times.now a.size (get_or calls l.k 0) _ s.well_formed.1.0.1.0.1 (below _ _ c.requires.1 c.loop-k-test.true))
+    stops-more (lent a.customers a.distances.now a.times.now a.size) (numbers l.codes l.figures) _ l.c-index _ calls l.invariant
+    (place-put (numbers l.codes l.figures) _ (get_or calls l.c-index 0) _ (drive_f a.distances.now a.times.now a.size) _
+    l.invariant.long (below _ _ c.requires.1 c.loop-c-test.true) c.put_customer.ensures.codes_after c.put_legs.ensures c.put_customer.ensures.figures_after)
+    (looked-up a.customers a.distances.now a.times.now a.size (get_or calls l.c-index 0) _ c.well_formed.1.0.1.0.1 (below _ _ c.requires.1 c.loop-c-test.true))

@@ -3,7 +3,7 @@ use Prim.Native.Nat.{ℕ}
 use native.Mathlib.Omega.{arith}
 use mathlib.Core.Path.{ap, ◌∙◌}
 use mathlib.Core.List.{List}
-use mathlib.Core.Option.{some}
+use Rattle.std.specs.Prelude.{Some}
 use Rattle.texts.specs.CuttingText.{between}
 use Rattle.cutting_text.specs.declared.mode.Turn.{Turn}
 use Rattle.cutting_text.specs.Modes.{turned}
@@ -27,7 +27,7 @@ returns-in-Call c =
     let a = b.args in record {
       said = λ ends places.
           let s = state_of a.r a.calls.now ends places in
-          ap (λ (l : List ℕ). some (record { mode = between; place = s.place; calls = l; ends = s.ends; places = s.places }))
+          ap (λ (l : List ℕ). Some (record { mode = between; place = s.place; calls = l; ends = s.ends; places = s.places }))
           (pushed a.calls.now a.r.calls c.in-Call.n b.requires)
           ∙ known (λ (t : Turn). turned t s) c.in-Call.is (b.blank.ensures s);
       few = (omega arith, omega arith);

@@ -1,5 +1,5 @@
 -- `read::read_cutting` meets its contract. The loop reads on from the state that the lists say. Assumes nothing.
-use Prim.Native.Nat.{suc, ◌-◌, ◌≤◌}
+use Prim.Native.Nat.{suc, ◌≤◌}
 use mathlib.Core.Path.{◌≡◌}
 use mathlib.Core.List.{◌++◌}
 use lib.ListN.{length, drop}
@@ -8,17 +8,13 @@ use Rattle.texts.specs.CuttingText.{walk, read_cutting}
 use Rattle.cutting_text.specs.TextSoFar.{state_of}
 use Rattle.cutting_text.proofs.read.read_cutting.Given as goal
 
-abbrev pub invariant-loop-i : goal.invariant-loop-i
-invariant-loop-i l =
-    (l.i ≤ length l.bytes)
-    × (l.r.calls ≤ l.i)
-    × (l.r.runs ≤ l.i)
-    × (l.line ≤ suc l.i)
-    × (l.column ≤ suc l.i)
+abbrev pub invariant-loop-b : goal.invariant-loop-b
+invariant-loop-b l =
+    (l.r.calls ≤ l.b-index)
+    × (l.r.runs ≤ l.b-index)
+    × (l.line ≤ suc l.b-index)
+    × (l.column ≤ suc l.b-index)
     × (length l.calls ≡ length l.initial.calls)
     × (length l.ends ≡ length l.initial.ends)
     × (length l.places ≡ length l.initial.places)
-    × (walk l.line l.column (state_of l.r l.calls l.ends l.places) (drop l.i l.bytes ++ end_of_line) ≡ read_cutting l.bytes)
-
-abbrev pub decreases-loop-i : goal.decreases-loop-i
-decreases-loop-i l = length l.bytes - l.i
+    × (walk l.line l.column (state_of l.r l.calls l.ends l.places) (drop l.b-index l.bytes ++ end_of_line) ≡ read_cutting l.bytes)

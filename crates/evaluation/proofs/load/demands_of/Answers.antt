@@ -7,4 +7,4 @@ use Rattle.evaluation.proofs.load.demands_of.Goals as goal
 pub returns : goal.returns
 returns c =
     let l = c.loop-i in
-    (l.invariant.1.long, asks-all (map customer_of c.args.customers) l.demands l.i c.loop-i-test.false l.invariant.1)
+    (l.invariant.long, asks-all (map customer_of c.args.customers) l.demands l.i c.loop-i-test.false l.invariant)

@@ -1,14 +1,14 @@
 -- `route::route_feasible` meets its contract. Assumes nothing.
-use mathlib.Core.Path.{◌≡◌}
-use Rattle.clock.specs.declared.schedule.Finished.TheVariants.{Impossible, Home}
+use mathlib.Core.Path.{◌≡◌, refl, ap, ◌∙◌}
+use Rattle.std.specs.Prelude.{Option, None, Some, is_some}
+use Rattle.basics.specs.Options.{present}
 use Rattle.evaluation.specs.Route.{feasible_f}
-use borrow.Author.Rules.{rules}
 use Rattle.evaluation.proofs.route.route_feasible.Goals as goal
 
-pub returns-in-Impossible : goal.returns-in-Impossible
-unfolding feasible_f
-returns-in-Impossible c = let e : c.allowed.result ≡ Impossible = search rules in rw (← c.allowed.ensures, e)
+seen : {A : Type 0} (o : Option A) → is_some o ≡ present o
+seen None = refl
+seen (Some a) = refl
 
-pub returns-in-Home : goal.returns-in-Home
+pub returns : goal.returns
 unfolding feasible_f
-returns-in-Home c = let e : c.allowed.result ≡ Home c.in-Home.field-0 = search rules in rw (← c.allowed.ensures, e)
+returns c = c.is_some.ensures ∙ ap is_some c.allowed.ensures ∙ seen _

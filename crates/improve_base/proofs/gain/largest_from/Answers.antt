@@ -1,16 +1,15 @@
--- `gain::largest_from` meets its contract. The loop's invariant: the largest of what is left, and of what was found, is that from number k on. Assumes nothing.
+-- `gain::largest_from` meets its contract. Assumes nothing.
 use mathlib.Core.Path.{sym, ◌∙◌}
-use Rattle.improve_base.proofs.Reckoning.{largest-turn, largest-end}
+use lib.ListN.{drop}
+use borrow.Author.Rules.{rules}
+use Rattle.std.proofs.lemmas.Iterator.{YieldsList-from_slice}
+use Rattle.std.proofs.lemmas.Iterator.Adapters.{YieldsList-from_skip}
+use Rattle.std.proofs.lemmas.Iterator.Consumers.{fold_from_yields_List}
+use Rattle.whole.specs.Larger.{larger_f}
+use Rattle.improve_base.proofs.Reckoning.{largest-fold}
 use Rattle.improve_base.proofs.gain.largest_from.Goals as goal
-
-pub loop-j-preserved : goal.loop-j-preserved
-loop-j-preserved c =
-    let l = c.loop-j in
-    let a = c.args in
-    sym (largest-turn a.distances.now l.found _ l.j c.loop-j-test.true c.larger-found.ensures) ∙ l.invariant
 
 pub returns : goal.returns
 returns c =
-    let l = c.loop-j in
-    let a = c.args in
-    sym (largest-end a.distances.now l.found l.j c.loop-j-test.false) ∙ l.invariant
+    fold_from_yields_List _ larger_f _ _ c.fold.ensures.ran (YieldsList-from_skip c.args.k (YieldsList-from_slice c.args.distances.now cc) cc) (λ a x b q k. search rules)
+    ∙ sym (largest-fold c.args.most (drop c.args.k c.args.distances.now))

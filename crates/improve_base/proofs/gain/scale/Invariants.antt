@@ -1,14 +1,10 @@
 -- `gain::scale` meets its contract. The loop's invariant: the largest of what is left, four at a time, and of what was found, is that of the
 -- whole table. Assumes nothing.
-use Prim.Native.Nat.{◌-◌, ◌≤◌}
+use Prim.Native.Nat.{◌*◌}
 use mathlib.Core.Path.{◌≡◌}
-use lib.ListN.{length, drop}
+use lib.ListN.{drop}
 use Rattle.improve_base.specs.Gain.{largest_by_four_f, scale_f}
 use Rattle.improve_base.proofs.gain.scale.Given as goal
 
-abbrev pub invariant-loop-k : goal.invariant-loop-k
-invariant-loop-k l =
-    (largest_by_four_f l.first l.second l.third l.fourth (drop l.k l.distances) ≡ scale_f l.distances) × (l.k ≤ length l.distances)
-
-abbrev pub decreases-loop-k : goal.decreases-loop-k
-decreases-loop-k l = length l.distances - l.k
+abbrev pub invariant-loop-a : goal.invariant-loop-a
+invariant-loop-a l = largest_by_four_f l.first l.second l.third l.fourth (drop (l.a-index * 4) l.distances) ≡ scale_f l.distances

@@ -14,19 +14,14 @@ leg c = let a = c.args in number_f a.distances.now a.size
 
 pub returns-then-not-call_symmetric : goal.returns-then-not-call_symmetric
 returns-then-not-call_symmetric c =
-    let known = c in
-    let at = known in
-    let found = sym known.call_symmetric.ensures ∙ c.if-not-call_symmetric.true in
-    sym (pairs-stop (leg (goal.at.returns-then-not-call_symmetric c).At-loop-i) at.args.calls.now at.loop-i.i known.loop-i-test.true found) ∙ at.loop-i.invariant
+    let found = sym c.call_symmetric.ensures ∙ c.if-not-call_symmetric.true in
+    sym (pairs-stop (leg (goal.at.returns-then-not-call_symmetric c).At-loop-i) c.args.calls.now c.loop-i.i c.loop-i-test.true found) ∙ c.loop-i.invariant
 
 pub loop-i-preserved : goal.loop-i-preserved
 loop-i-preserved c =
-    let known = c in
-    let at = known in
-    let found = sym known.call_symmetric.ensures ∙ c.if-not-call_symmetric.false in
-    sym (pairs-go (leg (goal.at.loop-i-preserved c).At-loop-i) at.args.calls.now at.loop-i.i known.loop-i-test.true found) ∙ at.loop-i.invariant
+    let found = sym c.call_symmetric.ensures ∙ c.if-not-call_symmetric.false in
+    sym (pairs-go (leg (goal.at.loop-i-preserved c).At-loop-i) c.args.calls.now c.loop-i.i c.loop-i-test.true found) ∙ c.loop-i.invariant
 
 pub returns : goal.returns
 returns c =
-    let at = c in
-    sym (pairs_end (leg (goal.at.returns c).At-loop-i) at.args.calls.now at.loop-i.i c.loop-i-test.false) ∙ at.loop-i.invariant
+    sym (pairs_end (leg (goal.at.returns c).At-loop-i) c.args.calls.now c.loop-i.i c.loop-i-test.false) ∙ c.loop-i.invariant

@@ -1,5 +1,4 @@
--- `records::list_records` meets its contract. The loop's invariant is `RecordsTo`: the records below c stand in the lists. The measure is how many are left. Assumes nothing.
-use Prim.Native.Nat.{◌-◌}
+-- `records::list_records` meets its contract. The loop's invariant is `RecordsTo`: the records below c stand in the lists. Assumes nothing.
 use mathlib.Core.List.{map}
 use Rattle.models.specs.Records.{customer_of}
 use Rattle.cut_stops.specs.Stops.{numbers}
@@ -7,7 +6,4 @@ use Rattle.cut_stops.proofs.Listed.{RecordsTo}
 use Rattle.improve_base.proofs.records.list_records.Given as goal
 
 abbrev pub invariant-loop-c : goal.invariant-loop-c
-invariant-loop-c l = RecordsTo (map customer_of l.customers) (numbers l.codes l.figures) l.c
-
-abbrev pub decreases-loop-c : goal.decreases-loop-c
-decreases-loop-c l = 64 - l.c
+invariant-loop-c l = RecordsTo (map customer_of l.customer-items) (numbers l.codes l.figures) l.c

@@ -1,14 +1,10 @@
 -- `route::route_distance` meets its contract. The loop's invariant: what is left of the run, from here, comes to what the whole run does. Assumes nothing.
 -- ---- the places on the way: from the test for calls, and from the loop
-use Prim.Native.Nat.{◌-◌}
 use mathlib.Core.Path.{◌≡◌}
-use lib.ListN.{length, drop}
+use lib.ListN.{drop}
 use Rattle.distance.specs.Lookup.{number_f}
 use Rattle.improve_base.specs.Route.{home_f}
 use Rattle.improve_base.proofs.route.route_distance.Given as goal
 
-abbrev pub invariant-loop-k : goal.invariant-loop-k
-invariant-loop-k l = home_f (number_f l.distances l.size) l.dist l.prev (drop l.k l.route) ≡ home_f (number_f l.distances l.size) l.initial.dist l.initial.prev (drop 1 l.route)
-
-abbrev pub decreases-loop-k : goal.decreases-loop-k
-decreases-loop-k l = length l.route - l.k
+abbrev pub invariant-loop-next : goal.invariant-loop-next
+invariant-loop-next l = home_f (number_f l.distances l.size) l.dist l.prev (drop l.next-index l.next-items) ≡ home_f (number_f l.distances l.size) l.initial.dist l.initial.prev l.next-items

@@ -11,13 +11,10 @@ use Rattle.improve_runs.proofs.runs.paste_moved.Goals as goal
 pub loop-k-preserved : goal.loop-k-preserved
 loop-k-preserved c =
     let l = c.loop-k in
-    let s = c in
-    let a = s.args in
+    let a = c.args in
     let f = shifted 0 a.down in
     let x = get_or a.from.now l.k 0 in
     let many = length-map a.from.now f in
-    let here : x - a.down ≡ f x = omega arith in (
-      omega arith,
-      pasted-more _ (map f a.from.now) l.to a.at l.k _ (f 0) s.requires.to_len.0 (omega (arith, many, s.requires.to_len.1)) (omega (arith, many, c.loop-k-test.true))
-          (here ∙ sym (get_or-map f a.from.now l.k 0)) l.invariant.1,
-    )
+    let here : x - a.down ≡ f x = omega arith in
+    pasted-more _ (map f a.from.now) l.to a.at l.k _ (f 0) c.requires.to_len.0 (omega (arith, many)) (omega (arith, many))
+    (here ∙ sym (get_or-map f a.from.now l.k 0)) l.invariant

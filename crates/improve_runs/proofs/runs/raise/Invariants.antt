@@ -1,10 +1,7 @@
--- `runs::raise` meets its contract. The loop's invariant is `Raising`. Assumes nothing.
-use Prim.Native.Nat.{◌-◌}
-use Rattle.improve_runs.proofs.Shifting.{Raising}
+-- `runs::raise` meets its contract. The loop's invariant: the ends passed are raised. Assumes nothing.
+use mathlib.Core.Path.{◌≡◌}
+use Rattle.improve_runs.proofs.Shifting.{raised_to}
 use Rattle.improve_runs.proofs.runs.raise.Given as goal
 
-abbrev pub invariant-loop-i : goal.invariant-loop-i
-invariant-loop-i l = Raising l.initial.ends l.k l.count l.ends l.i
-
-abbrev pub decreases-loop-i : goal.decreases-loop-i
-decreases-loop-i l = l.count - l.i
+abbrev pub invariant-loop-end : goal.invariant-loop-end
+invariant-loop-end l = l.end-items ≡ raised_to l.initial.end-items l.end-index

@@ -8,6 +8,3 @@ abbrev pub invariant-loop-i : goal.invariant-loop-i
 invariant-loop-i l =
     Back (listed (numbers l.codes l.figures) l.distances l.times l.size) (day_in l.day) l.route l.pos l.i l.next (times_in l.bounds)
     × Listed (listed (numbers l.codes l.figures) l.distances l.times l.size) (day_in l.day) l.route l.i l.befores l.afters
-
-abbrev pub decreases-loop-i : goal.decreases-loop-i
-decreases-loop-i l = l.i

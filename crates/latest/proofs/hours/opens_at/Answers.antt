@@ -1,11 +1,11 @@
 -- `hours::opens_at` meets its contract. Assumes nothing.
-use Rattle.models.specs.declared.customer.Opening.TheVariants.{Always}
+use Rattle.std.specs.Prelude.{None}
 use Rattle.whole.proofs.Bits.{fl-zero}
 use mathlib.Core.Path.{◌≡◌, sym}
 use borrow.Author.Rules.{rules}
 use Rattle.latest.proofs.hours.opens_at.Goals as goal
 
-pub returns-in-Always : goal.returns-in-Always
-returns-in-Always c =
-    let e : c.args.opening ≡ Always = search rules in
+pub returns-in-None : goal.returns-in-None
+returns-in-None c =
+    let e : c.args.opening ≡ None = search rules in
     rw e (sym fl-zero)

@@ -15,28 +15,20 @@ use Rattle.latest.proofs.onward.serve_all.Goals.{Start}
 abbrev tables : Start → Tables
 tables s = let a = s.args in listed (numbers a.codes.now a.figures.now) a.distances.now a.times.now a.size
 
-pub loop-i-preserved : goal.loop-i-preserved
-loop-i-preserved c =
-    let hours = c in
-    let there = hours in
-    let inside = there in
-    let at = inside in
-    let l = at.loop-i in
-    let s = at in
-    let t = tables (goal.at.loop-i-preserved c).Start in
-    let calls = s.args.calls.now in
-    let day = day_in s.args.day in
-    let turn = serves-turn floats (travel_f t) (hours_f t.customers) day calls l.i (times_in l.left) l.last inside.loop-i-test.true in (
-      omega (arith, inside.loop-i-test.true),
-      ap (λ (x : TimesOf Float). serves_f t day x (get_or calls l.i 0) (drop (l.i + 1) calls))
-          (c.serve-left.ensures ∙ ap₂ (λ (b : HoursOf Float) (w : Float). serve floats day b w (times_in l.left)) hours.hours_at-hours.ensures there.open_time-travel.ensures)
-          ∙ sym turn ∙ l.invariant.1,
-    )
+pub loop-cid-preserved : goal.loop-cid-preserved
+loop-cid-preserved c =
+    let l = c.loop-cid in
+    let i = l.cid-index in
+    let t = tables (goal.at.loop-cid-preserved c).Start in
+    let calls = c.args.calls.now in
+    let day = day_in c.args.day in
+    let turn = serves-turn floats (travel_f t) (hours_f t.customers) day calls i (times_in l.left) l.last (omega arith) in
+    ap (λ (x : TimesOf Float). serves_f t day x (get_or calls i 0) (drop (i + 1) calls))
+    (c.serve-left.ensures ∙ ap₂ (λ (b : HoursOf Float) (w : Float). serve floats day b w (times_in l.left)) c.hours_at-hours.ensures c.open_time-travel.ensures)
+    ∙ sym turn ∙ l.invariant
 
 pub returns : goal.returns
 returns c =
-    let at = c in
-    let l = at.loop-i in
-    let s = at in
+    let l = c.loop-cid in
     let t = tables (goal.at.returns c).Start in
-    sym (serves-end floats (travel_f t) (hours_f t.customers) (day_in s.args.day) s.args.calls.now l.i (times_in l.left) l.last (omega (arith, c.loop-i-test.false))) ∙ l.invariant.1
+    sym (serves-end floats (travel_f t) (hours_f t.customers) (day_in c.args.day) c.args.calls.now l.cid-index (times_in l.left) l.last (omega arith)) ∙ l.invariant

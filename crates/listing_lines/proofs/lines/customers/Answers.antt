@@ -1,22 +1,19 @@
--- `lines::customers` meets its contract. The loop's invariant: the first k customers are put. Assumes nothing.
+-- `lines::customers` meets its contract. The loop's invariant: the customers passed are put. Assumes nothing.
 use Rattle.std.proofs.Common.{◌+◌, drop, arith}
 use Rattle.definitions.specs.Listing.{customers_text}
 use Rattle.listing_lines.proofs.Putting.{begun, turn}
 use Rattle.listing_lines.proofs.Pieces.{customers-more}
 use Rattle.listing_lines.proofs.lines.customers.Goals as goal
 
-pub loop-k-init : goal.loop-k-init
-loop-k-init c =
+pub loop-call-init : goal.loop-call-init
+loop-call-init c =
     let a = c.args in
-    (omega arith, omega arith, begun (customers_text a.calls.now) a.at a.out.now (omega arith))
+    (omega arith, begun (customers_text a.calls.now) a.at a.out.now (omega arith))
 
-pub loop-k-preserved : goal.loop-k-preserved
-loop-k-preserved c =
-    let t = c in
-    let at = t in
-    let l = at.loop-k in
-    let calls = at.args.calls.now in (
+pub loop-call-preserved : goal.loop-call-preserved
+loop-call-preserved c =
+    let l = c.loop-call in
+    let calls = c.args.calls.now in (
       omega arith,
-      omega arith,
-      turn l.invariant.2 (customers_text (drop (l.k + 1) calls)) t.spaced-end.ensures.text (customers-more calls l.k (omega arith)) (omega arith),
+      turn l.invariant.1 (customers_text (drop (l.call-index + 1) calls)) c.spaced-end.ensures.text (customers-more calls l.call-index (omega arith)) (omega arith),
     )

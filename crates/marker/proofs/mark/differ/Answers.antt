@@ -1,11 +1,37 @@
--- `mark::differ` meets its contract. The loop's invariant: what is left of the two lists differs where they do. Assumes nothing.
-use mathlib.Core.Path.{sym, ◌∙◌}
-use native.Mathlib.Omega.{arith}
-use Rattle.marker.proofs.Calls.{differ-ended}
+-- `mark::differ` meets its contract. Assumes nothing.
+use mathlib.Core.Path.{refl, sym, ◌∙◌}
+use borrow.Author.Rules.{rules}
+use Rattle.std.proofs.Common.{tests}
+use Rattle.std.specs.List.{zip}
+use Rattle.std.proofs.lemmas.Iterator.{YieldsList-from_slice, YieldsList-from_zip}
+use Rattle.std.proofs.lemmas.Iterator.Search.{position_from_yields_List}
+use Rattle.std.proofs.lemmas.Iterator.Adapters.{position_from-zero}
+use Rattle.marker.proofs.Calls.{apart, differ-here, differ-none, differ-ended}
 use Rattle.marker.proofs.mark.differ.Goals as goal
+
+pub returns-in-Some : goal.returns-in-Some
+returns-in-Some c =
+    let a = c.args in
+    let at_call =
+    position_from_yields_List apart c.position.new.self _ _ c.position.ensures.ran
+    (YieldsList-from_zip (YieldsList-from_slice a.calls.now cc) (YieldsList-from_slice a.served.now cc)) (λ x b q k. search (rules, tests)) in
+    let first = sym (at_call ∙ position_from-zero apart (zip a.calls.now a.served.now)) in
+    sym (differ-here 0 1 refl a.calls.now a.served.now _ (first ∙ c.in-Some.is))
+
+pub returns-then-calls-served : goal.returns-then-calls-served
+returns-then-calls-served c =
+    let a = c.args in
+    let at_call =
+    position_from_yields_List apart c.position.new.self _ _ c.position.ensures.ran
+    (YieldsList-from_zip (YieldsList-from_slice a.calls.now cc) (YieldsList-from_slice a.served.now cc)) (λ x b q k. search (rules, tests)) in
+    let first = sym (at_call ∙ position_from-zero apart (zip a.calls.now a.served.now)) in
+    sym (differ-none 0 1 refl a.calls.now a.served.now (first ∙ c.in_default.is) c.if-calls-served.true)
 
 pub returns-else-calls-served : goal.returns-else-calls-served
 returns-else-calls-served c =
-    let x = c.loop-i in
     let a = c.args in
-    sym (differ-ended a.calls.now a.served.now x.i (omega arith) (omega arith) c.if-calls-served.false) ∙ x.invariant.2
+    let at_call =
+    position_from_yields_List apart c.position.new.self _ _ c.position.ensures.ran
+    (YieldsList-from_zip (YieldsList-from_slice a.calls.now cc) (YieldsList-from_slice a.served.now cc)) (λ x b q k. search (rules, tests)) in
+    let first = sym (at_call ∙ position_from-zero apart (zip a.calls.now a.served.now)) in
+    rw c.fewer.ensures (sym (differ-ended 0 1 refl a.calls.now a.served.now (first ∙ c.in_default.is) c.if-calls-served.false))

@@ -3,7 +3,7 @@ use mathlib.Core.Path.{sym, ap, ◌∙◌}
 use lib.Ieee.{Float}
 use Rattle.definitions.specs.Sheet.{BreakOf}
 use Rattle.marker.specs.declared.verdict.Verdict.TheVariants.{BreakMissing}
-use Rattle.marker.specs.declared.run.Marked.TheVariants.{Faulty}
+use Rattle.std.specs.Prelude.{Err}
 use Rattle.marker.specs.RunMark.{totals_mark_f}
 use Rattle.marker.proofs.run.mark_totals.Goals as goal
 
@@ -12,7 +12,7 @@ unfolding totals_mark_f
 returns-then-not-placed c =
     let a = c.args in
     rw (sym c.placed.ensures ∙ c.if-not-placed.true)
-    (ap (λ (b : BreakOf Float). Faulty (BreakMissing a.run a.totals.duration b.earliest)) c.break_or-b.ensures)
+    (ap (λ (b : BreakOf Float). Err (BreakMissing a.run a.totals.duration b.earliest)) c.break_or-b.ensures)
 
 pub returns-then-not-allows : goal.returns-then-not-allows
 unfolding totals_mark_f

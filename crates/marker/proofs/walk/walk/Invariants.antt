@@ -1,7 +1,7 @@
 -- `walk::walk` meets its contract. The loop's invariant: the walk through the calls that are left, from here, ends as the whole walk does. Assumes nothing.
 use mathlib.Core.Path.{◌≡◌}
-use Prim.Native.Nat.{◌+◌, ◌-◌, ◌≤◌}
-use lib.ListN.{length, drop}
+use Prim.Native.Nat.{◌+◌}
+use lib.ListN.{drop}
 use Rattle.models.specs.Records.{rest_of}
 use Rattle.evaluation.specs.Records.{lent}
 use Rattle.marker.specs.Walking.{walk_f}
@@ -9,9 +9,5 @@ use Rattle.marker.proofs.walk.walk.Given as goal
 
 abbrev pub invariant-loop-i : goal.invariant-loop-i
 invariant-loop-i l =
-    (l.i ≤ length l.calls)
-    × (walk_f (lent l.customers l.distances l.times l.size) (rest_of l.rest) l.run l.place (l.i + 1) l.distance l.prev l.label (drop l.i l.calls)
-    ≡ walk_f (lent l.customers l.distances l.times l.size) (rest_of l.rest) l.run l.place 1 l.initial.distance l.initial.prev l.initial.label l.calls)
-
-abbrev pub decreases-loop-i : goal.decreases-loop-i
-decreases-loop-i l = length l.calls - l.i
+    walk_f (lent l.customers l.distances l.times l.size) (rest_of l.rest) l.run l.place (l.i + 1) l.distance l.prev l.label (drop l.i l.calls)
+    ≡ walk_f (lent l.customers l.distances l.times l.size) (rest_of l.rest) l.run l.place 1 l.initial.distance l.initial.prev l.initial.label l.calls

@@ -1,9 +1,8 @@
--- `limits::limit_or_zero` meets its contract. Assumes nothing.
-use mathlib.Core.Path.{◌≡◌}
+-- The number 0 as the code writes it and as the definition does.
+use Rattle.std.proofs.Common.{◌∙◌, ap, sym}
+use Rattle.std.specs.Prelude.{unwrap_or}
 use Rattle.whole.proofs.Bits.{fl-zero}
-use Rattle.models.specs.declared.limits.Limit.TheVariants.{Unlimited}
-use borrow.Author.Rules.{rules}
 use Rattle.models.proofs.limits.limit_or_zero.Goals as goal
 
-pub returns-in-Unlimited : goal.returns-in-Unlimited
-returns-in-Unlimited c = let e : c.args.limit ≡ Unlimited = search rules in rw (e, fl-zero)
+pub returns : goal.returns
+returns c = c.unwrap_or.ensures ∙ ap (unwrap_or c.args.limit) (sym fl-zero)

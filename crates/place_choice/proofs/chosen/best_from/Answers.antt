@@ -1,8 +1,7 @@
 -- `chosen::best_from` meets its contract. The loop's invariant is `Choosing`: number pos is the next place that is wanted. Assumes nothing.
 -- ---- the places on the way
-use Prim.Native.Nat.{suc, ◌-◌}
-use native.Mathlib.Omega.{arith}
-use mathlib.Core.Path.{◌≡◌, refl, sym, ap, subst, ◌∙◌}
+use Prim.Native.Nat.{◌-◌}
+use mathlib.Core.Path.{ap, ◌∙◌}
 use mathlib.Core.Bool.{Bool, cond, ◌&&◌}
 use lib.ListN.{length, take, drop}
 use lib.Ieee as Ieee
@@ -12,10 +11,9 @@ use Rattle.cut_stops.specs.Stops.{numbers}
 use Rattle.latest.specs.Times.{DayOf}
 use Rattle.latest.specs.Floats.{day_in, times_in, serves_f, listed_at, between_f}
 use Rattle.place_choice.specs.declared.insertion.Spot.{Spot}
-use Rattle.place_choice.specs.Insertion.{given_in, GivenF}
+use Rattle.place_choice.specs.Insertion.{given_in}
 use Rattle.place_choice.proofs.Folding.{in-last}
-use Rattle.place_choice.proofs.Wanting.{on, spot, fits_by, Choosing, choosing-first, choosing-more, left-on}
-use borrow.Author.Rules.{rules}
+use Rattle.place_choice.proofs.Wanting.{on, spot, fits_by, choosing-first, choosing-more, left-on}
 use Rattle.place_choice.proofs.chosen.best_from.Goals as goal
 
 pub loop-pos-init : goal.loop-pos-init

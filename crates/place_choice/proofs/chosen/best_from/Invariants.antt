@@ -1,21 +1,11 @@
 -- `chosen::best_from` meets its contract. The loop's invariant is `Choosing`: number pos is the next place that is wanted. Assumes nothing.
 -- ---- the places on the way
 use Prim.Native.Nat.{suc, ◌-◌}
-use native.Mathlib.Omega.{arith}
-use mathlib.Core.Path.{◌≡◌, refl, sym, ap, subst, ◌∙◌}
-use mathlib.Core.Bool.{Bool, cond, ◌&&◌}
-use lib.ListN.{length, take, drop}
-use lib.Ieee as Ieee
-use lib.Ieee.{Float, binary64}
-use Rattle.models.specs.Limits.{within_f}
+use lib.ListN.{length}
 use Rattle.cut_stops.specs.Stops.{numbers}
-use Rattle.latest.specs.Times.{DayOf}
-use Rattle.latest.specs.Floats.{day_in, times_in, serves_f, listed_at, between_f}
-use Rattle.place_choice.specs.declared.insertion.Spot.{Spot}
-use Rattle.place_choice.specs.Insertion.{given_in, GivenF}
-use Rattle.place_choice.proofs.Folding.{in-last}
-use Rattle.place_choice.proofs.Wanting.{on, spot, fits_by, Choosing, choosing-first, choosing-more, left-on}
-use borrow.Author.Rules.{rules}
+use Rattle.latest.specs.Floats.{times_in}
+use Rattle.place_choice.specs.Insertion.{given_in}
+use Rattle.place_choice.proofs.Wanting.{Choosing}
 use Rattle.place_choice.proofs.chosen.best_from.Given as goal
 
 abbrev pub invariant-loop-pos : goal.invariant-loop-pos

@@ -1,9 +1,7 @@
 -- `chosen::best_in` meets its contract. Assumes nothing.
-use native.Mathlib.Omega.{arith}
 use Rattle.cut_stops.specs.Stops.{numbers}
-use Rattle.place_choice.specs.Insertion.{given_in, GivenF}
-use Rattle.place_choice.proofs.Wanting.{listed_by, none-wanted}
-use borrow.Author.Rules.{rules}
+use Rattle.place_choice.specs.Insertion.{given_in}
+use Rattle.place_choice.proofs.Wanting.{none-wanted}
 use Rattle.place_choice.proofs.chosen.best_in.Goals as goal
 
 pub returns-then-route-first : goal.returns-then-route-first

@@ -1,6 +1,5 @@
 -- `chosen::best_offered` meets its contract. Assumes nothing.
 use Rattle.place_choice.specs.Insertion.{folded}
-use borrow.Author.Rules.{rules}
 use Rattle.place_choice.proofs.chosen.best_offered.Goals as goal
 
 pub returns : goal.returns

@@ -4,17 +4,12 @@
 use Prim.Native.Nat.{ℕ}
 use mathlib.Core.Path.{◌≡◌, sym, subst, fun_ext, ◌∙◌}
 use mathlib.Core.Bool.{true}
-use mathlib.Core.List.{List}
-use Rattle.basics.proofs.TestLaws.{not-true, not-false}
 use Rattle.definitions.specs.Load.{Load}
-use Rattle.models.specs.Load.{space_of}
-use Rattle.evaluation.specs.Tables.{asked_f}
 use Rattle.cut_stops.specs.Stops.{numbers}
-use Rattle.improve_runs.specs.RunLists.{Runs, runs, runs_in}
+use Rattle.improve_runs.specs.RunLists.{runs, runs_in}
 use Rattle.place_choice.specs.Loads.{room_f}
-use Rattle.place_choice.specs.Insertion.{given_in, GivenF, leg_f, demand_f, folded, cheaper_f, nowhere_f, places_of, each_from, pays_f, candidates_f, better_of, tested_f}
+use Rattle.place_choice.specs.Insertion.{given_in, leg_f, folded, cheaper_f, nowhere_f, places_of, each_from, pays_f, candidates_f, better_of, tested_f}
 use Rattle.place_choice.proofs.Spots.{best_none, best-least, best-found, best-missing, least-there, tested-there}
-use borrow.Author.Rules.{rules}
 use Rattle.place_choice.proofs.chosen.best_place.Goals as goal
 use Rattle.place_choice.proofs.chosen.best_place.Goals.{After-best_tested-best, After-cheapest_place-least, Else-not-pays}
 

@@ -1,22 +1,20 @@
 -- `chosen::best_tested` meets its contract. The loop's invariant is `Along`: the runs from run k on are left. Assumes nothing.
 -- ---- the (places_of (leg_f (given_in on.args.given (numbers on.args.codes.now on.args.figures.now) on.args.distances.now on.args.times.now)) (room_f (asked_f on.args.demands.now) (space_of on.args.given.capacity)) on.args.mover.call) the way
-use Prim.Native.Nat.{ℕ, ◌-◌}
+use Prim.Native.Nat.{ℕ}
 use native.Mathlib.Omega.{arith}
-use mathlib.Core.Path.{◌≡◌, refl, sym, ap, ap₂, subst, ◌∙◌}
+use mathlib.Core.Path.{refl, sym, ap, ap₂, subst, ◌∙◌}
 use mathlib.Core.Bool.{Bool}
 use mathlib.Core.List.{List}
-use lib.ListN.{length}
 use Rattle.models.specs.Load.{space_of, Countable, up-to-more}
 use Rattle.evaluation.specs.Tables.{asked_f}
-use Rattle.improve_runs.specs.RunLists.{Runs, runs, runs_in, run_at}
+use Rattle.improve_runs.specs.RunLists.{runs, runs_in, run_at}
 use Rattle.place_choice.specs.declared.insertion.Spot.{Spot}
 use Rattle.place_choice.specs.Loads.{room_f, load_in}
 use Rattle.cut_stops.specs.Stops.{numbers}
-use Rattle.place_choice.specs.Insertion.{given_in, GivenF, leg_f, folded, offered, places_in, places_of, each_from, nowhere_f, better_in, better_of}
-use Rattle.place_choice.proofs.Folding.{Along, along-first, along-last, Part, along-part}
+use Rattle.place_choice.specs.Insertion.{given_in, leg_f, folded, offered, places_in, places_of, each_from, better_in, better_of}
+use Rattle.place_choice.proofs.Folding.{along-first, along-last, Part, along-part}
 use Rattle.place_choice.proofs.Loading.{room-is}
 use Rattle.place_choice.proofs.Spots.{all-offered, Of, places-of, better-same}
-use borrow.Author.Rules.{rules}
 use Rattle.place_choice.proofs.chosen.best_tested.Goals as goal
 use Rattle.place_choice.proofs.chosen.best_tested.Goals.{In-loop-k}
 

@@ -1,5 +1,5 @@
 -- `chosen::next_wanted` meets its contract. The loop's invariant: no place before number pos is wanted. Assumes nothing.
-use Prim.Native.Nat.{ℕ, suc, ◌-◌, ◌<◌, ◌≤◌}
+use Prim.Native.Nat.{ℕ, suc, ◌<◌, ◌≤◌}
 use mathlib.Core.Path.{◌≡◌}
 use mathlib.Core.Bool.{false}
 use lib.ListN.{length}
@@ -11,6 +11,3 @@ abbrev pub invariant-loop-pos : goal.invariant-loop-pos
 invariant-loop-pos l =
     (l.from ≤ l.pos) × (l.pos ≤ suc (length l.route))
     × ((j : ℕ) → l.from ≤ j → j < l.pos → wanted_f l.mover l.best (adds_f (number_f l.distances l.size) l.route j l.mover.call) ≡ false)
-
-abbrev pub decreases-loop-pos : goal.decreases-loop-pos
-decreases-loop-pos l = suc (length l.route) - l.pos

@@ -1,19 +1,18 @@
 -- `tested::is_allowed` meets its contract. Assumes nothing.
 use Prim.Native.Nat.{ℕ, ◌-◌, ◌<◌, ◌≤◌}
 use native.Mathlib.Omega.{arith}
-use mathlib.Core.Path.{◌≡◌, refl, sym, ap, subst, ◌∙◌}
+use mathlib.Core.Path.{◌≡◌, ap, ◌∙◌}
 use mathlib.Core.Bool.{true, false, true≢false}
 use mathlib.Core.List.{List}
 use lib.ListN.{length, get_or, take, drop}
 use Rattle.basics.proofs.TestLaws.{not-true, not-false}
 use Rattle.cut_stops.specs.Stops.{numbers}
-use Rattle.improve_runs.specs.RunLists.{Runs, runs, runs_in, run_at}
+use Rattle.improve_runs.specs.RunLists.{runs, runs_in, run_at}
 use Rattle.improve_runs.proofs.Holding.{held}
 use Rattle.improve_runs.proofs.Changing.{run-bound, run_lent, end_is}
 use Rattle.place_choice.specs.declared.insertion.Spot.{Spot}
 use Rattle.place_choice.specs.Insertion.{given_in, GivenF, fits_in_f, allowed_f}
 use Rattle.place_choice.proofs.Wanting.{allowed-asked}
-use borrow.Author.Rules.{rules}
 use Rattle.place_choice.proofs.tested.is_allowed.Goals as goal
 use Rattle.place_choice.proofs.tested.is_allowed.Goals.{After-place_before-from}
 

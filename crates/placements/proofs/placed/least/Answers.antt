@@ -1,6 +1,5 @@
 -- `placed::least` meets its contract. The loop's invariant: the best so far is that of none and the first k calls. Assumes nothing.
 use native.Mathlib.Numerals.{add-one}
-use native.Mathlib.Omega.{arith}
 use mathlib.Core.Path.{sym, ap, ap₂, ◌∙◌}
 use Rattle.models.specs.Records.{break_of}
 use Rattle.clock.specs.Least.{pick_f}
@@ -10,17 +9,11 @@ use Rattle.placements.proofs.placed.least.Goals as goal
 
 pub loop-k-init : goal.loop-k-init
 unfolding least_to_f
-loop-k-init c = (c.unplaced-best.ensures, omega arith)
+loop-k-init c = c.unplaced-best.ensures
 
 pub loop-k-preserved : goal.loop-k-preserved
 unfolding least_to_f
 loop-k-preserved c =
-    let p = c in
-    let t = p in
-    let l = t.loop-k in
-    let start = t in
-    let a = start.args in (
-      c.pick-best.ensures ∙ ap₂ pick_f l.invariant.0 p.placed-here.ensures
-          ∙ ap (least_to_f (lent a.customers a.distances.now a.times.now a.size) (break_of a.rest) (limits_of a.limits) a.route.now) (sym (add-one l.k)),
-      omega (arith, t.loop-k-test.true),
-    )
+    let a = c.args in
+    c.pick-best.ensures ∙ ap₂ pick_f c.loop-k.invariant c.placed-here.ensures
+    ∙ ap (least_to_f (lent a.customers a.distances.now a.times.now a.size) (break_of a.rest) (limits_of a.limits) a.route.now) (sym (add-one c.loop-k.k))

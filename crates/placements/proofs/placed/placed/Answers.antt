@@ -5,7 +5,7 @@ use native.Mathlib.Omega.{arith}
 use mathlib.Core.Path.{◌≡◌, ap, ◌∙◌}
 use lib.ListN.{length, take, drop, length-drop}
 use lib.Seq.{take_all}
-use Rattle.evaluation.specs.declared.way.Driven.TheVariants.{Failed, To}
+use Rattle.std.specs.Prelude.{None, Some}
 use Rattle.evaluation.specs.Records.{lent, limits_of}
 use Rattle.evaluation.specs.Way.{plain_f}
 use Rattle.evaluation.specs.Route.{kept_f}
@@ -13,12 +13,12 @@ use Rattle.placements.specs.Placed.{placed_f}
 use borrow.Author.Rules.{rules}
 use Rattle.placements.proofs.placed.placed.Goals as goal
 
-pub returns-in_default : goal.returns-in_default
+pub returns-in_err-w : goal.returns-in_err-w
 unfolding placed_f
-returns-in_default c =
+returns-in_err-w c =
     let w = c in
-    let e : w.rested_way.result ≡ Failed = search rules in
-    rw (← w.rested_way.ensures, e)
+    let e : w.rested_way.result ≡ None = search rules in
+    rw (c.from_residual.ensures, ← w.rested_way.ensures, e)
 
 pub returns : goal.returns
 unfolding placed_f
@@ -27,7 +27,7 @@ returns c =
     let x = p in
     let w = x in
     let a = w.args in
-    let e : w.rested_way.result ≡ To x.in-To.w = search rules in
+    let e : w.rested_way.result ≡ Some x.in_ok-w.w = search rules in
     let rest : take (length a.route.now - (a.k + 1)) (drop (a.k + 1) a.route.now) ≡ drop (suc a.k) a.route.now
     = ap (λ (n : ℕ). take (length a.route.now - n) (drop n a.route.now)) (add-one a.k)
     ∙ take_all (length a.route.now - suc a.k) (drop (suc a.k) a.route.now) (omega (arith, length-drop (suc a.k) a.route.now))
@@ -35,4 +35,4 @@ returns c =
     rw (← w.rested_way.ensures, e)
     (c.kept.ensures
     ∙ ap (kept_f (limits_of a.limits))
-    (p.plain_from.ensures ∙ ap (plain_f (lent a.customers a.distances.now a.times.now a.size) x.in-To.w) rest))
+    (p.plain_from.ensures ∙ ap (plain_f (lent a.customers a.distances.now a.times.now a.size) x.in_ok-w.w) rest))

@@ -1,7 +1,7 @@
 -- `placed::totals_by` meets its contract, by the placement and by whether the limits have a break. Assumes nothing.
 use mathlib.Core.Path.{◌≡◌, sym, ap, ◌∙◌}
 use Rattle.models.specs.declared.placement.Placement.TheVariants.{Clock, Least}
-use Rattle.models.specs.declared.vehicle.Rest.TheVariants.{Unbroken, Break}
+use Rattle.std.specs.Prelude.{None, Some}
 use Rattle.models.specs.Records.{rest_of}
 use Rattle.placements.proofs.Choosing.{clock-totals, plain-totals, least-totals}
 use borrow.Author.Rules.{rules}
@@ -19,7 +19,7 @@ returns-in_default-rest c =
     let told = c in
     let a = told.args in
     let e : a.placement ≡ Least = search rules in
-    let r : a.limits.rest ≡ Unbroken = search rules in
+    let r : a.limits.rest ≡ None = search rules in
     c.allowed-in_default-rest.ensures ∙ sym (plain-totals _ _ _ _ e (ap rest_of r))
 
 pub returns : goal.returns
@@ -28,5 +28,5 @@ returns c =
     let told = rest in
     let a = told.args in
     let e : a.placement ≡ Least = search rules in
-    let r : a.limits.rest ≡ Break c.in-Break.b = search rules in
+    let r : a.limits.rest ≡ Some c.in-Some.b = search rules in
     c.least.ensures ∙ sym (least-totals _ _ _ _ e _ (ap rest_of r))

@@ -1,5 +1,4 @@
 -- `called::repeats` meets its contract. Assumes nothing.
--- where a turn begins, where its call is tested, and where the function begins
 use mathlib.Core.Path.{sym, ap, ◌∙◌}
 use mathlib.Core.Bool.{true}
 use native.Mathlib.Omega.{arith}
@@ -9,18 +8,15 @@ use Rattle.refuse_lists.proofs.called.repeats.Goals as goal
 
 pub returns-then-is_called : goal.returns-then-is_called
 returns-then-is_called c =
-    let l = c in
-    sym (twice-here l.args.tour.now l.loop-i.i l.loop-i.called (omega arith) (sym c.is_called.ensures ∙ c.if-is_called.true)) ∙ l.loop-i.invariant.1
+    let l = c.loop-c in
+    sym (twice-here c.args.tour.now l.c-index l.called (omega arith) (sym c.is_called.ensures ∙ c.if-is_called.true)) ∙ l.invariant.1
 
-pub loop-i-preserved : goal.loop-i-preserved
-loop-i-preserved c =
-    let noted = c.note_call in
-    let t = c in
-    let l = t in
-    let on = twice-on l.args.tour.now l.loop-i.i l.loop-i.called (omega arith) (sym t.is_called.ensures ∙ c.if-is_called.false) in
-    (ap length noted.ensures ∙ length-set l.loop-i.called _ true ∙ l.loop-i.invariant.0, rw noted.ensures (on ∙ l.loop-i.invariant.1))
+pub loop-c-preserved : goal.loop-c-preserved
+loop-c-preserved c =
+    let l = c.loop-c in
+    let noted = c.note_call.ensures in
+    let on = twice-on c.args.tour.now l.c-index l.called (omega arith) (sym c.is_called.ensures ∙ c.if-is_called.false) in
+    (ap length noted ∙ length-set l.called _ true ∙ l.invariant.0, rw noted (on ∙ l.invariant.1))
 
 pub returns : goal.returns
-returns c =
-    let l = c in
-    sym (twice-end l.args.tour.now l.loop-i.i l.loop-i.called (omega arith)) ∙ l.loop-i.invariant.1
+returns c = let l = c.loop-c in sym (twice-end c.args.tour.now l.c-index l.called (omega arith)) ∙ l.invariant.1

@@ -1,34 +1,16 @@
--- `customers::any_applies` meets its contract. Assumes nothing.
--- the test of a customer's record
-use mathlib.Core.Path.{sym, ◌∙◌}
-use native.Mathlib.Omega.{arith}
+use Rattle.std.proofs.Common.{take, sym, ◌∙◌, rules, tests}
+use Rattle.std.proofs.lemmas.Iterator.{YieldsList-from_slice, YieldsList-from_take}
+use Rattle.std.proofs.lemmas.Iterator.Consumers.{YieldsList-at}
+use Rattle.std.proofs.lemmas.Iterator.Search.{any_from_yields_List}
+use Rattle.models.specs.declared.customer.Customer.{Customer}
 use Rattle.models.specs.Records.{customer_of}
 use Rattle.refuse_numbers.specs.Customers.{test_of}
-use Rattle.refuse_numbers.proofs.Searching.{found_first, next-first, missed_first, any-image}
+use Rattle.refuse_numbers.proofs.Searching.{same_any, any-image}
 use Rattle.refuse_numbers.proofs.customers.any_applies.Goals as goal
-use Rattle.refuse_numbers.proofs.customers.any_applies.Invariants.{fits_of}
-
-pub returns-then-applies : goal.returns-then-applies
-returns-then-applies c =
-    let l = c in
-    let s = l in
-    let a = s.args in
-    let fits = sym c.applies.ensures ∙ c.if-applies.true in
-    found_first (fits_of a.test) a.places a.customers l.loop-i.i _ (omega (arith, l.fewer-n.ensures, s.well_formed.1.0.1.0.1)) fits l.loop-i.invariant
-    ∙ sym (any-image customer_of (test_of a.test) a.places a.customers)
-
-pub loop-i-preserved : goal.loop-i-preserved
-loop-i-preserved c =
-    let l = c in
-    let s = l in
-    let a = s.args in
-    let fails = sym c.applies.ensures ∙ c.if-applies.false in
-    next-first (fits_of a.test) a.places a.customers l.loop-i.i _ (omega (arith, l.fewer-n.ensures, s.well_formed.1.0.1.0.1)) fails l.loop-i.invariant
 
 pub returns : goal.returns
 returns c =
-    let l = c in
-    let s = l in
-    let a = s.args in
-    missed_first (fits_of a.test) a.places a.customers l.loop-i.i (omega (arith, l.fewer-n.ensures, s.well_formed.1.0.1.0.1)) l.loop-i.invariant
-    ∙ sym (any-image customer_of (test_of a.test) a.places a.customers)
+    let applies = λ (x : Customer). test_of c.args.test (customer_of x) in
+    let road = YieldsList-from_take c.args.places (YieldsList-at c.take.ensures.source (YieldsList-from_slice c.args.customers c.iter.ensures.rest)) c.take.ensures.count in
+    any_from_yields_List applies c.any.new.self _ _ c.any.ensures.ran road (λ x b q k. search (rules, tests)) ∙ same_any applies (take c.args.places c.args.customers)
+    ∙ sym (any-image customer_of (test_of c.args.test) c.args.places c.args.customers)

@@ -2,21 +2,20 @@
 -- runs that are left decide. Each search that goes on has a run less. Assumes nothing.
 -- ---- the places on the way: from a search, from the loop over its runs, from the shortest of them, from the run tried, and from its going
 -- the runs given, those that are left when a search begins, those of them that are not empty, and those that are left then
-use Prim.Native.Nat.{ℕ, ◌-◌, ◌<◌}
+use Prim.Native.Nat.{◌-◌}
 use native.Mathlib.Omega.{arith}
 use mathlib.Core.Path.{◌≡◌, refl, sym, ap, subst, ◌∙◌}
-use mathlib.Core.List.{List}
-use mathlib.Core.Option.{some}
-use lib.ListN.{length, replicate}
+use Rattle.std.specs.Prelude.{Some}
+use lib.ListN.{replicate}
 use lib.Seq.{length-take-le}
 use Rattle.cut_stops.specs.Stops.{numbers}
 use Rattle.definitions.specs.Elimination.{non_empty}
-use Rattle.improve_runs.specs.RunLists.{room, Runs, runs, runs_in, Sound, Keeps}
+use Rattle.improve_runs.specs.RunLists.{Runs, runs, runs_in, Sound}
 use Rattle.improve_runs.proofs.Holding.{held}
 use Rattle.improve_runs.proofs.Changing.{all-rise, lengths-are}
-use Rattle.place_choice.specs.Insertion.{GivenF, given_in}
+use Rattle.place_choice.specs.Insertion.{given_in}
 use Rattle.route_elimination.specs.Elimination.{search_f}
-use Rattle.route_elimination.proofs.Searching.{Trying, trying-first, trying-all, Pick, Turn, tried-all, tried-pick, tried-turn, Searching, searching-first, searching-over, searching-less, searching-again}
+use Rattle.route_elimination.proofs.Searching.{trying-first, trying-all, Pick, Turn, tried-all, tried-pick, tried-turn, searching-first, searching-over, searching-less, searching-again}
 use borrow.Author.Rules.{rules}
 use Rattle.route_elimination.proofs.route_elimination.eliminate.Goals as goal
 use Rattle.route_elimination.proofs.route_elimination.eliminate.Goals.{After-drop_empty-left, After-emptied-goes, After-shortest-j, After-take_over, At-search}
@@ -47,8 +46,8 @@ turn c =
 
 goes_on : (c : After-take_over) →
     let X = c in
-    search_f (given_in X.args.given (numbers X.args.codes.now X.args.figures.now) X.args.distances.now X.args.times.now) (non_empty (runs_in (let l = X.search in runs l.calls l.ends X.args.many l.left))) ≡ some (runs_in (let tried = c in let at = tried in runs c.take_over.new.calls c.take_over.new.ends at.args.many (at.loop-n.left - 1)))
-goes_on c = let went = c in (let least = went in let at = least in let l = at.loop-n in let k = at in let X = k in tried-turn (given_in X.args.given (numbers X.args.codes.now X.args.figures.now) X.args.distances.now X.args.times.now) (runs k.search.calls k.drop_empty-left.new.ends k.args.many k.drop_empty-left.result) at.lengths_of-lengths.result l.pending l.n l.invariant.1 least.loop-n-test.true least.shortest-j.result least.shortest-j.ensures (let l = X.search in runs l.calls l.ends X.args.many l.left) (runs l.calls l.ends X.args.many l.left) (let at = k in k.drop_empty-left.ensures at.search.calls at.args.many at.search.invariant.0.sound).is l.invariant.0 went.emptied-goes.result _ went.emptied-goes.ensures).found went.if-goes.true ∙ ap some (sym c.take_over.ensures.is)
+    search_f (given_in X.args.given (numbers X.args.codes.now X.args.figures.now) X.args.distances.now X.args.times.now) (non_empty (runs_in (let l = X.search in runs l.calls l.ends X.args.many l.left))) ≡ Some (runs_in (let tried = c in let at = tried in runs c.take_over.new.calls c.take_over.new.ends at.args.many (at.loop-n.left - 1)))
+goes_on c = let went = c in (let least = went in let at = least in let l = at.loop-n in let k = at in let X = k in tried-turn (given_in X.args.given (numbers X.args.codes.now X.args.figures.now) X.args.distances.now X.args.times.now) (runs k.search.calls k.drop_empty-left.new.ends k.args.many k.drop_empty-left.result) at.lengths_of-lengths.result l.pending l.n l.invariant.1 least.loop-n-test.true least.shortest-j.result least.shortest-j.ensures (let l = X.search in runs l.calls l.ends X.args.many l.left) (runs l.calls l.ends X.args.many l.left) (let at = k in k.drop_empty-left.ensures at.search.calls at.args.many at.search.invariant.0.sound).is l.invariant.0 went.emptied-goes.result _ went.emptied-goes.ensures).found went.if-goes.true ∙ ap Some (sym c.take_over.ensures.is)
 
 pub search-init : goal.search-init
 search-init c =
@@ -139,7 +138,7 @@ returns c =
     let K = (let at = k in k.drop_empty-left.ensures at.search.calls at.args.many at.search.invariant.0.sound) in
     let X = k in
     let T = (given_in X.args.given (numbers X.args.codes.now X.args.figures.now) X.args.distances.now X.args.times.now) in
-    let none = tried-all T (runs k.search.calls k.drop_empty-left.new.ends k.args.many k.drop_empty-left.result) _ l.pending l.n l.invariant.1 (let l = X.search in runs l.calls l.ends X.args.many l.left) K.is c.loop-n-test.false in
+    let none = tried-all T (runs k.search.calls k.drop_empty-left.new.ends k.args.many k.drop_empty-left.result) _ l.pending l.n l.invariant.1 (let l = X.search in runs l.calls l.ends X.args.many l.left) K.is (omega arith) in
     let over = searching-over T (runs_in (runs X.args.calls.now X.args.ends.now X.args.many X.args.count)) (let l = X.search in runs l.calls l.ends X.args.many l.left) X.search.invariant.0 none in
     record { is = ap runs_in l.invariant.0 ∙ K.is ∙ over; sound = subst Sound (sym l.invariant.0) K.sound }
 

@@ -4,25 +4,19 @@
 -- the run list as it is held
 use Prim.Native.Nat.{ℕ}
 use native.Mathlib.Omega.{arith}
-use mathlib.Core.Path.{◌≡◌, sym, ap, subst, ◌∙◌}
-use mathlib.Core.List.{List, map}
+use mathlib.Core.Path.{◌≡◌, ap, ◌∙◌}
+use mathlib.Core.List.{List}
 use lib.ListN.{length}
-use lib.Seq.{length-take-le}
-use lib.Ieee.{Float}
-use Rattle.cut_stops.specs.Stops.{Numbers, numbers, records_in, listed}
+use Rattle.cut_stops.specs.Stops.{numbers, listed}
 use Rattle.improve_base.proofs.ListedRecords.{listed-records}
 use Rattle.definitions.specs.Room.{written}
 use Rattle.definitions.specs.RunList.{runs_of}
-use Rattle.definitions.specs.Sheet.{CustomerOf}
-use Rattle.models.specs.Records.{customer_of}
 use Rattle.evaluation.specs.Records.{Tables, lent}
-use Rattle.evaluation.specs.Tables.{Asks}
-use Rattle.improve_runs.specs.RunLists.{Runs, runs, runs_in, Sound}
+use Rattle.improve_runs.specs.RunLists.{runs, runs_in, Sound}
 use Rattle.improve_runs.proofs.Holding.{lent_runs}
 use Rattle.route_elimination.specs.Elimination.{eliminated_f}
-use Rattle.place_choice.specs.Insertion.{GivenF, given_of, lent_given}
+use Rattle.place_choice.specs.Insertion.{given_of, lent_given}
 use Rattle.route_elimination.proofs.Answering.{Answered, answered}
-use borrow.Author.Rules.{rules}
 use Rattle.route_elimination.proofs.route_elimination.eliminate_routes.Goals as goal
 use Rattle.route_elimination.proofs.route_elimination.eliminate_routes.Goals.{After-eliminate-count, After-held_calls-3-1, After-list_records}
 

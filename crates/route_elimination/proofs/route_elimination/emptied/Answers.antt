@@ -7,23 +7,17 @@ use native.Mathlib.Omega.{arith}
 use mathlib.Core.Path.{◌≡◌, sym, ap, ap₂, subst, ◌∙◌}
 use mathlib.Core.Bool.{Bool, true, false≢true}
 use mathlib.Core.List.{List}
-use mathlib.Core.Option.{Option, none, some}
 use lib.ListN.{length, get_or, take, drop}
 use lib.Ieee as Ieee
 use lib.Ieee.{Float, binary64}
-use Rattle.basics.proofs.TestLaws.{not-true, not-false}
 use Rattle.basics.specs.Options.{given}
 use Rattle.cut_stops.specs.Stops.{numbers}
-use Rattle.definitions.specs.Elimination.{Parted}
 use Rattle.improve_runs.specs.RunLists.{Runs, runs, runs_in, Sound, run_at}
 use Rattle.improve_runs.proofs.Changing.{run-bound, run_lent, end_is}
-use Rattle.route_elimination.specs.declared.placing.Placed.{Placed}
-use Rattle.route_elimination.specs.declared.placing.Placed.TheVariants.{All, NotAll}
-use Rattle.place_choice.specs.Insertion.{GivenF, given_in}
-use Rattle.route_elimination.specs.Placing.{is_all, placed_of}
-use Rattle.route_elimination.specs.Elimination.{part_at, saved_f, finite_f}
+use Rattle.place_choice.specs.Insertion.{given_in}
+use Rattle.route_elimination.specs.Placing.{placed_of}
+use Rattle.route_elimination.specs.Elimination.{part_at, finite_f}
 use Rattle.route_elimination.proofs.Emptying.{saved-is, moved_f, moved-is, not_finite, found, answered-runs, answered-sound}
-use borrow.Author.Rules.{rules}
 use Rattle.route_elimination.proofs.route_elimination.emptied.Goals as goal
 use Rattle.route_elimination.proofs.route_elimination.emptied.Goals.{After-is_finite, After-place_all-placed, After-place_before-from}
 

@@ -4,13 +4,11 @@ use native.Mathlib.Numerals.{add-one}
 use native.Mathlib.Omega.{arith}
 use mathlib.Core.Path.{◌≡◌, sym, ap, ◌∙◌}
 use lib.ListN.{drop}
-use borrow.Author.Rules.{rules}
 use Rattle.whole.specs.Whole.{fl}
 use Rattle.models.specs.Load.{space_of}
 use Rattle.definitions.specs.Reader.{values_of, own, load_of}
 use Rattle.definitions.specs.Words.{Word, words_of}
 use Rattle.sheet_words.proofs.ByIndex.{count-words}
-use Rattle.sheet_read.specs.Parts.{value_of}
 use Rattle.sheet_read.proofs.Owning.{own_first, load-own, window-firsts}
 use Rattle.sheet_read.proofs.Reading.{get_or-value_or}
 use Rattle.sheet_read.proofs.customers.customer_at.Goals as goal
@@ -32,10 +30,10 @@ returns c =
     let seats = ap (λ (x : Word). x.value) w.word_at-w.ensures in
     let demand : space_of l.load_from-demand.result ≡ load_of w.word_at-w.result.value (own ws) =
     (rw add-one at l.load_from-demand.ensures) ∙ sym (load-own w.word_at-w.result.value ws) in
-    let service : value_of s.own_value.result ≡ own_first 8 ws = rw add-one at s.own_value.ensures in
-    let ready : value_of r.own_value-ready.result ≡ own_first 9 ws = rw add-one at r.own_value-ready.ensures in
-    let due : value_of d.own_value-due.result ≡ own_first 0xA ws = rw add-one at d.own_value-due.ensures in
-    let penalty : value_of p.own_value-2.result ≡ own_first 0xB ws = rw add-one at p.own_value-2.ensures in
+    let service : s.own_value.result ≡ own_first 8 ws = rw add-one at s.own_value.ensures in
+    let ready : r.own_value-ready.result ≡ own_first 9 ws = rw add-one at r.own_value-ready.ensures in
+    let due : d.own_value-due.result ≡ own_first 0xA ws = rw add-one at d.own_value-due.ensures in
+    let penalty : p.own_value-2.result ≡ own_first 0xB ws = rw add-one at p.own_value-2.ensures in
     rw (
       demand,
       seats,

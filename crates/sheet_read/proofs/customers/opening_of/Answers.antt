@@ -2,15 +2,15 @@
 use mathlib.Core.Path.{◌≡◌}
 use borrow.Author.Rules.{rules}
 use Rattle.whole.specs.Whole.{fl}
-use Rattle.sheet_read.specs.declared.values.Value.TheVariants.{Given}
+use Rattle.std.specs.Prelude.{Some}
 use Rattle.sheet_read.proofs.customers.opening_of.Goals as goal
 
-pub returns-in-Given-due : goal.returns-in-Given-due
+pub returns-in-Some-due : goal.returns-in-Some-due
 unfolding fl
-returns-in-Given-due c =
+returns-in-Some-due c =
     let to = c in
     let from = to in
     let a = from.args in
-    let r : a.ready ≡ Given from.in-Given.from = search rules in
-    let d : a.due ≡ Given to.in-Given-due.to = search rules in
+    let r : a.ready ≡ Some from.in-Some.from = search rules in
+    let d : a.due ≡ Some to.in-Some-due.to = search rules in
     rw (r, d)

@@ -1,5 +1,4 @@
 -- `customers::own_value` meets its contract. Assumes nothing.
-use Prim.Native.Nat.{◌-◌}
 use mathlib.Core.Path.{◌≡◌}
 use lib.ListN.{drop}
 use Rattle.definitions.specs.Words.{words_of}
@@ -8,6 +7,3 @@ use Rattle.sheet_read.proofs.customers.own_value.Given as goal
 
 abbrev pub invariant-loop-i : goal.invariant-loop-i
 invariant-loop-i l = own_first l.kind (drop l.i (words_of l.bytes)) ≡ own_first l.kind (drop l.from (words_of l.bytes))
-
-abbrev pub decreases-loop-i : goal.decreases-loop-i
-decreases-loop-i l = l.count - l.i

@@ -1,5 +1,4 @@
 -- `head::head_of` meets its contract. Assumes nothing.
-use borrow.Author.Rules.{rules}
 use Rattle.whole.specs.Whole.{fl}
 use Rattle.definitions.specs.Reader.{sheet_of}
 use Rattle.sheet_read.proofs.Reading.{get_or-value_or}

@@ -2,11 +2,11 @@
 use mathlib.Core.Path.{◌≡◌}
 use borrow.Author.Rules.{rules}
 use Rattle.whole.specs.Whole.{fl}
-use Rattle.sheet_read.specs.declared.values.Value.TheVariants.{Given}
+use Rattle.std.specs.Prelude.{Some}
 use Rattle.sheet_read.proofs.head.limit_of.Goals as goal
 
-pub returns-in-Given : goal.returns-in-Given
+pub returns-in-Some : goal.returns-in-Some
 unfolding fl
-returns-in-Given c =
-    let e : c.args.v ≡ Given c.in-Given.n = search rules in
+returns-in-Some c =
+    let e : c.args.v ≡ Some c.in-Some.n = search rules in
     rw e

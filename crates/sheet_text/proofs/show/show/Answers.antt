@@ -7,17 +7,11 @@ use Rattle.sheet_text.proofs.Showing.{set_out, turn}
 use Rattle.sheet_text.proofs.show.show.Goals as goal
 
 pub loop-i-init : goal.loop-i-init
-loop-i-init c =
-    let b4 = c in
-    set_out (words_of b4.args.bytes.now) b4.args.out.now c.start-state.result c.start-state.ensures
+loop-i-init c = set_out (words_of c.args.bytes.now) c.args.out.now c.start-state.result c.start-state.ensures
 
 pub loop-i-preserved : goal.loop-i-preserved
 loop-i-preserved c =
-    let b3 = c in
-    let b5 = b3 in
-    let b7 = b5 in
-    let b12 = b7 in
-    let l = b7.loop-i in
-    let a = b12.args in
-    turn (words_of a.bytes.now) a.out.now l.state c.next-state.result l.i _ (held_word b5.word_at-w.result) l.invariant b12.requires (omega arith) b5.word_at-w.ensures
-    b3.show_word-end.ensures.text b3.show_word-end.ensures.short (c.next-state.ensures l.invariant.calls l.invariant.distances) (add-one l.i)
+    let l = c.loop-i in
+    let put = c.show_word-end.ensures in
+    turn (words_of c.args.bytes.now) c.args.out.now l.state c.next-state.result l.i _ (held_word c.word_at-w.result) l.invariant c.requires (omega arith) c.word_at-w.ensures
+    put.text put.short (c.next-state.ensures l.invariant.calls l.invariant.distances) (add-one l.i)

@@ -1,23 +1,20 @@
--- `lines::visit_lines` meets its contract. Assumes nothing.
+-- `lines::visit_lines` meets its contract. The loop's invariant: from here on the visits that are left lead where all of them lead from the start. Assumes nothing.
 use native.Mathlib.Omega.{arith}
 use mathlib.Core.Path.{sym, ◌∙◌}
+use lib.ListN.{take}
 use Rattle.test_runs.specs.Words.{visit_line}
-use Rattle.test_runs.proofs.Along.{first_more, first_done}
+use Rattle.test_runs.proofs.Along.{each_more, first_done}
 use Rattle.test_runs.proofs.lines.visit_lines.Goals as goal
 
-pub loop-k-preserved : goal.loop-k-preserved
-loop-k-preserved c =
-    let l = c in
-    let s = l in
-    let a = s.args in
-    let few = l.fewer-n.ensures in
-    let long = s.well_formed.1.1.0.1.0.1 in
+pub loop-visit-preserved : goal.loop-visit-preserved
+loop-visit-preserved c =
+    let l = c.loop-visit in
+    let a = c.args in
     rw c.visit_line-end.ensures
-    (sym (first_more a.recorded.now visit_line a.count a.visits l.loop-k.end l.loop-k.k _ (omega (arith, few)) (omega (arith, few, long))) ∙ l.loop-k.invariant)
+    (sym (each_more a.recorded.now visit_line (take c.fewer-n.result a.visits) l.end l.visit-index _ c.loop-visit-test.true) ∙ l.invariant)
 
 pub returns : goal.returns
 returns c =
-    let l = c in
-    let s = l in
-    let a = s.args in
-    sym (first_done a.recorded.now visit_line a.count a.visits l.loop-k.end l.loop-k.k (omega (arith, l.fewer-n.ensures, s.well_formed.1.1.0.1.0.1))) ∙ l.loop-k.invariant
+    let l = c.loop-visit in
+    let a = c.args in
+    first_done a.recorded.now visit_line a.count a.visits a.at l.end l.visit-index c.fewer-n.result (omega arith) c.loop-visit-test.false l.invariant

@@ -1,13 +1,9 @@
--- `lines::visit_lines` meets its contract. Assumes nothing.
-use Prim.Native.Nat.{◌-◌}
+-- `lines::visit_lines` meets its contract. The loop's invariant: from here on the visits that are left lead where all of them lead from the start. Assumes nothing.
 use mathlib.Core.Path.{◌≡◌}
-use lib.ListN.{take, drop}
+use lib.ListN.{drop}
 use Rattle.test_runs.specs.Along.{follows}
 use Rattle.test_runs.specs.Words.{each, visit_line}
 use Rattle.test_runs.proofs.lines.visit_lines.Given as goal
 
-abbrev pub invariant-loop-k : goal.invariant-loop-k
-invariant-loop-k l = follows l.recorded l.end (each visit_line (drop l.k (take l.count l.visits))) ≡ follows l.recorded l.at (each visit_line (take l.count l.visits))
-
-abbrev pub decreases-loop-k : goal.decreases-loop-k
-decreases-loop-k l = l.n - l.k
+abbrev pub invariant-loop-visit : goal.invariant-loop-visit
+invariant-loop-visit l = follows l.recorded l.end (each visit_line (drop l.visit-index l.visit-items)) ≡ follows l.recorded l.at (each visit_line l.visit-items)

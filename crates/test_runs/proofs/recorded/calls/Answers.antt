@@ -9,19 +9,17 @@ use Rattle.test_runs.specs.Words.{numbers}
 use Rattle.test_runs.proofs.Along.{follows_both, each_more, each-done}
 use Rattle.test_runs.proofs.recorded.calls.Goals as goal
 
-pub loop-k-preserved : goal.loop-k-preserved
+pub loop-call-preserved : goal.loop-call-preserved
 unfolding follows
-loop-k-preserved c =
-    let at = c in
-    let l = at.loop-k in
-    let a = at.args in
-    (omega arith, rw c.number-end.ensures (sym (each_more a.recorded.now (λ n. spaced n ∷ []) a.run.now l.end l.k 0 (omega arith)) ∙ l.invariant.1))
+loop-call-preserved c =
+    let l = c.loop-call in
+    let a = c.args in
+    rw c.number-end.ensures (sym (each_more a.recorded.now (λ n. spaced n ∷ []) a.run.now l.end l.call-index 0 (omega arith)) ∙ l.invariant)
 
 pub returns : goal.returns
 unfolding follows
 returns c =
-    let at = c in
-    let l = at.loop-k in
-    let a = at.args in
-    let e = sym (each-done a.recorded.now (λ n. spaced n ∷ []) a.run.now l.end l.k (omega arith)) ∙ l.invariant.1 in
+    let l = c.loop-call in
+    let a = c.args in
+    let e = sym (each-done a.recorded.now (λ n. spaced n ∷ []) a.run.now l.end l.call-index (omega arith)) ∙ l.invariant in
     c.word.ensures ∙ ap (λ (n : ℕ). follow a.recorded.now n end_of_line) e ∙ sym (follows_both a.recorded.now a.at (numbers a.run.now) (end_of_line ∷ []))

@@ -1,7 +1,6 @@
 -- `stop::stop_line` meets its contract. Assumes nothing.
 use native.Mathlib.Omega.{arith}
 use Rattle.models.specs.Records.{opening_of}
-use Rattle.evaluation.specs.Records.{start_of}
 use Rattle.listing_lines.proofs.Putting.{joined}
 use Rattle.times_lines.specs.Told.{pause_in, stop_in}
 use Rattle.times_lines.proofs.Templates.{put_as, stop_is}
@@ -17,7 +16,7 @@ returns c =
     let arrived = reached in
     let begun = arrived in
     let a = begun.args in
-    let told = stop_in (pause_in a.duration (start_of a.start)) (opening_of a.opening) a.visit a.begin in
+    let told = stop_in (pause_in a.duration a.start) (opening_of a.opening) a.visit a.begin in
     let head = rw arrived.whole_part.ensures at reached.filled-end.ensures.text in
     let middle = rw (begun.whole_part-served.ensures, left.whole_part-2.ensures) at service.filled-end-2.ensures.text in
     let end = rw begun.whole_part-served.ensures at ended.window_words.ensures.text in

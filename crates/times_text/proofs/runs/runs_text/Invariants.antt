@@ -1,6 +1,4 @@
 -- `runs::runs_text` meets its contract. The loop's invariant: the lines of the first k runs are put. Assumes nothing.
-use Prim.Native.Nat.{◌-◌}
-use lib.ListN.{length}
 use Rattle.models.specs.Load.{space_of}
 use Rattle.evaluation.specs.Records.{lent, limits_of}
 use Rattle.times_text.proofs.RunTurns.{RunsTo}
@@ -8,8 +6,11 @@ use Rattle.times_text.proofs.runs.runs_text.Given as goal
 
 abbrev pub invariant-loop-k : goal.invariant-loop-k
 invariant-loop-k l =
-    RunsTo (record { tables = lent l.customers l.distances l.times l.head.places; capacity = space_of l.head.capacity; limits = limits_of l.head.limits; calls = l.calls; ends = l.ends; places = l.places })
-    l.initial.out l.out l.end l.from l.k
-
-abbrev pub decreases-loop-k : goal.decreases-loop-k
-decreases-loop-k l = length l.ends - l.k
+    RunsTo (record {
+      tables = lent l.customers l.distances l.times l.head.places;
+      capacity = space_of l.head.capacity;
+      limits = limits_of l.head.limits;
+      calls = l.calls;
+      ends = l.ends;
+      places = l.places;
+    }) l.initial.out l.out l.end l.from l.k

@@ -4,7 +4,7 @@
 use Prim.Native.Nat.{ℕ, ◌-◌}
 use native.Mathlib.Nat.{sub-zero}
 use native.Mathlib.Omega.{arith}
-use mathlib.Core.Path.{refl, sym, ap, ◌∙◌}
+use mathlib.Core.Path.{sym, ap, ◌∙◌}
 use lib.ListN.{length}
 use Rattle.evaluation.specs.Records.{Tables, limits_of}
 use Rattle.cut_stops.specs.Stops.{numbers, listed}
@@ -21,33 +21,26 @@ tables s = let a = s.args in listed (numbers a.codes.now a.figures.now) a.distan
 
 pub loop-i-init : goal.loop-i-init
 unfolding pass_f
-loop-i-init c =
-    let s = c in (
-      refl,
-      omega arith,
-      rw (sub-zero (length s.args.current.now - 1)),
-      rw c.set_out-prefix.ensures (leads-start (tables (goal.at.loop-i-init c).Start) (limits_of s.args.rules.limits)),
-      c.limited_distance-far.ensures,
-    )
+loop-i-init c = (
+  rw (sub-zero (length c.args.current.now - 1)),
+  rw c.set_out-prefix.ensures (leads-start (tables (goal.at.loop-i-init c).Start) (limits_of c.args.rules.limits)),
+  c.limited_distance-far.ensures,
+)
 
 pub loop-i-preserved : goal.loop-i-preserved
 loop-i-preserved c =
-    let tried = c in
-    let at = tried in
-    let s = at in
-    let a = s.args in
+    let a = c.args in
     let t = tables (goal.at.loop-i-preserved c).Start in
-    let l = at.loop-i in
-    let long = tried.try_all-tried.auto.current in
-    let all = tried.try_all-tried.ensures.improved_after ∙ ap (λ (n : ℕ). tried_all_f t (rules_of a.rules) n l.i (state l.current l.tried.improved)) l.invariant.0 in
+    let l = c.loop-i in
+    let long = c.try_all-tried.auto.current in
+    let all = c.try_all-tried.ensures.improved_after ∙ ap (λ (n : ℕ). tried_all_f t (rules_of a.rules) n l.i (state l.current l.tried.improved)) l.auto.current in
     let next = first_more t (rules_of a.rules) (length a.current.now) l.i (state l.current l.tried.improved) (omega arith) _ all in
     let leads =
-    leads-next t (limits_of a.rules.limits) l.i l.current _ (prefix_of l.prefix) _ (omega (arith, long)) tried.try_all-tried.ensures.current_unchanged l.invariant.3
+    leads-next t (limits_of a.rules.limits) l.i l.current _ (prefix_of l.prefix) _ (omega (arith, long)) c.try_all-tried.ensures.current_unchanged l.invariant.1
     c.go_on-prefix.ensures in
-    (long ∙ l.invariant.0, omega arith, sym next ∙ l.invariant.2, leads, tried.try_all-tried.ensures.far_value_2)
+    (sym next ∙ l.invariant.0, leads, c.try_all-tried.ensures.far_value_2)
 
 pub returns : goal.returns
 returns c =
-    let s = c in
     let l = c.loop-i in
-    sym (first_done (tables (goal.at.returns c).Start) (rules_of s.args.rules) (length s.args.current.now) l.i _ (omega arith)) ∙ l.invariant.2
+    sym (first_done (tables (goal.at.returns c).Start) (rules_of c.args.rules) (length c.args.current.now) l.i _ (omega arith)) ∙ l.invariant.0

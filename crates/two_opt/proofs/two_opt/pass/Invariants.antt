@@ -1,7 +1,7 @@
 -- `two_opt::pass` meets its contract. The loop's invariant: the first calls from i on, tried from here, end as the pass does, `prefix` is where the calls
 -- before i lead, and `tried` has the distance of the run, where it is limited. Assumes nothing.
 -- ---- the places on the way: from the opening, from the beginning, from the loop, and from the last calls tried
-use Prim.Native.Nat.{◌-◌, ◌≤◌}
+use Prim.Native.Nat.{◌-◌}
 use mathlib.Core.Path.{◌≡◌}
 use lib.ListN.{length, take}
 use Rattle.basics.specs.Lists.{count}
@@ -16,12 +16,8 @@ use Rattle.two_opt.proofs.two_opt.pass.Given as goal
 
 abbrev pub invariant-loop-i : goal.invariant-loop-i
 invariant-loop-i l =
-    (length l.current ≡ length l.initial.current)
-    × (l.i ≤ length l.initial.current)
-    × (pass_from_f (listed (numbers l.codes l.figures) l.distances l.times l.size) (rules_of l.rules) (length l.initial.current) (count l.i (length l.initial.current - 1 - l.i)) (state l.current l.tried.improved)
+    (pass_from_f (listed (numbers l.codes l.figures) l.distances l.times l.size) (rules_of l.rules) (length l.initial.current) (count l.i (length l.initial.current - 1 - l.i))
+    (state l.current l.tried.improved)
     ≡ pass_f (listed (numbers l.codes l.figures) l.distances l.times l.size) (rules_of l.rules) l.initial.current)
     × Leads (listed (numbers l.codes l.figures) l.distances l.times l.size) (limits_of l.rules.limits) (take l.i l.current) (prefix_of l.prefix)
     × (l.tried.far ≡ far_f (limits_of l.rules.limits) (number_f l.distances l.size) l.current)
-
-abbrev pub decreases-loop-i : goal.decreases-loop-i
-decreases-loop-i l = length l.current - l.i

@@ -1,5 +1,6 @@
 -- `two_opt::passes` meets its contract. The loop's invariant: the passes that are left, from here, end as all of them do. Assumes nothing.
 -- ---- the places on the way: from the opening, from the loop, and from a pass
+use native.Mathlib.Omega.{arith}
 use mathlib.Core.Path.{sym, ap, ◌∙◌}
 use Rattle.evaluation.specs.Records.{Tables}
 use Rattle.cut_stops.specs.Stops.{numbers, listed}
@@ -14,24 +15,17 @@ tables s = let a = s.args in listed (numbers a.codes.now a.figures.now) a.distan
 
 pub returns-then-not-pass : goal.returns-then-not-pass
 returns-then-not-pass c =
-    let passed = c in
-    let s = passed in
-    let l = passed.loop-left in
-    let last = ap (state _) (sym ((c.if-not-pass.true))) ∙ passed.pass.ensures in
-    sym (pass-last (tables (goal.at.returns-then-not-pass c).Start) (rules_of s.args.rules) l.current _ l.left passed.loop-left-test.true last) ∙ l.invariant.1
+    let l = c.loop in
+    let last = ap (state _) (sym c.if-not-pass.true) ∙ c.pass.ensures in
+    sym (pass-last (tables (goal.at.returns-then-not-pass c).Start) (rules_of c.args.rules) l.current _ _ (omega arith) last) ∙ l.invariant
 
-pub loop-left-preserved : goal.loop-left-preserved
-loop-left-preserved c =
-    let passed = c in
-    let s = passed in
-    let l = passed.loop-left in
-    let more = ap (state _) (sym ((c.if-not-pass.false))) ∙ passed.pass.ensures in (
-      passed.pass.auto.current ∙ l.invariant.0,
-      sym (pass-more (tables (goal.at.loop-left-preserved c).Start) (rules_of s.args.rules) l.current _ l.left passed.loop-left-test.true more) ∙ l.invariant.1,
-    )
+pub loop-preserved : goal.loop-preserved
+loop-preserved c =
+    let l = c.loop in
+    let more = ap (state _) (sym c.if-not-pass.false) ∙ c.pass.ensures in
+    sym (pass-more (tables (goal.at.loop-preserved c).Start) (rules_of c.args.rules) l.current _ _ _ (omega arith) more) ∙ l.invariant
 
 pub returns : goal.returns
 returns c =
-    let s = c in
-    let l = c.loop-left in
-    sym (no-pass (tables (goal.at.returns c).Start) (rules_of s.args.rules) l.current l.left c.loop-left-test.false) ∙ l.invariant.1
+    let l = c.loop in
+    sym (no-pass (tables (goal.at.returns c).Start) (rules_of c.args.rules) l.current _ (omega arith)) ∙ l.invariant
