@@ -86,10 +86,9 @@ pub fn charge(window: TimeWindow, penalty: Option<f64>, ready: f64, label: Label
         Some(p) => {
             let late = window.lateness(ready);
             Some(Label {
-                time: label.time,
                 lateness: label.lateness + late,
                 cost: label.cost + p * late,
-                place: label.place,
+                ..label
             })
         }
     }
@@ -105,18 +104,14 @@ pub fn enter(customer: Customer, ready: f64, label: Label) -> Option<Label>
     match opening {
         None => Some(Label {
             time: ready,
-            lateness: label.lateness,
-            cost: label.cost,
-            place: label.place,
+            ..label
         }),
         Some(window) => {
             let l = charge(window, penalty, ready, label)?;
             let waiting = window.waiting_time(ready);
             Some(Label {
                 time: ready + waiting,
-                lateness: l.lateness,
-                cost: l.cost,
-                place: l.place,
+                ..l
             })
         }
     }
@@ -138,9 +133,8 @@ pub fn serve(
     let l = enter(customer, ready, label)?;
     Some(Label {
         time: l.time + customer.service_duration,
-        lateness: l.lateness,
-        cost: l.cost,
         place,
+        ..l
     })
 }
 

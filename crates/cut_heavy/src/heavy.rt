@@ -55,10 +55,7 @@ pub fn is_next(numbers: &[usize], a: usize, q: usize) -> bool
     requires { 0 < q }
     ensures { result ≡ eqb (get_or numbers.now a 0) q }
 {
-    if a < numbers.len() {
-        return numbers[a] == q;
-    }
-    false
+    numbers.get(a) == Some(&q)
 }
 
 // Writes the positions dropped at the front of a list, in rising order: those of the calls that do not fit alone, and

@@ -51,19 +51,13 @@ pub enum Line {
 pub fn is_blank(b: u8) -> bool
     ensures { result ≡ Text.is_blank b }
 {
-    if b == b' ' {
-        return true;
-    }
-    if b == b'\t' {
-        return true;
-    }
-    b == b'\r'
+    matches!(b, b' ' | b'\t' | b'\r')
 }
 
 pub fn is_digit(b: u8) -> bool
     ensures { result ≡ is_digit b }
 {
-    b >= b'0' && b <= b'9'
+    b.is_ascii_digit()
 }
 
 // How many letters a word has behind its first.

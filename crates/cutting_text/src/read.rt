@@ -42,27 +42,20 @@ pub fn blanked(r: TextSoFar, calls: &mut [u8]) -> Option<TextSoFar>
     let m = r.mode;
     match blank(m) {
         Turn::Stuck => None,
-        Turn::On(on) => Some(TextSoFar {
-            mode: on,
-            place: r.place,
-            calls: r.calls,
-            runs: r.runs,
-        }),
+        Turn::On(on) => Some(TextSoFar { mode: on, ..r }),
         Turn::Call(n) => {
             let k = r.calls;
             calls[k] = n;
             Some(TextSoFar {
                 mode: Mode::Between,
-                place: r.place,
                 calls: k + 1,
-                runs: r.runs,
+                ..r
             })
         }
         Turn::Place(n) => Some(TextSoFar {
             mode: Mode::Before(Number::Start),
             place: n,
-            calls: r.calls,
-            runs: r.runs,
+            ..r
         }),
     }
 }
@@ -80,9 +73,7 @@ pub fn line_ended(r: TextSoFar, ends: &mut [usize], places: &mut [u8]) -> Option
         Line::Early => None,
         Line::Passed => Some(TextSoFar {
             mode: Mode::Fresh,
-            place: r.place,
-            calls: r.calls,
-            runs: r.runs,
+            ..r
         }),
         Line::Run => {
             let k = r.runs;
@@ -91,8 +82,8 @@ pub fn line_ended(r: TextSoFar, ends: &mut [usize], places: &mut [u8]) -> Option
             Some(TextSoFar {
                 mode: Mode::Fresh,
                 place: 0,
-                calls: r.calls,
                 runs: k + 1,
+                ..r
             })
         }
     }
@@ -122,12 +113,7 @@ pub fn next(
     }
     let m = r.mode;
     let on = letter(m, b)?;
-    Some(TextSoFar {
-        mode: on,
-        place: r.place,
-        calls: r.calls,
-        runs: r.runs,
-    })
+    Some(TextSoFar { mode: on, ..r })
 }
 
 #[derive(Clone, Copy)]

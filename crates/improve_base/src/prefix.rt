@@ -224,9 +224,5 @@ pub fn feasible_from(
 pub fn has_failed(prefix: Prefix) -> bool
     ensures { result ≡ failed_f (prefix_of prefix) }
 {
-    match prefix {
-        Prefix::Failed => true,
-        Prefix::Plain(_) => false,
-        Prefix::Clock(_) => false,
-    }
+    matches!(prefix, Prefix::Failed)
 }

@@ -43,8 +43,7 @@ pub fn run_lines(
 pub fn call_at(tour: &[usize], position: usize) -> usize
     ensures { result ≡ Drop.call_at tour.now position }
 {
-    let k = if position == 0 { 0 } else { position - 1 };
-    if k < tour.len() { tour[k] } else { 0 }
+    tour.get(position.saturating_sub(1)).copied().unwrap_or(0)
 }
 
 // The dropped calls, in drop order.

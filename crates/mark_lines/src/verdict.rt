@@ -43,7 +43,7 @@ fn next_served(out: &mut [u8], at: usize, served: &[usize], k: usize) -> usize
 fn index_of(position: usize) -> usize
     ensures { result ≡ position - 1 }
 {
-    if position == 0 { 0 } else { position - 1 }
+    position.saturating_sub(1)
 }
 
 // Other calls, from this position on, from 1.

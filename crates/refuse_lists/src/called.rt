@@ -5,10 +5,7 @@ ghost use Rattle.refuse_lists.specs.Called.{none_called, called_twice};
 pub fn is_called(called: &[bool], c: usize) -> bool
     ensures { result ≡ get_or called.now c false }
 {
-    if called.len() <= c {
-        return false;
-    }
-    called[c]
+    called.get(c).copied().unwrap_or(false)
 }
 
 // A number above those of the customers is not noted.

@@ -10,11 +10,7 @@ use distance::matrix::is_closed;
 fn closed_apart(x: f64, y: f64) -> bool
     ensures { result ≡ apart_f x y }
 {
-    if is_closed(x) {
-        !is_closed(y)
-    } else {
-        is_closed(y)
-    }
+    is_closed(x) != is_closed(y)
 }
 
 // Whether a leg is closed.

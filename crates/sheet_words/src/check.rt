@@ -52,11 +52,7 @@ pub fn note_word(called: &mut [bool], w: Word)
 pub fn closed_apart(m: u32, n: u32) -> bool
     ensures { result ≡ closed_apart m n }
 {
-    if is_closed(m) {
-        !is_closed(n)
-    } else {
-        is_closed(n)
-    }
+    is_closed(m) != is_closed(n)
 }
 
 // Whether the word of index i is a time that disagrees on closure with its distance. A table has `full` words, and the

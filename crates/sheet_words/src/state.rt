@@ -26,7 +26,7 @@ pub struct State {
 pub fn one_less(n: u32) -> u32
     ensures { result ≡ pred n }
 {
-    if n == 0 { 0 } else { n - 1 }
+    n.saturating_sub(1)
 }
 
 // Whether a kind is one of those named.

@@ -72,9 +72,7 @@ pub fn attend(customer: Customer, ready: f64, label: Label) -> Served
         return Served {
             label: Label {
                 time: service_start(opening, ready) + service,
-                lateness: label.lateness,
-                cost: label.cost,
-                place: label.place,
+                ..label
             },
             shut: true,
         };
@@ -82,9 +80,7 @@ pub fn attend(customer: Customer, ready: f64, label: Label) -> Served
     Served {
         label: Label {
             time: l.time + service,
-            lateness: l.lateness,
-            cost: l.cost,
-            place: l.place,
+            ..l
         },
         shut: false,
     }

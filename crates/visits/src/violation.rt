@@ -20,10 +20,7 @@ pub struct Violations {
 pub fn exceeds(limit: Option<f64>, x: f64) -> bool
     ensures { result ≡ over_f limit x }
 {
-    match limit {
-        None => false,
-        Some(max) => x > max,
-    }
+    limit.is_some_and(|max| x > max)
 }
 
 // The break is reported only where no window is.
