@@ -27,7 +27,7 @@ pub fn write_every(n: usize, run: usize, ends: &mut [usize]) -> usize
 {
     let mut end = 0;
     let mut k = 0;
-    // A `while`: each end follows from the one before, and how many there are is not known before.
+    // A `while`: each end follows from the one before. A range would need their number, and `step_by` visits all calls.
     while end < n {
         end = next_end(end, run, n);
         ends[k] = end;

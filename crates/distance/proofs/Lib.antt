@@ -2,5 +2,3 @@
 pub mod Ways
 -- On tables of whole numbers a lookup inside the table is that of the definitions.
 pub mod Exact
-
--- What walks by hand cite of the view.

@@ -5,7 +5,6 @@ pub mod Loading
 -- The clock, and the way with no break, as a run grows by a call.
 pub mod Growing
 pub mod Driving
--- The windows among the first customers.
 -- On whole numbers within the limits all that is that of the definitions.
 pub mod ClockExact
 pub mod RouteExact

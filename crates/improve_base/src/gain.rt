@@ -14,9 +14,9 @@ use whole::larger;
 pub fn largest_from(most: f64, distances: &[f64], k: usize) -> f64
     ensures { result ≡ largest_f most (drop k distances.now) }
 {
-    distances
+    // A slice, since `skip` goes through all that it leaves out.
+    distances[k.min(distances.len())..]
         .iter()
-        .skip(k)
         .fold(most, |found, distance| larger(found, *distance))
 }
 

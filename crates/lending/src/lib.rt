@@ -1,4 +1,4 @@
-// Lent lists of customers: read and written record by record, and carried to and from an array of 64.
+// Lent lists of customers: their length, one of their records, and as many as fit copied to and from an array of 64.
 #![tactic(auto)]
 
 ghost use Rattle.std.specs.Prelude.{◌≡◌, ◌<◌, min, length, get_or, take};
